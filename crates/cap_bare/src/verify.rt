@@ -1,5 +1,6 @@
 ghost use Rattle.std.specs.Prelude.{◌≡◌, ◌≤◌, ◌+◌, ◌↔◌, pos, length, All, Contains, IfOk, IfErr, IfSome, IfNone, IsOk, IsTrue, OnOk};
-ghost use Rattle.jc_decode.specs.Decoding.{AreBytes, FitsLayout};
+ghost use Rattle.cap_bytes.specs.Bytes.{AreBytes};
+ghost use Rattle.jc_decode.specs.Decoding.{FitsLayout};
 ghost use Rattle.jc_decode.specs.Layout.{layout_of};
 ghost use Rattle.jc_decode.specs.Listing.{targets};
 ghost use Rattle.cap_bare.specs.Code.{instructions, IsFirstFlaw, IsFlawKind, IsPlace, IsTarget, IsTargetPlace, IsWellFormed, HasInstruction};
@@ -15,7 +16,7 @@ use crate::code::fetch;
 use crate::fault::{BareFault, BareKind};
 use crate::format::instruction_of;
 use crate::instruction::Instruction;
-use cap_bytes::View;
+use cap_bytes::{View, are_bytes};
 use jc_decode::{Placed, target};
 
 /// Verifies a bare method as a verifier on the card does, in one walk for its form and one for its types.
@@ -162,13 +163,6 @@ fn is_target(code: View<'_>, farther: u16, place: u16) -> bool
         at += insn.len as u16;
     }
     false
-}
-
-/// The items of a list of bytes are bytes: a fact for proofs, and no work.
-fn are_bytes(bytes: &[u8])
-    ensures { AreBytes bytes.now }
-{
-    let _ = bytes;
 }
 
 /// Whether an instruction branches to this place.

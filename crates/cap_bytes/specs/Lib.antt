@@ -1,4 +1,5 @@
 pub mod Number
+pub mod Bytes
 pub mod Grammar
 pub mod ClassReference
 pub mod Spelling

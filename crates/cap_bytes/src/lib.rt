@@ -5,6 +5,7 @@
 //! stand, which keeps every other byte. It stands on `byteorder`, and takes no memory.
 #![tactic(auto)]
 
+mod bytes;
 mod class_reference;
 mod cursor;
 mod edited_bytes;
@@ -17,6 +18,7 @@ mod table_reads;
 mod take;
 mod view;
 
+pub use bytes::are_bytes;
 pub use class_reference::ClassReference;
 pub use cursor::Cursor;
 pub use edited_bytes::patches_renew;

@@ -10,7 +10,7 @@ use Rattle.cap_bytes.specs.Number.{number_at}
 use Rattle.cap_bytes.specs.Grammar.{that, u2, is_aid_length, each, repeat, table}
 use Rattle.cap_bytes.specs.Spelling.{Spells, Stands}
 use Rattle.cap_frame.specs.DirectoryFormat.{Custom, DirectoryItems, ImageSizes, custom_info, is_new_tag, and_that_of, none, size_count, directory_info}
-use Rattle.cap_renewal.specs.NewMethods.{AreBytes}
+use Rattle.cap_bytes.specs.Bytes.{AreBytes}
 use Rattle.cap_renewal.proofs.Numbers.{number_value, number_small}
 use Rattle.cap_laying.specs.WrittenDirectory.{AreSmall, AreCustoms, MayStand}
 
@@ -18,7 +18,7 @@ byte_small : (at : ℕ) (bytes : List ℕ) (n : ℕ) → AreBytes bytes → numb
 byte_small at bytes n are h =
     let v : n ≡ big_from 0 1 (drop at bytes) = number_value 1 at bytes n h in
     let a : slice_index (drop at bytes) 0 ≡ slice_index bytes (at + 0) = get_or-drop at bytes 0 0 in
-    let x = are.each (at + 0) in
+    let x = are (at + 0) in
     omega arith
 
 passed_is : (test : ℕ → Bool) (n : ℕ) → that test n ≡ None → IsTrue (test n)

@@ -3,11 +3,11 @@ ghost use Rattle.cap_bytes.specs.Spelling.{Stands};
 ghost use Rattle.cap_laying.specs.NewDirectory.{new_directory, own_size};
 ghost use Rattle.cap_frame.specs.Directory.{directory_items};
 ghost use Rattle.cap_frame.specs.DirectoryFormat.{directory_info, size_count};
-ghost use Rattle.cap_renewal.specs.NewMethods.{AreBytes};
+ghost use Rattle.cap_bytes.specs.Bytes.{AreBytes};
 
 use crate::sizes::ComponentSizes;
 use crate::writing::put_directory;
-use cap_bytes::Format;
+use cap_bytes::{Format, are_bytes};
 use cap_frame::Directory;
 use std::alloc::{AllocError, Global};
 
@@ -38,11 +38,4 @@ fn size_count(format: Format) -> u8
         Format::V21 => 11,
         Format::V22 => 12,
     }
-}
-
-/// The items of a list of bytes are bytes: a fact for proofs, and no work.
-fn are_bytes(bytes: &[u8])
-    ensures { AreBytes bytes.now }
-{
-    let _ = bytes;
 }

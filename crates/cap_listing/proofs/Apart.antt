@@ -19,7 +19,8 @@ use Rattle.jc_decode.specs.declared.layout.Layout.{Layout}
 use Rattle.jc_decode.specs.declared.insn.CodeEnd.{CodeEnd}
 use Rattle.jc_decode.specs.declared.symbols.LaidHandler.{LaidHandler}
 use Rattle.jc_decode.specs.Layout.{layout_of, opcode}
-use Rattle.jc_decode.specs.Decoding.{decoded, AreBytes}
+use Rattle.cap_bytes.specs.Bytes.{AreBytes}
+use Rattle.jc_decode.specs.Decoding.{decoded}
 use Rattle.jc_decode.specs.Cases.{cases}
 use Rattle.jc_decode.proofs.Decoded.{Begins-decoded}
 use Rattle.jc_decode.proofs.Ranges.{op-fits}

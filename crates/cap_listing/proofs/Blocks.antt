@@ -4,7 +4,8 @@ use Rattle.std.proofs.Common.{sym, ap, subst, ◌∙◌, ⊎_elim, arith, append
 use Rattle.std.proofs.lemmas.List.{append-nil, take-append-drop, length-take-le, length-take, length-drop, drop-drop, get_or-take, get_or_past}
 use Rattle.std.proofs.lemmas.Bool.{cases_lt}
 use Rattle.jc_decode.specs.declared.insn.Insn.{Insn}
-use Rattle.jc_decode.specs.Decoding.{decoded, AreBytes}
+use Rattle.cap_bytes.specs.Bytes.{AreBytes}
+use Rattle.jc_decode.specs.Decoding.{decoded}
 use Rattle.jc_decode.specs.Cases.{cases, with_default}
 use Rattle.jc_decode.specs.Encoding.{sized, ReadsBack}
 use Rattle.jc_decode.proofs.Decoded.{IsWithin-decoded}

@@ -13,7 +13,7 @@ use Rattle.jc_decode.specs.declared.insn.Insn.{Insn}
 use Rattle.jc_decode.specs.declared.symbols.LaidHandler.{LaidHandler}
 use Rattle.jc_decode.specs.Names.{name, HasName}
 use Rattle.jc_decode.specs.Cases.{cases}
-use Rattle.jc_decode.specs.Decoding.{AreBytes}
+use Rattle.cap_bytes.specs.Bytes.{AreBytes}
 use Rattle.cap_listing.specs.declared.method.ListedMethod.{ListedMethod}
 use Rattle.cap_listing.specs.declared.method.Heading.{Heading}
 use Rattle.cap_listing.specs.Words.{IsPlain, joined, spaced}

@@ -11,7 +11,8 @@ use Rattle.jc_decode.specs.declared.insn.Placed.{Placed}
 use Rattle.jc_decode.specs.declared.insn.CodeEnd.{CodeEnd}
 use Rattle.jc_decode.specs.declared.insn.CodeEnd.TheVariants.{Cut}
 use Rattle.jc_decode.specs.Names.{name}
-use Rattle.jc_decode.specs.Decoding.{decoded, AreBytes}
+use Rattle.cap_bytes.specs.Bytes.{AreBytes}
+use Rattle.jc_decode.specs.Decoding.{decoded}
 use Rattle.jc_decode.specs.Listing.{listing, listing_from, at_most, ListsFound, end_from, listing_end}
 use Rattle.jc_decode.proofs.PastTheEnd.{decoded-past}
 use Rattle.jc_decode.proofs.Listing.{Lists-listing_from, listing_from-Lists, listing_from-start}

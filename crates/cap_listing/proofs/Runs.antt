@@ -11,7 +11,8 @@ use Rattle.jc_decode.specs.declared.insn.Placed.{Placed}
 use Rattle.jc_decode.specs.declared.insn.CodeEnd.{CodeEnd}
 use Rattle.jc_decode.specs.declared.symbols.LaidHandler.{LaidHandler}
 use Rattle.jc_decode.specs.Names.{name}
-use Rattle.jc_decode.specs.Decoding.{decoded, AreBytes}
+use Rattle.cap_bytes.specs.Bytes.{AreBytes}
+use Rattle.jc_decode.specs.Decoding.{decoded}
 use Rattle.jc_decode.specs.Cases.{cases}
 use Rattle.jc_decode.specs.Listing.{listing, listing_end, ListsFound, end_from}
 use Rattle.jc_decode.proofs.Decoded.{IsWithin-decoded}

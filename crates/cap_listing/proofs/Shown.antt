@@ -15,7 +15,8 @@ use Rattle.jc_decode.specs.declared.insn.CodeEnd.{CodeEnd}
 use Rattle.jc_decode.specs.declared.insn.Insn.{Insn}
 use Rattle.jc_decode.specs.declared.insn.Case.{Case}
 use Rattle.jc_decode.specs.Layout.{total_width}
-use Rattle.jc_decode.specs.Decoding.{decoded, operand_at, range_count, AreBytes, FitsOperand, FitsLayout}
+use Rattle.cap_bytes.specs.Bytes.{AreBytes}
+use Rattle.jc_decode.specs.Decoding.{decoded, operand_at, range_count, FitsOperand, FitsLayout}
 use Rattle.jc_decode.specs.Cases.{cases, cases_in, range_case, pair_case}
 use Rattle.jc_decode.specs.Listing.{jumps, target}
 use Rattle.jc_decode.proofs.Decoded.{Begins-decoded}

@@ -6,7 +6,7 @@ use Rattle.std.proofs.lemmas.List.{append-nil, map-append}
 use Rattle.std.proofs.lemmas.List.Elements.{All-append, All-cons, All-nil}
 use Rattle.std.proofs.lemmas.Bool.{false≢true}
 use Rattle.jc_decode.specs.declared.symbols.LaidHandler.{LaidHandler}
-use Rattle.jc_decode.specs.Decoding.{AreBytes}
+use Rattle.cap_bytes.specs.Bytes.{AreBytes}
 use Rattle.jc_decode.specs.Listing.{listing_end}
 use Rattle.cap_listing.specs.declared.method.ListedMethod.{ListedMethod}
 use Rattle.cap_listing.specs.Text.{IsMethod, IsHandler, head_words, handler_words, end_words, code_lines, begun_lines, lines_of}

@@ -19,7 +19,8 @@ use Rattle.jc_decode.specs.declared.insn.CodeEnd.{CodeEnd}
 use Rattle.jc_decode.specs.declared.insn.Insn.{Insn}
 use Rattle.jc_decode.specs.declared.insn.Case.{Case}
 use Rattle.jc_decode.specs.Layout.{layout_of, opcode, operand_width, total_width}
-use Rattle.jc_decode.specs.Decoding.{operand_at, pair_width, range_count, AreBytes, FitsLayout}
+use Rattle.cap_bytes.specs.Bytes.{AreBytes}
+use Rattle.jc_decode.specs.Decoding.{operand_at, pair_width, range_count, FitsLayout}
 use Rattle.jc_decode.specs.Cases.{cases, cases_in, range_case, pair_case, offset_at}
 use Rattle.jc_decode.specs.Listing.{jumps, target}
 use Rattle.jc_decode.specs.Encoding.{operand_bytes, head_bytes, table_bytes, encoding, encoding_by}

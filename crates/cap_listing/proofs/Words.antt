@@ -14,7 +14,7 @@ use Rattle.std.proofs.lemmas.List.FromFn.{get_or-map-range_with_len}
 use Rattle.std.proofs.lemmas.List.{get_or-replicate}
 use Rattle.hex.specs.Hex.{encode_with, encode_lower, lower_digits}
 use Rattle.jc_decode.specs.Names.{names, name}
-use Rattle.jc_decode.specs.Decoding.{AreBytes}
+use Rattle.cap_bytes.specs.Bytes.{AreBytes}
 use Rattle.std.specs.List.{slice_split, list_all, range_with_len}
 use Rattle.std.proofs.lemmas.List.Splits.{slice_split_at, slice_split_none}
 use Rattle.cap_listing.specs.Words.{IsPlain, ArePlain, HasNone, IsCut, spaced, joined, line, text_of_lines}

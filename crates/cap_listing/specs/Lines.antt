@@ -1,7 +1,8 @@
 -- Lines of a code, by their bytes.
 use Rattle.std.specs.Prelude.{◌≡◌, ◌≢◌, ℕ, List, [], IsErr}
 use Rattle.jc_decode.specs.declared.insn.Insn.{Insn}
-use Rattle.jc_decode.specs.Decoding.{decoded, AreBytes}
+use Rattle.cap_bytes.specs.Bytes.{AreBytes}
+use Rattle.jc_decode.specs.Decoding.{decoded}
 use Rattle.cap_listing.specs.Words.{joined}
 use Rattle.cap_listing.specs.Text.{bytes_words}
 use Rattle.cap_listing.specs.Reading.{IsOne, block_words}

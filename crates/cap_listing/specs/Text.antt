@@ -6,7 +6,7 @@ use Rattle.hex.specs.Hex.{encode_lower}
 use Rattle.jc_decode.specs.declared.insn.Placed.{Placed}
 use Rattle.jc_decode.specs.declared.symbols.LaidHandler.{LaidHandler}
 use Rattle.jc_decode.specs.Names.{name}
-use Rattle.jc_decode.specs.Decoding.{AreBytes}
+use Rattle.cap_bytes.specs.Bytes.{AreBytes}
 use Rattle.jc_decode.specs.Cases.{cases}
 use Rattle.jc_decode.specs.Listing.{listing, listing_end}
 use Rattle.cap_listing.specs.declared.method.ListedMethod.{ListedMethod}

@@ -4,7 +4,7 @@ ghost use Rattle.std.specs.Fmt.{signed_decimal};
 ghost use Rattle.jc_decode.specs.declared.insn.Insn.{Insn};
 ghost use Rattle.jc_decode.specs.declared.symbols.LaidHandler.{LaidHandler};
 ghost use Rattle.jc_decode.specs.Names.{HasName};
-ghost use Rattle.jc_decode.specs.Decoding.{AreBytes};
+ghost use Rattle.cap_bytes.specs.Bytes.{AreBytes};
 ghost use Rattle.cap_listing.specs.declared.method.ListedMethod.{ListedMethod};
 ghost use Rattle.hex.specs.Hex.{encode_lower};
 ghost use Rattle.cap_listing.specs.Words.{IsPlain, joined};

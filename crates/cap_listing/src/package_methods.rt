@@ -10,8 +10,7 @@ ghost use Rattle.cap_listing.specs.Text.{IsMethod};
 ghost use Rattle.cap_listing.specs.Methods.{HasPlaces, IsCounted, IsCountedLaid, laid_handler, laid_of, listed_by, listed_from, listed_unless, listed_in, methods_of};
 
 use crate::method::{Listed, ListedMethod};
-use crate::recognized::are_bytes;
-use cap_bytes::View;
+use cap_bytes::{View, are_bytes};
 use cap_components::code_start;
 use cap_desc::{DescClass, DescPart, MethodInfo};
 use cap_method::{HandlerEntries, HandlerInfo, MethodHeader, MethodPart};

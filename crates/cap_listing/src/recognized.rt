@@ -1,5 +1,6 @@
 ghost use Rattle.std.specs.Prelude.{◌≡◌, ◌≢◌, ◌≤◌, ◌+◌, ◌↔◌, ℕ, List, Ok, length, IfOk, IfSome, IfNone, IsTrue};
-ghost use Rattle.jc_decode.specs.Decoding.{AreBytes, decoded};
+ghost use Rattle.cap_bytes.specs.Bytes.{AreBytes};
+ghost use Rattle.jc_decode.specs.Decoding.{decoded};
 ghost use Rattle.jc_decode.specs.declared.symbols.LaidHandler.{LaidHandler};
 ghost use Rattle.cap_listing.specs.declared.method.ListedMethod.{ListedMethod};
 ghost use Rattle.cap_listing.specs.Words.{joined};
@@ -9,7 +10,7 @@ ghost use Rattle.cap_listing.specs.Lines.{IsInstructionLine, IsBytesLine};
 use crate::candidate::{block_in, bytes_in, handler_in, heading_in};
 use crate::line::{push_bytes, push_handler, push_heading, push_instruction};
 use crate::method::Heading;
-use cap_bytes::View;
+use cap_bytes::{View, are_bytes};
 use jc_decode::{Insn, LaidHandler, decode};
 use std::alloc::{AllocError, Global};
 
@@ -18,13 +19,6 @@ fn is_same(bytes: &[u8], others: &[u8]) -> bool
     ensures { IsTrue result ↔ (others.now ≡ bytes.now) }
 {
     others == bytes
-}
-
-/// Each item is a byte.
-pub(crate) fn are_bytes(bytes: &[u8])
-    ensures { AreBytes bytes.now }
-{
-    let _ = bytes;
 }
 
 /// Whether a line is the first of a method with these numbers.

@@ -6,7 +6,7 @@ ghost use Rattle.cap_load.specs.Joining.{counted_from, in_order, file_in, ending
 
 use crate::blocks_end::BlocksEnd;
 use crate::order::COMPONENTS;
-use cap_bytes::Part;
+use cap_bytes::{Part, are_bytes};
 use cap_components::Parts;
 use std::alloc::{AllocError, Global};
 
@@ -89,11 +89,6 @@ fn cut(alloc: Global, contents: &[u8]) -> Result<Vec<u8>, AllocError>
     put_end(&mut stream, rest)?;
     Ok(stream)
 }
-
-/// What holds of every list of bytes.
-fn are_bytes(contents: &[u8])
-    ensures { (i : ℕ) → slice_index contents.now i < 256 }
-{}
 
 /// The Load file, however long it is.
 fn pack(alloc: Global, parts: &Parts<'_>) -> Result<Vec<u8>, AllocError>

@@ -10,7 +10,8 @@ use Rattle.cap_bytes.specs.Edit.{patched_all, AreInside, FitBytes}
 use Rattle.cap_bytes.specs.Renewal.{Renews}
 use Rattle.cap_bytes.proofs.Same.{spelled_same}
 use Rattle.cap_bytes.proofs.Patches.{edited_split, inside_from}
-use Rattle.cap_renewal.specs.NewMethods.{AreBytes, KeepsSmall}
+use Rattle.cap_bytes.specs.Bytes.{AreBytes}
+use Rattle.cap_renewal.specs.NewMethods.{KeepsSmall}
 use Rattle.cap_renewal.specs.AppletEdits.{renewed_applet, applet_edits, applet_width, applets_edits}
 use Rattle.cap_renewal.proofs.Items.{IsItem, IsFit, all_inside, all_fit, all_renewed, IsRenewing, has_more}
 use Rattle.cap_renewal.proofs.Numbers.{number_small}

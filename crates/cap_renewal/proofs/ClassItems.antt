@@ -14,7 +14,8 @@ use Rattle.cap_bytes.specs.Edit.{Edit, AreInside, FitBytes}
 use Rattle.cap_bytes.specs.Renewal.{Renews, IsEdited, AreSame}
 use Rattle.cap_bytes.proofs.Same.{spelled_same, same_part}
 use Rattle.cap_bytes.proofs.Patches.{edited_split, edited_last, inside_to, inside_from, inside_append, fit_append}
-use Rattle.cap_renewal.specs.NewMethods.{AreBytes, KeepsSmall}
+use Rattle.cap_bytes.specs.Bytes.{AreBytes}
+use Rattle.cap_renewal.specs.NewMethods.{KeepsSmall}
 use Rattle.cap_renewal.specs.ClassEdits.{renewed_class, class_edits, classes_edits}
 use Rattle.cap_renewal.specs.Rooms.{TablesFit, AllRooms}
 use Rattle.cap_renewal.specs.Along.{number_edits, two_bytes, table_edits}

@@ -13,7 +13,8 @@ use Rattle.cap_bytes.specs.Renewal.{Renews, IsEdited, AreSame}
 use Rattle.cap_bytes.proofs.Same.{spelled_same, same_part}
 use Rattle.cap_bytes.proofs.Patches.{edited_split, edited_last, inside_to, inside_from}
 use Rattle.cap_renewal.specs.declared.new_methods.NewMethod.{NewMethod}
-use Rattle.cap_renewal.specs.NewMethods.{AreBytes, AreSmall, IsSmall, new_numbers}
+use Rattle.cap_bytes.specs.Bytes.{AreBytes}
+use Rattle.cap_renewal.specs.NewMethods.{AreSmall, IsSmall, new_numbers}
 use Rattle.cap_renewal.specs.DescriptorEdits.{method_by, renewed_method, edits_to, method_edits, method_width, methods_edits, before_methods, renewed_class}
 use Rattle.cap_renewal.specs.DescriptorEdits.{class_edits, class_width, descriptor_edits, renewed_descriptor}
 use Rattle.cap_renewal.proofs.Items.{IsItem, IsFit, all_inside, all_fit, all_renewed, all_wide, IsRenewing, has_more}

@@ -9,7 +9,8 @@ use Rattle.cap_bytes.specs.Edit.{patched_all, AreInside, FitBytes}
 use Rattle.cap_bytes.specs.Renewal.{Renews}
 use Rattle.cap_bytes.proofs.Same.{spelled_same, same_part}
 use Rattle.cap_bytes.proofs.Patches.{edited_split, inside_from}
-use Rattle.cap_renewal.specs.NewMethods.{AreBytes, KeepsSmall}
+use Rattle.cap_bytes.specs.Bytes.{AreBytes}
+use Rattle.cap_renewal.specs.NewMethods.{KeepsSmall}
 use Rattle.cap_renewal.specs.ExportEdits.{renewed_exported, exported_edits, exported_width, export_edits}
 use Rattle.cap_renewal.specs.Along.{number_edits, two_bytes}
 use Rattle.cap_renewal.proofs.Items.{IsItem, IsFit, all_inside, all_fit, all_renewed, all_wide, IsRenewing, has_more}

@@ -5,7 +5,8 @@ use Rattle.byteorder.specs.Endian.{big_from, big_number}
 use Rattle.cap_bytes.specs.Number.{number_at}
 use Rattle.cap_bytes.specs.Grammar.{u2}
 use Rattle.cap_bytes.specs.Spelling.{Spells}
-use Rattle.cap_renewal.specs.NewMethods.{AreBytes, KeepsSmall}
+use Rattle.cap_bytes.specs.Bytes.{AreBytes}
+use Rattle.cap_renewal.specs.NewMethods.{KeepsSmall}
 use Rattle.cap_renewal.specs.Along.{number_edits, two_bytes}
 use Rattle.cap_renewal.proofs.Items.{IsItem, IsFit}
 
@@ -21,8 +22,8 @@ number_small at bytes n are h =
     let v : n ≡ big_from 0 2 (drop at bytes) = number_value 2 at bytes n h in
     let a : slice_index (drop at bytes) 0 ≡ slice_index bytes (at + 0) = get_or-drop at bytes 0 0 in
     let b : slice_index (drop at bytes) 1 ≡ slice_index bytes (at + 1) = get_or-drop at bytes 1 0 in
-    let x = are.each (at + 0) in
-    let y = are.each (at + 1) in
+    let x = are (at + 0) in
+    let y = are (at + 1) in
     omega arith
 
 pub number_item : (to : ℕ → ℕ) (bytes : List ℕ) → IsItem u2 (number_edits to) two_bytes to bytes

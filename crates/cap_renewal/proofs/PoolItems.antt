@@ -16,7 +16,8 @@ use Rattle.cap_bytes.specs.Edit.{patched_all, AreInside, FitBytes}
 use Rattle.cap_bytes.specs.Renewal.{Renews, IsEdited, AreSame}
 use Rattle.cap_bytes.proofs.Same.{spelled_same, same_part}
 use Rattle.cap_bytes.proofs.Patches.{edited_split, inside_from}
-use Rattle.cap_renewal.specs.NewMethods.{AreBytes, KeepsSmall}
+use Rattle.cap_bytes.specs.Bytes.{AreBytes}
+use Rattle.cap_renewal.specs.NewMethods.{KeepsSmall}
 use Rattle.cap_renewal.specs.PoolEdits.{own_offset, own_method, entry_by, renewed_entry, edits_by, entry_edits, entry_width, pool_edits}
 use Rattle.cap_renewal.proofs.Items.{IsItem, IsFit, all_inside, all_fit, all_renewed, IsRenewing, has_more}
 
@@ -93,8 +94,8 @@ entry_fit to bytes are keeps = record {
       let p = has_entry bytes at e after h in
       let b = first_byte bytes at e after p 1 (omega arith) in
       let c = first_byte bytes at e after p 2 (omega arith) in
-      let x = are.each (at + 1 + 1) in
-      let y = are.each (at + 1 + 2) in
+      let x = are (at + 1 + 1) in
+      let y = are (at + 1 + 2) in
       by_fit to at e (referred e) refl (omega (arith, b, x)) (omega (arith, c, y)) keeps;
 }
 

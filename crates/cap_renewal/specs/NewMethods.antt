@@ -1,5 +1,5 @@
 -- Where the methods of a package stand after they are written anew, by the offset at which each stood.
-use Rattle.std.specs.Prelude.{◌<◌, ℕ, List, Option, Some, None, slice_index, slice_index_or}
+use Rattle.std.specs.Prelude.{◌<◌, ℕ, List, Option, Some, None, slice_index_or}
 use Rattle.cap_desc.specs.DescriptorFormat.{MethodDescriptor}
 use Rattle.cap_renewal.specs.declared.new_methods.NewMethod.{NewMethod}
 
@@ -46,7 +46,3 @@ pub record AreSmall (news : List (Option NewMethod)) : Type 0 where
 -- a number of two bytes stays one
 pub record KeepsSmall (to : ℕ → ℕ) : Type 0 where
   pub each : (offset : ℕ) → offset < 65536 → to offset < 65536
-
--- the items of a list are bytes
-pub record AreBytes (bytes : List ℕ) : Type 0 where
-  pub each : (k : ℕ) → slice_index bytes k < 256

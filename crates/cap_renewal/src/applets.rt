@@ -7,9 +7,8 @@ ghost use Rattle.cap_bytes.specs.Renewal.{Renews};
 ghost use Rattle.cap_renewal.specs.AppletEdits.{applets_edits, renewed_applet};
 ghost use Rattle.cap_renewal.specs.NewMethods.{to};
 
-use crate::bytes::are_bytes;
 use crate::new_methods::{NewMethods, are_small};
-use cap_bytes::{patch, patches_renew};
+use cap_bytes::{are_bytes, patch, patches_renew};
 use cap_frame::Applets;
 
 /// Renews the offsets of the install methods in the info of the Applet component.

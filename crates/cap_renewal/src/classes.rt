@@ -9,10 +9,9 @@ ghost use Rattle.cap_renewal.specs.ClassEdits.{class_edits, classes_edits, renew
 ghost use Rattle.cap_renewal.specs.NewMethods.{to};
 ghost use Rattle.cap_renewal.specs.Rooms.{AllRooms, TablesFit};
 
-use crate::bytes::are_bytes;
 use crate::new_methods::{NewMethods, are_small};
 use crate::tables::renew_table;
-use cap_bytes::patches_renew;
+use cap_bytes::{are_bytes, patches_renew};
 use cap_class::{ClassInfo, ClassPart};
 
 /// Renews the offsets in the dispatch tables in the info of the Class component, in either format. The info

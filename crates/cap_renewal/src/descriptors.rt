@@ -9,9 +9,8 @@ ghost use Rattle.cap_bytes.specs.Edit.{patched_all};
 ghost use Rattle.cap_bytes.specs.Renewal.{Renews};
 ghost use Rattle.cap_renewal.specs.DescriptorEdits.{class_edits, class_width, descriptor_edits, edits_to, methods_edits, renewed_descriptor};
 
-use crate::bytes::are_bytes;
 use crate::new_methods::{NewMethod, NewMethods, are_small};
-use cap_bytes::{patch, patches_renew};
+use cap_bytes::{are_bytes, patch, patches_renew};
 use cap_desc::{DescClass, DescMethods, DescPart};
 use offset_set::Offsets;
 

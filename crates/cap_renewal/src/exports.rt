@@ -7,10 +7,9 @@ ghost use Rattle.cap_bytes.specs.Renewal.{Renews};
 ghost use Rattle.cap_renewal.specs.ExportEdits.{export_edits, renewed_exported};
 ghost use Rattle.cap_renewal.specs.NewMethods.{to};
 
-use crate::bytes::are_bytes;
 use crate::new_methods::{NewMethods, are_small};
 use crate::tables::renew_table;
-use cap_bytes::patches_renew;
+use cap_bytes::{are_bytes, patches_renew};
 use cap_pool::Export;
 
 /// Renews the offsets of the static methods in the info of the Export component, which is then that of

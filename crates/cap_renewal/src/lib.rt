@@ -6,7 +6,6 @@
 #![tactic(auto)]
 
 mod applets;
-mod bytes;
 mod classes;
 mod descriptors;
 mod exports;

@@ -7,9 +7,8 @@ ghost use Rattle.cap_bytes.specs.Renewal.{Renews};
 ghost use Rattle.cap_renewal.specs.NewMethods.{to};
 ghost use Rattle.cap_renewal.specs.PoolEdits.{entry_edits, own_method, pool_edits, renewed_entry};
 
-use crate::bytes::are_bytes;
 use crate::new_methods::{NewMethods, are_small};
-use cap_bytes::{patch, patches_renew};
+use cap_bytes::{are_bytes, patch, patches_renew};
 use cap_pool::{Pool, PoolEntry, PoolReference, StaticReference};
 
 /// Renews the offsets of the package's own static methods in the info of the ConstantPool component,

@@ -1,9 +1,10 @@
 ghost use Rattle.std.specs.Prelude.{◌<◌};
 ghost use Rattle.cap_laying.specs.WrittenDirectory.{MayStand};
 ghost use Rattle.cap_laying.specs.Member.{handlers_of};
-ghost use Rattle.cap_renewal.specs.NewMethods.{AreBytes};
+ghost use Rattle.cap_bytes.specs.Bytes.{AreBytes};
 ghost use Rattle.cap_write.specs.Pools.{HandlersFit, MembersFit, StackFits, StacksFit};
 
+use cap_bytes::are_bytes;
 use cap_laying::{Body, WrittenMember};
 use cap_package::Package;
 use jc_decode::LaidHandler;
@@ -59,13 +60,6 @@ pub(crate) fn members_fit(members: &[WrittenMember<'_>])
         stack_fits(first.body);
         members_fit(rest);
     }
-}
-
-/// The items of a list of bytes are bytes: a fact for proofs, and no work.
-fn are_bytes(bytes: &[u8])
-    ensures { AreBytes bytes.now }
-{
-    let _ = bytes;
 }
 
 /// The Directory of a package has numbers and tags that their items hold: a fact for proofs, and no work.

@@ -16,7 +16,8 @@ use Rattle.jc_decode.specs.declared.insn.Insn.{Insn}
 use Rattle.jc_decode.specs.declared.insn.CodeEnd.{CodeEnd}
 use Rattle.jc_decode.specs.Layout.{layout_of, opcode, operand_width, total_width}
 use Rattle.jc_decode.specs.Listing.{jumps, is_branch}
-use Rattle.jc_decode.specs.Decoding.{decoded, AreBytes, range_count}
+use Rattle.cap_bytes.specs.Bytes.{AreBytes}
+use Rattle.jc_decode.specs.Decoding.{decoded, range_count}
 use Rattle.jc_decode.specs.Cases.{cases, cases_by, cases_in, range_case, pair_case, is_switch, with_default, HasTable}
 use Rattle.jc_decode.specs.Encoding.{Allows, AllowsBy, IsAllowed}
 use Rattle.jc_decode.specs.Forms.{essence}

@@ -17,7 +17,8 @@ use Rattle.jc_decode.specs.declared.insn.Insn.{Insn}
 use Rattle.jc_decode.specs.declared.layout.Layout.{Layout}
 use Rattle.jc_decode.specs.declared.layout.Cases.TheVariants.{Pairs}
 use Rattle.jc_decode.specs.Layout.{layout_of, total_width}
-use Rattle.jc_decode.specs.Decoding.{decoded, key_at, operand_at, pair_width, range_count, AreBytes, FitsOperand}
+use Rattle.cap_bytes.specs.Bytes.{AreBytes}
+use Rattle.jc_decode.specs.Decoding.{decoded, key_at, operand_at, pair_width, range_count, FitsOperand}
 use Rattle.jc_decode.specs.Cases.{range_case, pair_case, HasTable}
 use Rattle.jc_decode.specs.Keys.{has_key, PairsRise, IsPlaceOfKey}
 use Rattle.jc_decode.proofs.Decoded.{Begins-decoded}

@@ -1,7 +1,7 @@
 -- Bytes that are one instruction are that instruction wherever they stand.
 use Rattle.std.proofs.Common.{◌≡◌, ◌∙◌, ℕ, List, take, ap, subst}
 use Rattle.std.proofs.Math.Seq.{take-length}
-use Rattle.jc_decode.specs.Decoding.{AreBytes}
+use Rattle.cap_bytes.specs.Bytes.{AreBytes}
 use Rattle.jc_decode.specs.Cases.{with_default}
 use Rattle.jc_decode.specs.Encoding.{encoding, ReadsBack}
 use Rattle.jc_decode.specs.Laws.{BytesReadBack}

@@ -21,7 +21,8 @@ use Rattle.jc_decode.specs.declared.layout.Layout.{Layout}
 use Rattle.jc_decode.specs.declared.insn.CodeEnd.{CodeEnd}
 use Rattle.jc_decode.specs.declared.insn.Insn.{Insn}
 use Rattle.jc_decode.specs.Layout.{operand_width, total_width}
-use Rattle.jc_decode.specs.Decoding.{allows, value, or_cut, operand_number, operand_at, end_of_cases, decoded, AreBytes, Begins}
+use Rattle.cap_bytes.specs.Bytes.{AreBytes}
+use Rattle.jc_decode.specs.Decoding.{allows, value, or_cut, operand_number, operand_at, end_of_cases, decoded, Begins}
 use Rattle.jc_decode.specs.Encoding.{bits, operand_bytes, table_bytes, encoding, encoding_by}
 use Rattle.jc_decode.proofs.Decoded.{Begins-decoded, from_bind, or_cut-ok, ok-same, table_end-ok}
 use Rattle.jc_decode.proofs.Ranges.{number_of-fits, allowed-value}

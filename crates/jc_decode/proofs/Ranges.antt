@@ -17,7 +17,8 @@ use Rattle.jc_decode.specs.declared.insn.CodeEnd.{CodeEnd}
 use Rattle.jc_decode.specs.declared.insn.CodeEnd.TheVariants.{BadOperand}
 use Rattle.jc_decode.specs.declared.insn.Insn.{Insn}
 use Rattle.jc_decode.specs.Layout.{operand_width, layout_of, opcode}
-use Rattle.jc_decode.specs.Decoding.{Begins, IsWithin, allows, decoded, operand_at, or_cut, operand_number, value, AreBytes, FitsOperand, FitsLayout}
+use Rattle.cap_bytes.specs.Bytes.{AreBytes}
+use Rattle.jc_decode.specs.Decoding.{Begins, IsWithin, allows, decoded, operand_at, or_cut, operand_number, value, FitsOperand, FitsLayout}
 use Rattle.jc_decode.specs.Encoding.{bits, Allows, AllowsBy, IsAllowed}
 use Rattle.jc_decode.specs.Listing.{jumps}
 use Rattle.jc_decode.proofs.Decoded.{Begins-decoded, IsWithin-decoded, from_bind, or_cut-ok}

@@ -1,6 +1,6 @@
 -- The instruction at a place of a method's code (JCVM 2.2, chapter 7): its opcode, then its operands one
 -- after the other, the highest byte first, then the table of a switch.
-use Rattle.std.specs.Prelude.{[], ◌∷◌, slice_index, ◌<◌, ◌≤◌, ℕ, ◌+◌, ◌-◌, ◌*◌, ◌/◌, ◌%◌, ◌<◌}
+use Rattle.std.specs.Prelude.{[], ◌∷◌, ◌<◌, ◌≤◌, ℕ, ◌+◌, ◌-◌, ◌*◌, ◌/◌, ◌%◌}
 use Rattle.std.specs.Prelude.{◌≡◌, ◌^◌, ℤ, pos, ◌-ℤ◌, int_lt, unsigned_abs, negsuc, List, length, Option, Some, None}
 use Rattle.std.specs.Prelude.{Result, Ok, Err, Bool, true, false, not, ◌||◌, ◌&&◌, ◌==◌, nat_le, if◌then◌else◌, FitsSigned}
 use Rattle.std.proofs.Common.{refl}
@@ -162,10 +162,6 @@ decoded xs at = do
   op ← or_cut (number_at 1 at xs)
   l ← layout_of op
   decoded_as op l xs at
-
--- the items of a list are bytes
-abbrev pub AreBytes : List ℕ → Type 0
-AreBytes xs = (k : ℕ) → slice_index xs k < 256
 
 -- an operand's value lies in the range of its form
 abbrev pub FitsOperand : Operand → ℤ → Type 0

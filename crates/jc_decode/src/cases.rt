@@ -6,10 +6,9 @@ ghost use Rattle.jc_decode.specs.Decoding.{decoded, pair_width, range_count};
 ghost use Rattle.jc_decode.specs.Cases.{offset_at, cases, range_case, pair_case, HasTable, is_switch, is_from_115};
 ghost use Rattle.jc_decode.specs.Listing.{falls, is_branch, jumps, target, targets};
 
-use crate::decoding::are_bytes;
 use crate::insn::{Case, Insn, Placed};
 use crate::layout::{Cases, Layout, Operand};
-use cap_bytes::View;
+use cap_bytes::{View, are_bytes};
 
 impl Insn {
     /// Whether this is a jump with one target: a conditional or goto, short or wide.

@@ -1,14 +1,15 @@
 ghost use Rattle.std.specs.Prelude.{◌≤ℤ◌, IsTrue, ◌≡◌, ◌+◌, ◌*◌, ◌^◌, ◌<◌, ◌≤◌, ◌-◌, length, IfOk, IfErr, Ok, Err, pos, if◌then◌else◌};
 ghost use Rattle.cap_bytes.specs.Number.{number_at};
 ghost use Rattle.jc_decode.specs.Layout.{layout_of, one, operand_width};
-ghost use Rattle.jc_decode.specs.Decoding.{is_dup_words, is_swap_words, is_array_type, is_tested_type, or_cut, within_bytes, bad_operand, operand_at, pair_width, key_at, rises, pairs_end, table_end, decoded, decoded_as, decoded_by, is_tested, with_operands_or, Begins, FitsLayout, FitsOperand, IsWithin, AreBytes};
+ghost use Rattle.cap_bytes.specs.Bytes.{AreBytes};
+ghost use Rattle.jc_decode.specs.Decoding.{is_dup_words, is_swap_words, is_array_type, is_tested_type, or_cut, within_bytes, bad_operand, operand_at, pair_width, key_at, rises, pairs_end, table_end, decoded, decoded_as, decoded_by, is_tested, with_operands_or, Begins, FitsLayout, FitsOperand, IsWithin};
 ghost use Rattle.jc_decode.specs.Cases.{cases, is_table_switch, KeysRise};
 ghost use Rattle.jc_decode.specs.Refusal.{RefusesBytes};
 ghost use Rattle.jc_decode.specs.Encoding.{IsAllowed};
 
 use crate::insn::{CodeEnd, Insn, Operands};
 use crate::layout::{Cases, Layout, Operand};
-use cap_bytes::View;
+use cap_bytes::{View, are_bytes};
 
 /// The instruction that begins at a place of a method's code, of at most 65,535 bytes.
 ///
@@ -310,11 +311,4 @@ fn end_of_pairs(key: Operand, code: View, table: u32, count: u32) -> Result<u32,
         }
     }
     Ok(end)
-}
-
-/// The items of a list of bytes are bytes: a fact for proofs, and no work.
-pub(crate) fn are_bytes(bytes: &[u8])
-    ensures { AreBytes bytes.now }
-{
-    let _ = bytes;
 }

@@ -5,10 +5,9 @@ ghost use Rattle.jc_decode.specs.Cases.{HasTable, is_table};
 ghost use Rattle.jc_decode.specs.Forms.{length_of};
 ghost use Rattle.jc_decode.specs.Encoding.{operand_bytes, head_bytes, AllowsBy, table_bytes, encoding, IsAllowed, ReadsBack};
 
-use crate::decoding::are_bytes;
 use crate::insn::Insn;
 use crate::layout::{Cases, Layout, Operand};
-use cap_bytes::View;
+use cap_bytes::{View, are_bytes};
 use std::alloc::AllocError;
 
 /// Appends an instruction's bytes. Of a switch, the table is the one in `code` at `at`, where `decode`

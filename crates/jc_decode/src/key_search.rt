@@ -1,15 +1,15 @@
 //! The case of a switch for a key: of a table of offsets by its number, of a table of pairs by halving.
 ghost use Rattle.std.specs.Prelude.{◌≡◌, ◌+◌, ◌*◌, ◌≤◌, ◌≤ℤ◌, Ok, find, map, length};
 ghost use Rattle.std.specs.List.{range_with_len};
-ghost use Rattle.jc_decode.specs.Decoding.{decoded, pair_width, range_count, AreBytes};
+ghost use Rattle.cap_bytes.specs.Bytes.{AreBytes};
+ghost use Rattle.jc_decode.specs.Decoding.{decoded, pair_width, range_count};
 ghost use Rattle.jc_decode.specs.Cases.{cases, pair_case, range_case};
 ghost use Rattle.jc_decode.specs.Keys.{has_key, IsPlaceOfKey, PairsRise};
 
 use crate::cases::{pair_case, range_case};
-use crate::decoding::are_bytes;
 use crate::insn::{Case, Insn};
 use crate::layout::{Cases, Layout, Operand};
-use cap_bytes::View;
+use cap_bytes::{View, are_bytes};
 
 /// The case with a key of the switch that `decode` gives at a place: no two have the same. None where there is none, or
 /// `insn` is no switch.

@@ -1,6 +1,6 @@
 ghost use Rattle.jc_decode.specs.Laws.{BytesReadBack, InstructionsAreListed, LabelsStandBetween, ListingIsOne, NothingPastTheEnd, ShortIsNoLonger, TargetsAreFew};
 
-use crate::decoding::are_bytes;
+use cap_bytes::are_bytes;
 
 /// The bytes of an instruction are decoded to it wherever they stand, and of a switch its cases too.
 pub fn bytes_read_back(bytes: &[u8])

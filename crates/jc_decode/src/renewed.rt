@@ -5,9 +5,8 @@ ghost use Rattle.jc_decode.specs.Forms.{essence, is_near, is_wide_jump, jump_to,
 ghost use Rattle.jc_decode.specs.Listing.{is_branch};
 ghost use Rattle.jc_decode.specs.Symbols.{jump};
 
-use crate::decoding::are_bytes;
 use crate::insn::Insn;
-use cap_bytes::View;
+use cap_bytes::{View, are_bytes};
 
 impl Insn {
     /// The jump whose wide form has this opcode, over a distance: in that form, or in the short one.

@@ -8,7 +8,7 @@ use Rattle.jc_base.specs.Linked.{IsMethod, list_at}
 use Rattle.jc_base.specs.World.{Linked, IsWorld, code_of}
 use Rattle.jc_base.proofs.Lists.{All-slice_get}
 use Rattle.jc_decode.specs.declared.symbols.Laid.{Laid}
-use Rattle.jc_decode.specs.Decoding.{AreBytes}
+use Rattle.cap_bytes.specs.Bytes.{AreBytes}
 use Rattle.jc_decode.specs.Laws.{InstructionsAreListed}
 use Rattle.jc_control.specs.Control.{IsReached}
 use Rattle.jc_control.specs.ControlFlow.{Marked, IsControlFlow}

@@ -1,7 +1,7 @@
 -- That code is made of bytes, which the lists of a world don't say.
 use Rattle.std.specs.Prelude.{All}
 use Rattle.jc_base.specs.World.{Linked, code_of}
-use Rattle.jc_decode.specs.Decoding.{AreBytes}
+use Rattle.cap_bytes.specs.Bytes.{AreBytes}
 
 -- the code of each method of a world
 abbrev pub CodesAreBytes : Linked → Type 0

@@ -1,7 +1,8 @@
-ghost use Rattle.jc_decode.specs.Decoding.{AreBytes};
+ghost use Rattle.cap_bytes.specs.Bytes.{AreBytes};
 ghost use Rattle.law_transform.specs.Bytes.{CodesAreBytes};
 ghost use Rattle.law_transform.specs.AcceptedWorld.{LaidIsAccepted};
 
+use cap_bytes::are_bytes;
 use jc_base::World;
 use jc_control::instructions_are_placed;
 use jc_decode::instructions_are_listed;
@@ -9,13 +10,6 @@ use law_laid::{laid_is_typed, typings_are_kept};
 use law_relink::{laid_methods_stand, links_again};
 use law_rewritten_typing::rewritten_is_typed;
 use xf_emission::live_are_kept;
-
-/// The items of a list of bytes are bytes: a fact for proofs, and no work.
-fn are_bytes(bytes: &[u8])
-    ensures { AreBytes bytes.now }
-{
-    let _ = bytes;
-}
 
 /// The code of each method is made of bytes: a fact for proofs, which only the slices of bytes themselves tell.
 pub fn codes_are_bytes(world: &World<'_>)

@@ -5,7 +5,7 @@ ghost use Rattle.jc_rules.specs.Typing.{state_at};
 ghost use Rattle.xf_homes.specs.Answer.{IsTypingOf};
 ghost use Rattle.xf_homes.specs.Order.{AreHomes, register_sum};
 ghost use Rattle.xf_homes.specs.PlannedMethod.{source};
-ghost use Rattle.jc_decode.specs.Decoding.{AreBytes};
+ghost use Rattle.cap_bytes.specs.Bytes.{AreBytes};
 ghost use Rattle.jc_decode.specs.Symbols.{IsItem, IsRange, plain_size};
 ghost use Rattle.xf_emission.specs.Emission.{IsPlainSize, AreSymbolsOf, items, ranges, rewritten};
 ghost use Rattle.xf_code.specs.Known.{IsSubject};
@@ -20,7 +20,7 @@ use crate::group::groups;
 use crate::handlers::{handler_stubs, ranges};
 use crate::moves::put;
 use crate::next_reached::next_reached;
-use cap_bytes::View;
+use cap_bytes::{View, are_bytes};
 use indexmap::IndexSet;
 use jc_base::World;
 use jc_control::{ControlEnd, control_flow, flaws_decide, instructions_are_placed};
@@ -91,13 +91,6 @@ fn rewritten(alloc: Global, plan: &Plan<'_>) -> Result<Symbols, AllocError>
         nargs: rec.nargs,
         max_locals: plan.homes.count().saturating_sub(rec.nargs),
     })
-}
-
-/// The items of a list of bytes are bytes: a fact for proofs, and no work.
-fn are_bytes(bytes: &[u8])
-    ensures { AreBytes bytes.now }
-{
-    let _ = bytes;
 }
 
 /// A byte is a small number: a fact for proofs, and no work.

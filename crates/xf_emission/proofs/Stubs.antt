@@ -6,7 +6,8 @@ use Rattle.jc_base.specs.declared.record.Handler.{Handler}
 use Rattle.jc_decode.specs.declared.insn.Placed.{Placed}
 use Rattle.jc_decode.specs.declared.symbols.Item.{Item}
 use Rattle.jc_decode.specs.declared.symbols.Item.TheVariants.{Label}
-use Rattle.jc_decode.specs.Decoding.{decoded, AreBytes, IsWithin}
+use Rattle.cap_bytes.specs.Bytes.{AreBytes}
+use Rattle.jc_decode.specs.Decoding.{decoded, IsWithin}
 use Rattle.jc_decode.specs.Listing.{listing, targets, Lists}
 use Rattle.jc_decode.proofs.Decoded.{IsWithin-decoded}
 use Rattle.jc_ops.specs.declared.fault.RuleFault.{RuleFault}

@@ -15,7 +15,8 @@ use Rattle.jc_decode.specs.declared.insn.CodeEnd.{CodeEnd}
 use Rattle.jc_decode.specs.declared.insn.Insn.{Insn}
 use Rattle.jc_decode.specs.declared.insn.Placed.{Placed}
 use Rattle.jc_decode.specs.Layout.{operand_width, total_width, layout_of, opcode}
-use Rattle.jc_decode.specs.Decoding.{range_count, decoded, end_of_cases, AreBytes}
+use Rattle.cap_bytes.specs.Bytes.{AreBytes}
+use Rattle.jc_decode.specs.Decoding.{range_count, decoded, end_of_cases}
 use Rattle.jc_decode.specs.Cases.{cases, cases_in, range_case, pair_case}
 use Rattle.jc_decode.specs.Listing.{jumps, target, targets}
 use Rattle.jc_decode.proofs.Decoded.{Begins-decoded, range_end-ok, pairs_end-ok}

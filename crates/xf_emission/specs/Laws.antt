@@ -7,7 +7,7 @@ use Rattle.jc_base.specs.Each.{IsAmong}
 use Rattle.jc_base.specs.World.{Linked}
 use Rattle.jc_decode.specs.declared.insn.Placed.{Placed}
 use Rattle.jc_decode.specs.declared.symbols.Item.{Item}
-use Rattle.jc_decode.specs.Decoding.{AreBytes}
+use Rattle.cap_bytes.specs.Bytes.{AreBytes}
 use Rattle.jc_decode.specs.Listing.{listing, targets, Lists}
 use Rattle.jc_decode.specs.Symbols.{IsItem, IsOnce, IsRange, is_instruction, place_of, plain_size}
 use Rattle.jc_ops.specs.declared.operation.Operation.{Operation}

@@ -19,7 +19,8 @@ use Rattle.jc_decode.specs.declared.layout.Operand.{Operand}
 use Rattle.jc_decode.specs.declared.layout.Operand.TheVariants.{U2, S2, S4}
 use Rattle.jc_decode.specs.declared.symbols.Item.TheVariants.{Plain, Branch, Switch, Label}
 use Rattle.jc_decode.specs.Cases.{cases, is_switch, with_default}
-use Rattle.jc_decode.specs.Decoding.{AreBytes, decoded}
+use Rattle.cap_bytes.specs.Bytes.{AreBytes}
+use Rattle.jc_decode.specs.Decoding.{decoded}
 use Rattle.jc_decode.specs.Forms.{bytes_by, is_load_n, is_register_move, is_store_n, length_of, plain_length, wide, with_operand}
 use Rattle.jc_decode.specs.Layout.{layout_of, operand_width}
 use Rattle.jc_decode.specs.Listing.{is_branch, jumps, listing, listing_end, Lists, target, targets}

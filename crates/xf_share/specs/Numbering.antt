@@ -5,7 +5,7 @@ use Rattle.jc_base.specs.World.{Linked}
 use Rattle.jc_control.specs.Method.{Method, IsMethodOf}
 use Rattle.jc_control.specs.WellFormed.{IsWellFormed}
 use Rattle.jc_decode.specs.declared.symbols.Symbols.{Symbols}
-use Rattle.jc_decode.specs.Decoding.{AreBytes}
+use Rattle.cap_bytes.specs.Bytes.{AreBytes}
 use Rattle.jc_decode.specs.Laws.{AreListed}
 use Rattle.jc_decode.specs.Listing.{listing}
 use Rattle.jc_decode.specs.Places.{AllLeadInto}

@@ -1,7 +1,7 @@
 ghost use Rattle.std.specs.Prelude.{◌≡◌, ℕ, ◌+◌, ◌<◌, List, length, IfErr, IfOk, IsSomeAnd, slice_get, vec_len};
 ghost use Rattle.cap_package.specs.PackageRecord.{PackageRecord};
 ghost use Rattle.jc_control.specs.Method.{method_in};
-ghost use Rattle.jc_decode.specs.Decoding.{AreBytes};
+ghost use Rattle.cap_bytes.specs.Bytes.{AreBytes};
 ghost use Rattle.law_shared_world.specs.SharedCode.{IsSharedFor};
 ghost use Rattle.xf_allot.specs.Sharing.{AnswersSharing};
 ghost use Rattle.xf_share.specs.Ends.{HaveCardTypings, TellsOf};
@@ -12,7 +12,7 @@ ghost use Rattle.xf_share.specs.Unlaid.{TellsUnlaid};
 use crate::end::ShareEnd;
 use crate::renumbering::symbols_of;
 use crate::unlaid::unlaid;
-use cap_bytes::View;
+use cap_bytes::{View, are_bytes};
 use card_verify::verify_method;
 use jc_base::{Ty, World};
 use jc_decode::{Laid, Symbols, instructions_are_listed};
@@ -154,11 +154,4 @@ fn are_small(sharing: &Option<Sharing>)
     if let Some(sharing) = sharing {
         are_bytes(sharing.numbers.as_slice());
     }
-}
-
-/// The items of a list of bytes are bytes: a fact for proofs, and no work.
-fn are_bytes(bytes: &[u8])
-    ensures { AreBytes bytes.now }
-{
-    let _ = bytes;
 }

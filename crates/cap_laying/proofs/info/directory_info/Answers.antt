@@ -3,7 +3,7 @@ use Rattle.cap_bytes.specs.declared.view.View.{View}
 use Rattle.cap_bytes.specs.Spelling.{Stands}
 use Rattle.cap_frame.specs.Directory.{directory_items}
 use Rattle.cap_frame.specs.DirectoryFormat.{directory_info}
-use Rattle.cap_renewal.specs.NewMethods.{AreBytes}
+use Rattle.cap_bytes.specs.Bytes.{AreBytes}
 use Rattle.cap_laying.specs.DirectoryBytes.{directory_bytes}
 use Rattle.cap_laying.specs.NewDirectory.{new_directory}
 use Rattle.cap_laying.proofs.DirectoryLaws.{directories_stand}

@@ -1,6 +1,6 @@
 use Rattle.std.proofs.Common.{◌∙◌, List, ℕ, length, sym, ap, subst, arith}
 use Rattle.std.specs.Prelude.{All}
-use Rattle.jc_decode.specs.Decoding.{AreBytes}
+use Rattle.cap_bytes.specs.Bytes.{AreBytes}
 use Rattle.cap_listing.specs.Methods.{HasPlaces}
 use Rattle.cap_listing.proofs.package_methods.laid.Goals as goal
 

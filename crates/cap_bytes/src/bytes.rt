@@ -1,7 +1,7 @@
-ghost use Rattle.cap_renewal.specs.NewMethods.{AreBytes};
+ghost use Rattle.cap_bytes.specs.Bytes.{AreBytes};
 
 /// The items of a list of bytes are bytes: a fact for proofs, and no work.
-pub(crate) fn are_bytes(bytes: &[u8])
+pub fn are_bytes(bytes: &[u8])
     ensures { AreBytes bytes.now }
 {
     let _ = bytes;
