@@ -1,5 +1,5 @@
 -- What a folder has stays where something is stored in another one.
-use Rattle.std.proofs.Common.{◌≡◌, ℕ, List, [], ◌∷◌, Option, Some, None, IfSome, IsNone, ◌∙◌}
+use Rattle.std.proofs.Common.{◌≡◌, ℕ, List, [], ◌∷◌, Option, Some, None, IfSome, IsNone, IsSome, sym, ◌∙◌}
 use Rattle.std.specs.FinMap as map
 use Rattle.std.specs.Prelude.{IsSomeAnd}
 use Rattle.std.specs.List.{AllZip}
@@ -13,22 +13,36 @@ use Rattle.law_stored.specs.StoredIsRead.{IsApart}
 same_dir : (tag n : ℕ) (xs ys : List ℕ) → tag ∷ xs ≡ n ∷ ys → xs ≡ ys
 same_dir tag n xs ys e = cc
 
-module _ (out : List ℕ) (stores : List Lent) (before after : Folders) (stand : StandIn out stores before after) where
-  -- a key of another folder is as it was
-  abbrev Same : List ℕ → Option Parts → Option Parts → Type 0
-  Same key now old = IfSome now (λ n. IsSomeAnd old (λ o. map.get n key ≡ map.get o key))
+-- a key has the same in both, where the folders afterwards tell what they hold
+abbrev SameAt : List ℕ → Option Parts → Option Parts → Type 0
+SameAt key now old = IfSome now (λ n. IsSomeAnd old (λ o. map.get n key ≡ map.get o key))
 
-  same : (dir : List ℕ) → ¬ (dir ≡ out) → (tag : ℕ) → Same (tag ∷ dir) after.held before.held
-  same dir apart tag = by after.held before.held stand.others
-    where
-      by : (now old : Option Parts)
-          → IfSome now (λ n. IsSomeAnd old (λ o. (key : List ℕ) → ((t : ℕ) → key ≡ t ∷ out → IsNone (held stores t)) → map.get n key ≡ map.get o key))
-          → Same (tag ∷ dir) now old
-      by None old h = tt {0}
-      by (Some n) None h = absurd h
-      by (Some n) (Some o) h = h (tag ∷ dir) (λ t e. absurd (apart (same_dir tag t dir out e)))
+-- so has each key of a folder other than this one
+abbrev pub SameElsewhere : List ℕ → Folders → Folders → Type 0
+SameElsewhere out before after = (dir : List ℕ) → ¬ (dir ≡ out) → (tag : ℕ) → SameAt (tag ∷ dir) after.held before.held
 
-  found_kept : (key : List ℕ) (found : Option (List ℕ)) (now old : Option Parts) → Same key now old → IfSome old (λ parts. map.get parts key ≡ found)
+-- what is stored in one folder leaves the others
+pub stored_here : (out : List ℕ) (stores : List Lent) (before after : Folders) → StandIn out stores before after → SameElsewhere out before after
+stored_here out stores before after stand dir apart tag = by after.held before.held stand.others
+  where
+    by : (now old : Option Parts)
+        → IfSome now (λ n. IsSomeAnd old (λ o. (key : List ℕ) → ((t : ℕ) → key ≡ t ∷ out → IsNone (held stores t)) → map.get n key ≡ map.get o key))
+        → SameAt (tag ∷ dir) now old
+    by None old h = tt {0}
+    by (Some n) None h = absurd h
+    by (Some n) (Some o) h = h (tag ∷ dir) (λ t e. absurd (apart (same_dir tag t dir out e)))
+
+-- where the folders afterwards tell, they were the same before
+pub turned : (out : List ℕ) (before after : Folders) → IsSome after.held → SameElsewhere out before after → SameElsewhere out after before
+turned out before after told same dir apart tag = by after.held before.held told (same dir apart tag)
+  where
+    by : (now old : Option Parts) → IsSome now → SameAt (tag ∷ dir) now old → SameAt (tag ∷ dir) old now
+    by None old some s = absurd cc
+    by (Some n) None some s = absurd s
+    by (Some n) (Some o) some s = sym s
+
+module _ (out : List ℕ) (before after : Folders) (same : SameElsewhere out before after) where
+  found_kept : (key : List ℕ) (found : Option (List ℕ)) (now old : Option Parts) → SameAt key now old → IfSome old (λ parts. map.get parts key ≡ found)
       → IfSome now (λ parts. map.get parts key ≡ found)
   found_kept key found None old s h = tt {0}
   found_kept key found (Some n) None s h = absurd s

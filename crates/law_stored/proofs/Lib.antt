@@ -3,3 +3,9 @@ pub mod UnaskedParts
 pub mod Kept
 pub mod Ends
 pub mod StoredIsRead
+pub mod NamesAlike
+pub mod LinksAlike
+pub mod MovedParts
+pub mod ChosenParts
+pub mod LastPlaces
+pub mod PackedIsInstalled

@@ -29,7 +29,7 @@ use Rattle.capcheck_core.proofs.Promised.{over, are_kept}
 use Rattle.law_stored.specs.StoredIsRead.{StoredIsRead, IsReadAgain, IsApart, with_last}
 use Rattle.law_stored.proofs.AskedParts.{IsShort, asked_short}
 use Rattle.law_stored.proofs.UnaskedParts.{rises, unasked_none}
-use Rattle.law_stored.proofs.Kept.{roles_kept, all_kept}
+use Rattle.law_stored.proofs.Kept.{SameElsewhere, stored_here, roles_kept, all_kept}
 use Rattle.law_stored.proofs.Ends.{HasLast, last_beside, with_last_beside, one_last, none_beside}
 
 -- ---- the parts that are stored are those that the folder is asked for
@@ -80,6 +80,9 @@ module _ (t : OutOfDirsRequest) (before after : Outside) (libraries : List (List
   kept : AreKept t.out parts (roles_beside h.packages h.roles) before.folders after.folders
   kept = are_kept t.out parts (roles_beside h.packages h.roles) b.stores b.brings.order before.folders after.folders b.stored
 
+  elsewhere : SameElsewhere t.out before.folders after.folders
+  elsewhere = stored_here t.out kept.stores before.folders after.folders kept.stand
+
   -- the parts of the libraries, and those of the last package
   loaded : HasLast (AreParts before.folders) libraries last h.parts
   loaded =
@@ -121,7 +124,7 @@ module _ (t : OutOfDirsRequest) (before after : Outside) (libraries : List (List
       let given : AreRolesIn before.folders d h.roles =
       subst (λ xs. AreRoleBytes before.folders (places Components xs) h.roles) (are ∙ ap (λ xs. with_last xs last) (sym e)) h.given.roles_are in
       let far = subst (λ xs. IsApart xs t.out) (sym e) apart in
-      roles_kept t.out kept.stores before.folders after.folders kept.stand d far.0 h.roles given
+      roles_kept t.out before.folders after.folders elsewhere d far.0 h.roles given
 
   again : HoldWorld Components after.folders (with_last libraries t.out) made.keeps.world
   again = record {
@@ -130,7 +133,7 @@ module _ (t : OutOfDirsRequest) (before after : Outside) (libraries : List (List
     given = record {
       parts_are = places_zip after.folders (with_last libraries t.out) (loaded.front ++ parts ∷ [])
           (with_last_beside (AreParts after.folders) libraries loaded.front t.out parts
-          (all_kept t.out kept.stores before.folders after.folders kept.stand libraries loaded.front apart loaded.beside) stored);
+          (all_kept t.out before.folders after.folders elsewhere libraries loaded.front apart loaded.beside) stored);
       roles_are = roles_are libraries refl;
     };
     packages = made.keeps.libraries ++ made.keeps.made ∷ [];

@@ -1,1 +1,2 @@
 pub mod StoredIsRead
+pub mod PackedIsInstalled

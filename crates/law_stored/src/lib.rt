@@ -1,7 +1,10 @@
 //! What a command stores and a later one reads (Leroy 2002, section 4): the folders of the libraries and the one in which `transform`
-//! stored a package make the new world. It stands on what the commands answer, of `capcheck_core`, and on the writer, of `cap_write`.
+//! stored a package make the new world, and the Load file that `pack` stored is installed as its source is verified. It stands on what the
+//! commands answer, of `capcheck_core`, on the writer, of `cap_write`, and on the Load file, of `cap_load`.
 #![tactic(auto)]
 
+mod packed;
 mod stored;
 
+pub use packed::packed_is_installed;
 pub use stored::stored_is_read;
