@@ -1,5 +1,4 @@
-ghost use Rattle.std.specs.Prelude.{◌≡◌, Some};
-ghost use Rattle.cap_components.specs.Order.{pack_place, lesser, refused};
+ghost use Rattle.cap_components.specs.Order.{pack_place};
 
 use crate::fault::PackFault;
 use first_fault::{Fault, Place};
@@ -28,32 +27,4 @@ impl Fault for PackFault {
             PackFault::PartTooLong(part) => Place::one(part as u32),
         }
     }
-}
-
-/// The fault that is named of the least so far and another.
-#[cold]
-#[inline(never)]
-fn lesser_of(least: Option<PackFault>, fault: PackFault) -> Option<PackFault>
-    ensures { result ≡ lesser least (Some fault) }
-{
-    first_fault::lesser(least, Some(fault))
-}
-
-/// The fault that is named, when one more thing was seen that may be at fault.
-#[tactic(auto, unfolding(first_fault::specs::Least::lesser))]
-pub fn lesser(least: Option<PackFault>, fault: Option<PackFault>) -> Option<PackFault>
-    ensures { result ≡ lesser least fault }
-{
-    // Where nothing is at fault, as mostly, this is short and takes no call.
-    match fault {
-        Some(fault) => lesser_of(least, fault),
-        None => least,
-    }
-}
-
-/// A condition holds unless a fault of it is named.
-pub fn refuse(least: Option<PackFault>) -> Result<(), PackFault>
-    ensures { result ≡ refused least }
-{
-    first_fault::refuse(least)
 }

@@ -20,7 +20,7 @@ pub use components::Components;
 pub use count_kind::CountKind;
 pub use description::{argument_words, field_type, words_of};
 pub use fault::PackFault;
-pub use least::{lesser, refuse};
+pub use first_fault::{lesser, refuse};
 pub use method_places::{code_end, code_start};
 pub use opening::Opening;
 pub use part_checks::{customs_formed, sizes_agree};

@@ -7,12 +7,12 @@ ghost use Rattle.cap_components.specs.Order.{least_of, least_from, refused};
 ghost use Rattle.cap_components.specs.PartChecks.{required, components, optional, custom_tags, absent_fault, sized_fault, missing, form_fault, size_fault};
 
 use crate::fault::PackFault;
-use crate::least::{lesser, refuse};
 use crate::opening::Opening;
 use crate::parts::Parts;
 use crate::read::info_in;
 use cap_bytes::Part;
 use cap_frame::Directory;
+use first_fault::{least_from, lesser, refuse};
 
 #[tactic(auto, unfolding(crate::specs::PartChecks::absent_fault))]
 fn absent_fault(parts: &Parts<'_>, tag: u8) -> Option<PackFault>
@@ -37,17 +37,15 @@ fn sized_fault(parts: &Parts<'_>, directory: &Directory<'_>, tag: u8) -> Option<
 }
 
 /// The least of some parts that is absent.
+#[tactic(auto, using(first_fault::proofs::LeastFound::least_slice))]
 fn absent_among(parts: &Parts<'_>, tags: &[u8]) -> Option<PackFault>
     ensures { result ≡ least_of (absent_fault parts.now) tags.now }
 {
-    let mut least = None;
-    'tags: for tag in tags {
-        least = lesser(least, absent_fault(parts, *tag));
-    }
-    least
+    least_from(None, tags.iter(), |tag| absent_fault(parts, *tag))
 }
 
 /// The least fault so far, when the parts were compared with the Directory's sizes.
+#[tactic(auto, using(first_fault::proofs::LeastFound::least_by_number))]
 fn absent_sized(
     parts: &Parts<'_>,
     directory: &Directory<'_>,
@@ -57,11 +55,10 @@ fn absent_sized(
         (sized_fault parts.now (directory_items directory.now)) (custom_tags (directory_items directory.now)) }
 {
     let applet = lesser(least, sized_fault(parts, directory, 3));
-    let mut least = lesser(applet, sized_fault(parts, directory, 10));
-    'customs: for custom in directory.customs() {
-        least = lesser(least, sized_fault(parts, directory, custom.tag));
-    }
-    least
+    let least = lesser(applet, sized_fault(parts, directory, 10));
+    least_from(least, directory.customs(), |custom| {
+        sized_fault(parts, directory, custom.tag)
+    })
 }
 
 /// Every part that must be there is.
@@ -94,13 +91,13 @@ fn form_fault(parts: &Parts<'_>, tag: u8) -> Option<PackFault>
 }
 
 /// Every custom component that is there has its format.
+#[tactic(auto, using(first_fault::proofs::LeastFound::least_by_number))]
 pub fn customs_formed(parts: &Parts<'_>, directory: &Directory<'_>) -> Result<(), PackFault>
     ensures { result ≡ refused (least_of (form_fault parts.now) (custom_tags (directory_items directory.now))) }
 {
-    let mut least = None;
-    'customs: for custom in directory.customs() {
-        least = lesser(least, form_fault(parts, custom.tag));
-    }
+    let least = least_from(None, directory.customs(), |custom| {
+        form_fault(parts, custom.tag)
+    });
     refuse(least)
 }
 
@@ -121,24 +118,22 @@ fn size_fault(parts: &Parts<'_>, directory: &Directory<'_>, tag: u8) -> Option<P
 }
 
 /// The Directory's size of every part is the part's own.
+#[tactic(auto, using(first_fault::proofs::LeastFound::least_by_number))]
 pub fn sizes_agree(parts: &Parts<'_>, directory: &Directory<'_>) -> Result<(), PackFault>
     ensures { result ≡ refused (least_from (least_of (size_fault parts.now (directory_items directory.now)) components)
         (size_fault parts.now (directory_items directory.now)) (custom_tags (directory_items directory.now))) }
 {
-    let mut least = size_faults(parts, directory, &[1, 2, 3, 4, 5, 6, 7, 8, 9, 10, 11]);
-    'customs: for custom in directory.customs() {
-        least = lesser(least, size_fault(parts, directory, custom.tag));
-    }
+    let least = size_faults(parts, directory, &[1, 2, 3, 4, 5, 6, 7, 8, 9, 10, 11]);
+    let least = least_from(least, directory.customs(), |custom| {
+        size_fault(parts, directory, custom.tag)
+    });
     refuse(least)
 }
 
 /// The least fault of the sizes of some parts.
+#[tactic(auto, using(first_fault::proofs::LeastFound::least_slice))]
 fn size_faults(parts: &Parts<'_>, directory: &Directory<'_>, tags: &[u8]) -> Option<PackFault>
     ensures { result ≡ least_of (size_fault parts.now (directory_items directory.now)) tags.now }
 {
-    let mut least = None;
-    'tags: for tag in tags {
-        least = lesser(least, size_fault(parts, directory, *tag));
-    }
-    least
+    least_from(None, tags.iter(), |tag| size_fault(parts, directory, *tag))
 }

@@ -11,11 +11,11 @@ ghost use Rattle.cap_components.specs.declared.fault.PackFault.TheVariants.{Clas
 ghost use Rattle.cap_components.specs.Order.{least_of, least_from};
 ghost use Rattle.cap_package.specs.NameChecks.{class_unless, own};
 
-use crate::least::keep_lesser;
 use cap_class::ClassPart;
 use cap_components::PackFault;
 use cap_desc::DescClasses;
 use cap_pool::Export;
+use first_fault::least_from;
 use offset_set::{Offsets, Tally};
 
 /// How often the Descriptor describes the class record at each offset.
@@ -41,15 +41,14 @@ fn class_unless(right: bool, offset: u16) -> Option<PackFault>
 }
 
 /// The least class record that is not described once.
+#[tactic(auto, using(first_fault::proofs::LeastFound::least_by))]
 pub(crate) fn classes_described(classes: &ClassPart<'_>, described: &Tally) -> Option<PackFault>
     ensures { result ≡ least_of (λ (c : Class). class_unless (once (tallied described.now)) c.offset) (records classes.now) }
 {
-    let mut least = None;
-    'classes: for class in classes.iter() {
+    least_from(None, classes.iter(), |class| {
         let offset = class.offset();
-        keep_lesser(&mut least, class_unless(described.has_once(offset), offset));
-    }
-    least
+        class_unless(described.has_once(offset), offset)
+    })
 }
 
 /// Whether a reference is one to a class record of the package itself: an offset below 0x8000 at which one starts.
@@ -60,6 +59,7 @@ fn is_own(starts: &Offsets, reference: u16) -> bool
 }
 
 /// The least fault so far, when the classes that descriptors name were looked up among the starts of class records.
+#[tactic(auto, using(first_fault::proofs::LeastFound::least_by_number))]
 pub(crate) fn descriptors_named(
     starts: &Offsets,
     descriptors: DescClasses<'_>,
@@ -70,18 +70,14 @@ pub(crate) fn descriptors_named(
         (class_unless (own (holds starts.now)))
         (map (λ (d : desc.ClassDescriptor). d.class_ref) (described_left descriptors.entry)) }
 {
-    let mut least = least;
-    'classes: for class in descriptors {
+    least_from(least, descriptors, |class| {
         let reference = class.class_ref();
-        keep_lesser(
-            &mut least,
-            class_unless(is_own(starts, reference), reference),
-        );
-    }
-    least
+        class_unless(is_own(starts, reference), reference)
+    })
 }
 
 /// The least fault so far, when the exported classes were looked up among the starts of class records.
+#[tactic(auto, using(first_fault::proofs::LeastFound::least_by_number))]
 pub(crate) fn exports_are_classes(
     starts: &Offsets,
     export: &Export<'_>,
@@ -92,10 +88,8 @@ pub(crate) fn exports_are_classes(
         (class_unless (holds starts.now))
         (map (λ (c : Exported). c.class_offset) (exported export.now)) }
 {
-    let mut least = least;
-    'classes: for class in export.iter() {
+    least_from(least, export.iter(), |class| {
         let offset = class.class.class_offset;
-        keep_lesser(&mut least, class_unless(starts.has(offset), offset));
-    }
-    least
+        class_unless(starts.has(offset), offset)
+    })
 }

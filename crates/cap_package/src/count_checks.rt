@@ -9,11 +9,11 @@ ghost use Rattle.cap_components.specs.Descriptions.{description};
 ghost use Rattle.cap_package.specs.CountChecks.{differ, array_bytes, described_cells, own_instance_cells, instance_by, instance_fault};
 
 use crate::class_search::ClassSearch;
-use crate::least::keep_lesser;
 use cap_class::{ClassInfo, ClassPart};
 use cap_components::{CountKind, PackFault, field_type, refuse, words_of};
 use cap_desc::{DescClass, DescPart, FieldInfo};
 use cap_method::StaticPart;
+use first_fault::keep_lesser;
 
 /// Whether two numbers of one thing differ.
 #[tactic(auto, unfolding(crate::specs::CountChecks::differ))]

@@ -9,10 +9,10 @@ ghost use Rattle.std.specs.List.{enumerate_from};
 ghost use Rattle.cap_package.specs.HandlerClaims.{claims_seen, claim_table, none_claimed, home_fault};
 
 use crate::handler_claims::HandlerClaims;
-use crate::least::keep_lesser;
 use cap_components::{PackFault, refuse};
 use cap_desc::{MethodInfo, MethodsBut};
 use cap_method::MethodPart;
+use first_fault::{keep_lesser, least_from};
 
 #[tactic(auto, unfolding(crate::specs::HandlerChecks::claim_fault))]
 fn claim_fault(count: u8, method: &MethodInfo) -> Option<PackFault>
@@ -82,6 +82,7 @@ fn entry_faults(methods: &MethodPart<'_>, described: MethodsBut<'_, '_>) -> Opti
 
 /// Exactly one method owns each entry of the handler table, in whose code it lies, and no method claims an
 /// entry after the table.
+#[tactic(auto, using(first_fault::proofs::LeastFound::least_by))]
 pub(crate) fn handlers_at_home(
     methods: &MethodPart<'_>,
     described: MethodsBut<'_, '_>,
@@ -91,9 +92,6 @@ pub(crate) fn handlers_at_home(
         (claim_fault (length (handlers methods.now))) (methods_but_left described.entry)) }
 {
     let count = methods.handler_count();
-    let mut least = entry_faults(methods, described);
-    'methods: for method in described {
-        keep_lesser(&mut least, claim_fault(count, &method));
-    }
-    refuse(least)
+    let least = entry_faults(methods, described);
+    refuse(least_from(least, described, |method| claim_fault(count, &method)))
 }

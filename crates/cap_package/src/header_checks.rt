@@ -7,10 +7,10 @@ ghost use Rattle.cap_components.specs.Order.{least_of, refused};
 ghost use Rattle.cap_components.specs.Descriptions.{description};
 ghost use Rattle.cap_package.specs.HeaderChecks.{header_in, registers_fault, length_fault, arguments_fault, abstract_fault};
 
-use crate::least::keep_lesser;
 use cap_components::{CountKind, PackFault, argument_words, refuse};
 use cap_desc::{DescPart, MethodInfo, MethodsBut};
 use cap_method::{MethodHeader, MethodPart};
+use first_fault::least_from;
 
 /// The header of a method, where its bytes reach.
 #[tactic(auto, using(crate::proofs::HeaderKnown::header_known))]
@@ -36,16 +36,14 @@ fn registers_fault(methods: &MethodPart<'_>, method: &MethodInfo) -> Option<Pack
 }
 
 /// No described method has more than 255 registers.
+#[tactic(auto, using(first_fault::proofs::LeastFound::least_by))]
 pub(crate) fn registers_few(
     methods: &MethodPart<'_>,
     described: MethodsBut<'_, '_>,
 ) -> Result<(), PackFault>
     ensures { result ≡ refused (least_of (registers_fault methods.now.info.bytes.now) (methods_but_left described.entry)) }
 {
-    let mut least = None;
-    'methods: for method in described {
-        keep_lesser(&mut least, registers_fault(methods, &method));
-    }
+    let least = least_from(None, described, |method| registers_fault(methods, &method));
     refuse(least)
 }
 
@@ -62,16 +60,14 @@ fn length_fault(methods: &MethodPart<'_>, method: &MethodInfo) -> Option<PackFau
 }
 
 /// Each described method with code has 1 to 32,767 bytes of it.
+#[tactic(auto, using(first_fault::proofs::LeastFound::least_by))]
 pub(crate) fn lengths_fit(
     methods: &MethodPart<'_>,
     described: MethodsBut<'_, '_>,
 ) -> Result<(), PackFault>
     ensures { result ≡ refused (least_of (length_fault methods.now.info.bytes.now) (methods_but_left described.entry)) }
 {
-    let mut least = None;
-    'methods: for method in described {
-        keep_lesser(&mut least, length_fault(methods, &method));
-    }
+    let least = least_from(None, described, |method| length_fault(methods, &method));
     refuse(least)
 }
 
@@ -94,6 +90,7 @@ fn arguments_fault(
 }
 
 /// Each described method takes as many words as its type descriptor tells.
+#[tactic(auto, using(first_fault::proofs::LeastFound::least_by))]
 pub(crate) fn arguments_agree(
     methods: &MethodPart<'_>,
     descriptor: &DescPart<'_>,
@@ -105,10 +102,9 @@ pub(crate) fn arguments_agree(
         (arguments_fault methods.now.info.bytes.now (description descriptor.now))
         (methods_but_left described.entry)) }
 {
-    let mut least = None;
-    'methods: for method in described {
-        keep_lesser(&mut least, arguments_fault(methods, descriptor, &method));
-    }
+    let least = least_from(None, described, |method| {
+        arguments_fault(methods, descriptor, &method)
+    });
     refuse(least)
 }
 
@@ -128,15 +124,13 @@ fn abstract_fault(methods: &MethodPart<'_>, method: &MethodInfo) -> Option<PackF
 }
 
 /// No abstract method has code.
+#[tactic(auto, using(first_fault::proofs::LeastFound::least_by))]
 pub(crate) fn abstract_without_code(
     methods: &MethodPart<'_>,
     described: MethodsBut<'_, '_>,
 ) -> Result<(), PackFault>
     ensures { result ≡ refused (least_of (abstract_fault methods.now.info.bytes.now) (methods_but_left described.entry)) }
 {
-    let mut least = None;
-    'methods: for method in described {
-        keep_lesser(&mut least, abstract_fault(methods, &method));
-    }
+    let least = least_from(None, described, |method| abstract_fault(methods, &method));
     refuse(least)
 }

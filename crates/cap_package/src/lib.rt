@@ -11,7 +11,6 @@ mod custom;
 mod handler_checks;
 mod handler_claims;
 mod header_checks;
-mod least;
 mod method_checks;
 mod name_checks;
 mod offsets;

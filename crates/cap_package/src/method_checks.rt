@@ -8,10 +8,10 @@ ghost use Rattle.cap_package.specs.Pairs.{pairs};
 ghost use Rattle.cap_package.specs.MethodChecks.{overlap_pair, outside_fault};
 ghost use Rattle.cap_package.specs.Reaches.{reach_by, method_start, method_end};
 
-use crate::least::keep_lesser;
 use cap_bytes::View;
 use cap_components::{PackFault, code_end, refuse};
 use cap_desc::{MethodInfo, MethodsBut};
+use first_fault::{keep_lesser, least_from};
 use offset_set::Tally;
 
 /// Where the described methods begin.
@@ -81,6 +81,7 @@ fn outside_fault(info: View<'_>, handler_count: u8, method: &MethodInfo) -> Opti
 }
 
 /// No described method begins in the handler table or reaches past the info.
+#[tactic(auto, using(first_fault::proofs::LeastFound::least_by))]
 pub(crate) fn methods_inside(
     info: View<'_>,
     handler_count: u8,
@@ -89,9 +90,8 @@ pub(crate) fn methods_inside(
     requires { length info.bytes.now ≤ 65535 }
     ensures { result ≡ refused (least_of (outside_fault info.entry.bytes.now handler_count) (methods_but_left described.entry)) }
 {
-    let mut least = None;
-    'methods: for method in described {
-        keep_lesser(&mut least, outside_fault(info, handler_count, &method));
-    }
+    let least = least_from(None, described, |method| {
+        outside_fault(info, handler_count, &method)
+    });
     refuse(least)
 }

@@ -9,12 +9,12 @@ ghost use Rattle.cap_components.specs.Order.{least_of, least_from, refused};
 ghost use Rattle.cap_package.specs.NameChecks.{no_method_fault, no_entry_fault, table_entries, exported_methods, exported_fields};
 ghost use Rattle.cap_package.specs.StaticChecks.{no_static_fault};
 
-use crate::least::keep_lesser;
 use cap_bytes::Table;
 use cap_class::ClassPart;
 use cap_components::PackFault;
 use cap_frame::Applets;
 use cap_pool::Export;
+use first_fault::least_from;
 use offset_set::Offsets;
 
 #[tactic(auto, unfolding(crate::specs::NameChecks::no_method_fault))]
@@ -39,6 +39,7 @@ fn no_entry_fault(described: &Offsets, offset: u16) -> Option<PackFault>
 }
 
 /// The least fault so far, when the entries of a dispatch table were looked up.
+#[tactic(auto, using(first_fault::proofs::LeastFound::least_first))]
 #[inline(always)]
 fn entries_of_table(
     described: &Offsets,
@@ -47,14 +48,11 @@ fn entries_of_table(
 ) -> Option<PackFault>
     ensures { result ≡ least_from least (no_entry_fault (holds described.now)) (numbers table.entry) }
 {
-    let mut least = least;
-    'entries: for offset in table {
-        keep_lesser(&mut least, no_entry_fault(described, offset));
-    }
-    least
+    least_from(least, table, |offset| no_entry_fault(described, offset))
 }
 
 /// The least fault so far, when offsets of methods were looked up.
+#[tactic(auto, using(first_fault::proofs::LeastFound::least_first))]
 fn methods_of_table(
     described: &Offsets,
     table: Table<'_>,
@@ -62,11 +60,7 @@ fn methods_of_table(
 ) -> Option<PackFault>
     ensures { result ≡ least_from least (no_method_fault (holds described.now)) (numbers table.entry) }
 {
-    let mut least = least;
-    'entries: for offset in table {
-        keep_lesser(&mut least, no_method_fault(described, offset));
-    }
-    least
+    least_from(least, table, |offset| no_method_fault(described, offset))
 }
 
 /// The least fault of the dispatch tables.
@@ -99,6 +93,7 @@ pub(crate) fn exports_named(
 }
 
 /// The least fault so far, when the applets' install methods were looked up.
+#[tactic(auto, using(first_fault::proofs::LeastFound::least_by_number))]
 pub(crate) fn installs_named(
     described: &Offsets,
     applets: &Applets<'_>,
@@ -109,11 +104,9 @@ pub(crate) fn installs_named(
         (no_method_fault (holds described.now))
         (map (λ (a : Applet). a.install) (applets_of applets.now)) }
 {
-    let mut least = least;
-    'applets: for applet in applets.iter() {
-        keep_lesser(&mut least, no_method_fault(described, applet.install));
-    }
-    least
+    least_from(least, applets.iter(), |applet| {
+        no_method_fault(described, applet.install)
+    })
 }
 
 #[tactic(auto, unfolding(crate::specs::StaticChecks::no_static_fault))]
@@ -128,6 +121,7 @@ fn no_static_fault(fields: &Offsets, offset: u16) -> Option<PackFault>
 }
 
 /// The least fault so far, when offsets of static fields were looked up.
+#[tactic(auto, using(first_fault::proofs::LeastFound::least_first))]
 fn statics_of_table(
     fields: &Offsets,
     table: Table<'_>,
@@ -135,11 +129,7 @@ fn statics_of_table(
 ) -> Option<PackFault>
     ensures { result ≡ least_from least (no_static_fault (holds fields.now)) (numbers table.entry) }
 {
-    let mut least = least;
-    'entries: for offset in table {
-        keep_lesser(&mut least, no_static_fault(fields, offset));
-    }
-    least
+    least_from(least, table, |offset| no_static_fault(fields, offset))
 }
 
 /// The least fault of the exported static fields.

@@ -12,7 +12,6 @@ ghost use Rattle.cap_package.specs.Places.{place_seen};
 ghost use Rattle.cap_package.specs.StaticPlaces.{places_left};
 ghost use Rattle.cap_package.specs.Reaches.{reach_by, static_start, static_end};
 
-use crate::least::keep_lesser;
 use crate::places::StaticPlaces;
 use crate::static_place::StaticPlace;
 use arrayvec::ArrayVec;
@@ -20,6 +19,7 @@ use byteorder::{BigEndian, ByteOrder};
 use cap_components::{PackFault, field_type, refuse};
 use cap_desc::{DescPart, FieldInfo, FieldsOf, TypeItem};
 use cap_method::StaticPart;
+use first_fault::{keep_lesser, least_from};
 use offset_set::Tally;
 
 /// The most initial arrays that two bytes can count.
@@ -176,6 +176,7 @@ fn filled_fault(kinds: &[u8], descriptor: &DescPart<'_>, field: &FieldInfo) -> O
 }
 
 /// The least fault so far, when the fields were compared with initial arrays of these types.
+#[tactic(auto, using(first_fault::proofs::LeastFound::least_by))]
 fn filled_by(
     kinds: &[u8],
     descriptor: &DescPart<'_>,
@@ -184,11 +185,9 @@ fn filled_by(
 ) -> Option<PackFault>
     ensures { result ≡ least_from least (filled_fault kinds.now (description descriptor.now)) (fields_of_left fields.entry) }
 {
-    let mut least = least;
-    'fields: for field in fields {
-        keep_lesser(&mut least, filled_fault(kinds, descriptor, &field));
-    }
-    least
+    least_from(least, fields, |field| {
+        filled_fault(kinds, descriptor, &field)
+    })
 }
 
 /// The least fault so far, when the fields were compared with the initial arrays that fill their references.
@@ -217,6 +216,7 @@ fn filled_faults(
 }
 
 /// The least fault of the fields' places in the image.
+#[tactic(auto, using(first_fault::proofs::LeastFound::least_by))]
 fn image_faults(
     statics: &StaticPart<'_>,
     descriptor: &DescPart<'_>,
@@ -224,11 +224,9 @@ fn image_faults(
 ) -> Option<PackFault>
     ensures { result ≡ least_of (image_fault (statics_seen statics.now) (description descriptor.now)) (fields_of_left fields.entry) }
 {
-    let mut least = None;
-    'fields: for field in fields {
-        keep_lesser(&mut least, image_fault(statics, descriptor, &field));
-    }
-    least
+    least_from(None, fields, |field| {
+        image_fault(statics, descriptor, &field)
+    })
 }
 
 /// Each static field lies in the part of the image for its kind, and is of the type of its initial array.

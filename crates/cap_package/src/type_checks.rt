@@ -9,9 +9,9 @@ ghost use Rattle.cap_components.specs.Order.{least_of, least_from, refused};
 ghost use Rattle.cap_components.specs.Descriptions.{description};
 ghost use Rattle.cap_package.specs.TypeChecks.{field_type_fault, method_type_fault};
 
-use crate::least::keep_lesser;
 use cap_components::{PackFault, argument_words, field_type, refuse};
 use cap_desc::{DescMethods, DescPart, FieldInfo, MethodInfo};
+use first_fault::least_from;
 use offset_set::Offsets;
 
 /// The argument words that a type descriptor can tell at all.
@@ -41,34 +41,30 @@ fn method_type_fault(descriptor: &DescPart<'_>, most: u16, method: &MethodInfo) 
 }
 
 /// The least fault of the types of fields.
+#[tactic(auto, using(first_fault::proofs::LeastFound::least_by))]
 fn field_types(descriptor: &DescPart<'_>) -> Option<PackFault>
     ensures { result ≡ least_of (field_type_fault (description descriptor.now)) (fields_of (description descriptor.now).items.classes) }
 {
-    let mut least = None;
-    'fields: for field in descriptor.fields() {
-        keep_lesser(&mut least, field_type_fault(descriptor, &field));
-    }
-    least
+    least_from(None, descriptor.fields(), |field| {
+        field_type_fault(descriptor, &field)
+    })
 }
 
 /// The least fault so far, when the types of all methods were looked at.
+#[tactic(auto, using(first_fault::proofs::LeastFound::least_by))]
 fn method_types(descriptor: &DescPart<'_>, least: Option<PackFault>) -> Option<PackFault>
     ensures { result
         ≡ least_from least
         (method_type_fault (description descriptor.now) 510)
         (methods_of (description descriptor.now).items.classes) }
 {
-    let mut least = least;
-    'methods: for method in descriptor.methods() {
-        keep_lesser(
-            &mut least,
-            method_type_fault(descriptor, ANY_WORDS, &method),
-        );
-    }
-    least
+    least_from(least, descriptor.methods(), |method| {
+        method_type_fault(descriptor, ANY_WORDS, &method)
+    })
 }
 
 /// The least fault so far, when the types of the methods of an interface were looked at.
+#[tactic(auto, using(first_fault::proofs::LeastFound::least_by))]
 fn types_of_interface(
     descriptor: &DescPart<'_>,
     methods: DescMethods<'_>,
@@ -76,14 +72,9 @@ fn types_of_interface(
 ) -> Option<PackFault>
     ensures { result ≡ least_from least (method_type_fault (description descriptor.now) 254) (methods_left methods.entry) }
 {
-    let mut least = least;
-    'methods: for method in methods {
-        keep_lesser(
-            &mut least,
-            method_type_fault(descriptor, INTERFACE_WORDS, &method),
-        );
-    }
-    least
+    least_from(least, methods, |method| {
+        method_type_fault(descriptor, INTERFACE_WORDS, &method)
+    })
 }
 
 /// The least fault so far, when the types of the methods of interfaces were looked at.

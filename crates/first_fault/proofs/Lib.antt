@@ -1,4 +1,5 @@
 pub mod Places
 pub mod LeastFaults
+pub mod LeastFound
 pub mod FirstTold
 pub mod AnyOrder

@@ -1,4 +1,5 @@
 pub mod Order
 pub mod Least
+pub mod LeastFound
 pub mod First
 pub mod Samples

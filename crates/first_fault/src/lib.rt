@@ -9,5 +9,5 @@ mod least;
 mod place;
 
 pub use fault::Fault;
-pub use least::{lesser, refuse};
+pub use least::{keep_lesser, least_from, lesser, refuse};
 pub use place::Place;
