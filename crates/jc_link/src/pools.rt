@@ -6,7 +6,7 @@ ghost use Rattle.jc_resolve.specs.Counts.{class_total};
 ghost use Rattle.jc_resolve.specs.Due.{IsDue};
 ghost use Rattle.jc_resolve.specs.declared.fault.LinkFault.TheVariants.{NoMember};
 ghost use Rattle.jc_resolve.specs.Fault.{link_place};
-ghost use Rattle.first_fault.specs.Least.{lesser, least_from, least_of};
+ghost use Rattle.first_fault.specs.Least.{least_from, least_of};
 ghost use Rattle.jc_link.specs.Fields.{HasCellsOf, field_sites};
 ghost use Rattle.jc_link.specs.Sites.{all_entered};
 ghost use Rattle.jc_link.specs.Members.{static_sites, member_referred, member_of};
@@ -17,8 +17,9 @@ use crate::entries::{call_member, class_member, static_member, super_member, vir
 use crate::fields::{field_member, field_sites};
 use crate::sites::{Sites, static_sites};
 use cap_pool::{Pool, PoolEntry, PoolReference};
+use first_fault::keep_lesser;
 use jc_base::{Classes, Items, Member, Pools, Statics};
-use jc_resolve::{LinkEnd, LinkFault, Names, lesser, refuse};
+use jc_resolve::{LinkEnd, LinkFault, Names, refuse};
 use std::alloc::{AllocError, Global};
 
 /// Members by where they are described.
@@ -93,18 +94,6 @@ fn missing(package: u16, number: u16, member: Option<Member>) -> Option<LinkFaul
     match member {
         Some(_) => None,
         None => Some(LinkFault::NoMember(package, number)),
-    }
-}
-
-/// Keeps the fault that is named, when one more thing was seen that may be at fault.
-#[tactic(auto, unfolding(first_fault::specs::Least::lesser))]
-#[inline(always)]
-fn keep_lesser(least: &mut Option<LinkFault>, fault: Option<LinkFault>)
-    ensures { least.new ≡ lesser link_place least.old fault }
-{
-    // Where nothing is at fault, as mostly, nothing is written.
-    if let Some(found) = fault {
-        *least = lesser(*least, Some(found));
     }
 }
 

@@ -6,8 +6,8 @@ ghost use Rattle.first_fault.specs.Least.{least_from, least_of, refused};
 
 use crate::fault::LinkFault;
 use crate::imports::met_by;
-use crate::least::{lesser, refuse};
 use cap_package::Packages;
+use first_fault::{lesser, refuse};
 
 #[tactic(auto, unfolding(crate::specs::Conditions::no_package_fault))]
 fn import_fault(packages: &Packages<'_, '_>, package: u16, token: u8) -> Option<LinkFault>

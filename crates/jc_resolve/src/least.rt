@@ -1,5 +1,3 @@
-ghost use Rattle.std.specs.Prelude.{◌≡◌, Some};
-ghost use Rattle.first_fault.specs.Least.{lesser, refused};
 ghost use Rattle.jc_resolve.specs.Fault.{link_place};
 
 use crate::fault::LinkFault;
@@ -36,33 +34,4 @@ impl Fault for LinkFault {
             LinkFault::RoleAbstract(role) => Place::one(role as u32),
         }
     }
-}
-
-/// The fault that is named of the least so far and another.
-#[cold]
-#[inline(never)]
-fn lesser_of(least: Option<LinkFault>, fault: LinkFault) -> Option<LinkFault>
-    ensures { result ≡ lesser link_place least (Some fault) }
-{
-    first_fault::lesser(least, Some(fault))
-}
-
-/// The fault that is named, when one more thing was seen that may be at fault.
-#[tactic(auto, unfolding(first_fault::specs::Least::lesser))]
-#[inline(always)]
-pub fn lesser(least: Option<LinkFault>, fault: Option<LinkFault>) -> Option<LinkFault>
-    ensures { result ≡ lesser link_place least fault }
-{
-    // Where nothing is at fault, as mostly, this is short and takes no call.
-    match fault {
-        Some(fault) => lesser_of(least, fault),
-        None => least,
-    }
-}
-
-/// A condition holds unless a fault of it is named.
-pub fn refuse(least: Option<LinkFault>) -> Result<(), LinkFault>
-    ensures { result ≡ refused least }
-{
-    first_fault::refuse(least)
 }

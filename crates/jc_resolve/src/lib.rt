@@ -27,7 +27,7 @@ mod reference_checks;
 mod world_types;
 
 pub use fault::{LinkEnd, LinkFault};
-pub use least::{lesser, refuse};
+pub use first_fault::{lesser, refuse};
 pub use named::{DispatchTable, NamedClass, NamedClasses};
 pub use names_type::Names;
 pub use naming::names;

@@ -11,13 +11,13 @@ use crate::class_records::class_records;
 use crate::counts::{classes_few, methods_few, packages_few};
 use crate::fault::{LinkEnd, LinkFault};
 use crate::import_checks::check_imports;
-use crate::least::refuse;
 use crate::method_records::methods_after;
 use crate::named::NamedClass;
 use crate::names_type::Names;
 use crate::package_fields::PackageFields;
 use crate::reference_checks::besides_named;
 use cap_package::Packages;
+use first_fault::refuse;
 use jc_base::{Items, MethodRec};
 use std::alloc::Global;
 

@@ -12,11 +12,11 @@ ghost use Rattle.jc_resolve.specs.References.{class_named};
 
 use crate::class_index::Index;
 use crate::fault::LinkFault;
-use crate::least::lesser;
 use byteorder::{BigEndian, ByteOrder};
 use cap_bytes::Table;
 use cap_desc::{DescClass, DescClasses, DescFields};
 use cap_package::Packages;
+use first_fault::{least_from, lesser};
 
 #[tactic(auto, unfolding(crate::specs::Conditions::no_class_fault))]
 fn reference_fault(index: &Index<'_, '_, '_>, package: u16, reference: u16) -> Option<LinkFault>
@@ -57,6 +57,7 @@ fn reference_in(bytes: [u8; 3]) -> u16
 }
 
 /// The least fault so far, when a table of references was looked at.
+#[tactic(auto, using(first_fault::proofs::LeastFound::least_first))]
 fn table_named(
     index: &Index<'_, '_, '_>,
     package: u16,
@@ -65,11 +66,9 @@ fn table_named(
 ) -> Option<LinkFault>
     ensures { result ≡ least_from link_place least (reference_fault index.now «package») (numbers table.entry) }
 {
-    let mut least = least;
-    'references: for reference in table {
-        least = lesser(least, reference_fault(index, package, reference));
-    }
-    least
+    least_from(least, table, |reference| {
+        reference_fault(index, package, reference)
+    })
 }
 
 /// The least fault so far, when the classes of instance fields were looked at.
