@@ -45,7 +45,7 @@ def targets():
     method.snip("nop; nop; here: nop; return; goto here", ("a target of code that nothing reaches", 0, 0, "sconst_1", 2, "StackAtTarget"))
     method.snip("nop; there: return; sconst_1; ifeq there; return", ("a target from below", 0, 0, "sconst_1", 1, "StackAtTarget"))
     method.snip("sconst_1; ifeq ahead; nop; ahead: return", ("a target from above", 2, 0, "sconst_1", 3, "StackAtTarget"))
-    yield method.snip("sconst_1; pop; return; after: nop; goto after; sconst_1; return; sconst_1; ifeq after; return")
+    yield method.snip("sconst_1; return; after: nop; goto after; sconst_1; return; sconst_1; ifeq after; return")
     free = Method("a stack where no target is", stack=4)
     yield free.snip("sconst_1; nop; nop; pop; sconst_1; ifeq near; nop; near: return", (
         "a branch leads where a cell stands", 5, 1, -3, 2, "StackAtTarget"), ("a branch leads to itself", 5, 1, 0, 5, "StackAtTarget"))
@@ -126,6 +126,7 @@ def entries():
     yield method
     yield from ranges()
     yield from entered_after()
+    yield from two_faults()
 
 
 def ranges():
@@ -145,6 +146,25 @@ def ranges():
     two.handler("the second handler is bad", 1, 3, "-2", 0, "place @6 BadHandler 1").handler("the first handler is bad", 0, 3, "-3", 0, "place @4 BadHandler 0")
     two.handler("two handlers with one entry", 1, 5, "-2", 0, None)
     yield two.change("a bad target before a bad handler", 2, 0, "goto", "BadTarget")
+
+
+def two_faults():
+    """One byte makes two faults, of which one comes first."""
+    for text in ("stableswitch last 0 0 first", "slookupswitch last 1 0 first"):
+        method = Method(text.split()[0] + ", two bad targets", stack=4)
+        yield method.snip("sconst_1; %s; nop; first: nop; last: nop; return" % text, (
+            text.split()[0] + ": the default comes before the cases", 2, 0, "sspush", 1, "BadTarget @4"))
+    method = Method("a branch over what is not decoded", stack=4)
+    yield method.snip("sconst_1; ifeq over; nop; over: return", (
+        "a target beyond what is not decoded", 2, 0, 113, 1, "BadTarget @3"), ("what is not decoded, at the target", 3, 0, 113, 1, "BadTarget @3"))
+    method = Method("two handlers that end together", stack=4)
+    method.add("begin: nop; nop; end: nop; return; first: nop; return; second: nop; return")
+    method.handlers = [("begin", "end", "first", None), ("begin", "end", "second", "Alarm")]
+    yield method.change("the first handler of two that are bad", 1, 0, "bspush", "place @4 BadHandler 0")
+    method = Method("a handler's entry after a cell that is left", stack=4)
+    method.add("begin: nop; end: sconst_1; return; entry: pop; nop; return")
+    method.handlers = [("begin", "end", "entry", None)]
+    yield method.change("a handler's entry has one object alone", 4, 0, "pop", "Underflow")
 
 
 def entered_after():
@@ -207,22 +227,22 @@ def halves():
 
 def listed():
     """Methods with two targets each: what a list says of them changes no answer."""
-    for number in range(2):
+    for _ in range(2):
         method = Method("over a list", stack=4)
-        yield method.snip("nop; back: sconst_1; ifeq ahead; nop; sconst_1; nop; pop; sconst_1; ifeq back; nop; ahead: return", (
+        yield method.snip("nop; back: nop; return; sconst_1; ifeq ahead; nop; sconst_1; nop; pop; sconst_1; ifeq back; nop; ahead: return", (
             "a target is fallen into with a cell, over a list", 0, 0, "sconst_1", 1, "StackAtTarget"),
-            ("a target that the list lacks", 8, 1, -5, 8, None), ("a branch leads elsewhere, over a list", 8, 1, -3, 5, "StackAtTarget"),
-            ("a bad target, over a list", 2, 1, 1, 2, "BadTarget"))
+            ("a target that the list lacks", 10, 1, -5, 10, None), ("a branch leads to a cell, over a list", 10, 1, -3, 7, "StackAtTarget"),
+            ("a bad target, over a list", 4, 1, 1, 4, "BadTarget"))
 
 
-LISTS = {       # the places that each of the two methods lists, and bytes that follow; the targets are 1 and 12
-    "list_right": ([[1, 12], [1, 12]], b""),
-    "list_lacks": ([[1], [12]], b""),
-    "list_more": ([[0, 1, 12], [1, 6, 12]], b""),
-    "list_falls": ([[12, 1], [1, 1, 12]], b""),
-    "list_inside": ([[1, 3, 12], [1, 12, 200]], b""),
-    "list_trailing": ([[1, 12], [1, 12]], b"\0"),
-    "list_short": ([[1, 12]], b""),
+LISTS = {       # the places that each of the two methods lists, and bytes that follow; the targets are 1 and 14
+    "list_right": ([[1, 14], [1, 14]], b""),
+    "list_lacks": ([[1], [14]], b""),
+    "list_more": ([[0, 1, 14], [1, 8, 14]], b""),
+    "list_falls": ([[14, 1], [1, 1, 14]], b""),
+    "list_inside": ([[1, 5, 14], [1, 14, 200]], b""),
+    "list_trailing": ([[1, 14], [1, 14]], b"\0"),
+    "list_short": ([[1, 14]], b""),
 }
 OTHER_AID = b"\xf0other"
 

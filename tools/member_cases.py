@@ -1,8 +1,9 @@
 """The cases of what is asked before the operands: how an instruction is decoded, where it leads, and what it names in the pool. Then those
 of cells that move, and of objects before their constructor ran."""
-from instructions import BY_OPCODE, BRANCHES, LABEL, POOL, POOL_BYTE, SIZES
+from instructions import BRANCHES, BY_OPCODE, POOL, POOL_BYTE, SIZES
 from rule_cases import PUSHES, Rule, push, rule_asks
 from rule_package import Method
+from rule_world import Root
 
 LEFT_OUT, UNUSED = (113, 114, 254, 255), range(185, 254)
 BEYOND = 250        # no entry of the pool
@@ -29,8 +30,7 @@ def cut_codes():
             operands = row[1:] if row else ()
             size = sum(map(SIZES.get, operands[:3] if row and "switch" in row[0] else operands))
             if there < size and (there == 0 or there == size - 1) and not (row[0].endswith("lookupswitch") and there):
-                value = opcode
-                method.header("%s: %d bytes of operands lack" % (row[0], size - there), 4 + 1, value, 1, "Cut")
+                method.header("%s: %d of %d bytes of operands are there" % (row[0], there, size), 4 + 1, opcode, 1, "Cut")
         yield method
 
 
@@ -42,15 +42,13 @@ def switch_codes():
     method.snip("iconst_1; itableswitch next 1 2 next next", ("itableswitch: the high bound is below the low one", 1, 10, 0, 1, "BadOperand 0"),
                 ("itableswitch: the high bound is negative", 1, 7, 255, 1, "BadOperand 255"), ("itableswitch: more cases than bytes", 1, 9, 1, 1, "Cut"))
     method.snip("sconst_1; slookupswitch next 3 -2 next 1 next 300 next", ("slookupswitch: a negative key after", 1, 9, 128, 1, "BadOperand 128"),
-                ("slookupswitch: a key that equals the one before", 1, 14, 1, 1, None), ("slookupswitch: more keys than bytes", 1, 3, 200, 1, "Cut"),
-                ("slookupswitch: keys are signed", 1, 5, 127, 1, "BadOperand 0"))
+                ("slookupswitch: more keys than bytes", 1, 3, 200, 1, "Cut"), ("slookupswitch: keys are signed", 1, 5, 127, 1, "BadOperand 0"))
     method.snip("iconst_1; ilookupswitch next 3 -2 next 1 next 70000 next", ("ilookupswitch: a negative key after", 1, 11, 128, 1, "BadOperand 128"),
                 ("ilookupswitch: keys are signed", 1, 5, 127, 1, "BadOperand 0"), ("ilookupswitch: more keys than bytes", 1, 3, 200, 1, "Cut"))
     method.snip("sconst_1; slookupswitch next 2 1 next 2 next", ("slookupswitch: a key as the one before", 1, 10, 1, 1, "BadOperand 0"),
                 ("slookupswitch: a key below the one before", 1, 10, 0, 1, "BadOperand 0"))
     method.snip("iconst_1; ilookupswitch next 2 1 next 2 next", ("ilookupswitch: a key as the one before", 1, 14, 1, 1, "BadOperand 0"),
                 ("ilookupswitch: a key below the one before", 1, 14, 0, 1, "BadOperand 0"))
-    method.changes = [one for one in method.changes if one.fault]
     yield method.snip("return")
 
 
@@ -107,7 +105,7 @@ ENTRIES = {
     "a short field": "Parent.s", "an int field": "Parent.i", "a virtual method": "Parent.get", "a method of the superclass": "super.get",
     "a static field of references": "theParent", "a static boolean": "theBoolean", "a static byte": "theByte", "a static short": "theShort",
     "a static int": "theInt", "a static method": "Parent.twice", "a constructor": "Parent.init", "a private method": "Parent.hidden",
-    "an abstract method by its offset": "bare.hollow", "nothing": BEYOND,
+    "an abstract method by its offset": "bare.hollow", "an abstract method of the superclass": "super.hollow", "nothing": BEYOND,
 }
 FIELDS = {"a": ("a field of references",), "b": ("a boolean field", "a byte field"), "s": ("a short field",), "i": ("an int field",)}
 STATICS = {"a": ("a static field of references",), "b": ("a static boolean", "a static byte"), "s": ("a static short",), "i": ("a static int",)}
@@ -177,7 +175,9 @@ def other_members():
     method.snip("aconst_null; iconst_1; aconst_null; invokeinterface 4 Named 1; pop",
                 ("invokeinterface: a method that another interface describes", 3, 4, 0, 3, "BadMember"),
                 ("invokeinterface: an int is two words", 3, 1, 3, 3, "BadMember"))
-    method.snip("new Parent; pop", ("new: an interface", 0, 2, "Own", 0, "NotConcrete"), ("new: a class with an abstract method", 0, 2, "Hollow", 0, "NotConcrete"),
+    method.snip("new Parent; pop", ("new: an interface", 0, 2, "Own", 0, "NotConcrete"),
+                ("new: a class with an abstract method", 0, 2, "Hollow", 0, "NotConcrete"),
+                ("new: a class that inherits an abstract method", 0, 2, "Vacant", 0, "NotConcrete"),
                 ("new: an interface of the library", 0, 2, "Sized", 0, "NotConcrete"))
     yield method.snip("return")
     order = Method("members before operands", stack=4, registers=1)
@@ -234,7 +234,8 @@ def moved_cells(text, depth, left):
         method.snip("; ".join([*pushes, text, *["pop"] * number, "nop", "return"]), (
             "%s: cell %d is then what was cell %d" % (text, number, cell), at, 0, "sneg", at, "Mismatch found %s wanted short" % MARKS[cell]))
     at = depth + 1 + len(left)
-    method.snip("; ".join([*pushes, text, *["pop"] * len(left), "nop", "return"]), (text + ": %d cells are there then" % len(left), at, 0, "pop", at, "Underflow"))
+    method.snip("; ".join([*pushes, text, *["pop"] * len(left), "nop", "return"]), (
+        text + ": %d cells are there then" % len(left), at, 0, "pop", at, "Underflow"))
     for there in range(depth):
         method.snip("; ".join([*["sconst_1"] * (depth - there), "nop", *["sconst_1"] * there, text, "return"]), (
             "%s: %d cells are there" % (text, there), depth - there, 0, "return", depth + 1, "Underflow"))
@@ -254,7 +255,8 @@ def split_ints(text, depth, cuts):
 
 def room(text, depth, size):
     method, title = Method(text + ", room", stack=size), text + ": "
-    method.snip("; ".join(["nop", *["sconst_1"] * depth, text, "return"]), (title + "one cell of room lacks", 0, 0, "sconst_1", depth + 1, "Overflow"))
+    method.snip("; ".join(["nop", *["sconst_1"] * depth, text, "return"]), (
+        title + "one cell of room lacks", 0, 0, "sconst_1", depth + 1, "Overflow"))
     return method.header(title + "max_stack is one less", 1, size - 1, depth + 1, "Overflow")
 
 
@@ -267,7 +269,8 @@ def constructors():
     yield Rule("invokespecial Parent.initS", "short Parent", without=("fresh",)).method()
     method = Method("new objects", stack=8, registers=1)
     for title, text, at, shown, fault in (
-            ("a constructor makes the copy ready", "new Parent; dup; invokespecial Parent.init; nop; pop", 3, "sneg", "Mismatch found class Parent wanted short"),
+            ("a constructor makes the copy ready", "new Parent; dup; invokespecial Parent.init; nop; pop", 3, "sneg",
+             "Mismatch found class Parent wanted short"),
             ("a constructor makes each copy ready", "new Parent; dup; dup; invokespecial Parent.init; pop; nop; pop", 5, "sneg",
              "Mismatch found class Parent wanted short"),
             ("an object made elsewhere stays new", "new Parent; new Parent; dup; invokespecial Parent.init; pop; nop; pop", 5, "sneg",
@@ -287,6 +290,14 @@ def constructors():
     again = Method("new objects in a loop", stack=4, registers=1)
     yield again.snip("again: new Parent; dup; invokespecial Parent.init; astore_0; sconst_1; ifeq again; return", (
         "a new object at a branch", 3, 0, "nop", 5, "StackAtBranch"))
+
+
+def root_package():
+    """Object may have an abstract method, which no call may name; of any other class it may."""
+    method = Method("abstract methods of object", stack=2)
+    method.snip("aconst_null; invokevirtual Throwable.run", ("invokevirtual: an abstract method of object", 1, 2, "Object.run", 1, "BadMember"))
+    method.snip("aconst_null; invokespecial super.run", ("invokespecial: an abstract method of object", 1, 2, "above.run", 1, "BadMember"))
+    return Root([method.snip("return")])
 
 
 def families():

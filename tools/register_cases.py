@@ -1,5 +1,5 @@
 """The cases of registers: loads and stores, increments, fields of `this`, arguments and results, and types that are joined."""
-from rule_cases import PUSHES, Rule, field_rules, letter, serves
+from rule_cases import PUSHES, Rule, field_rules, letter, push, serves
 from rule_package import CONSTRUCTOR, PRIVATE, PUBLIC, STATIC, Method
 from rule_world import join, type_told
 
@@ -139,20 +139,21 @@ def own_fields():
         forms = ["%s_%s_this" % (word, letter(field_kind)) for word in ("getfield", "putfield")]
         for rule in field_rules(*forms, owner + "." + name, field_kind, ""):
             yield rule.method()
-            yield rule.room() if rule.gives else lacking_register(rule)
+            yield rule.room()
+            yield lacking_register(rule)
             yield receivers(rule, owner)
 
 
 def lacking_register(rule):
-    """Whether there is a register 0 is asked before the stack, and what it holds after."""
-    before = "iconst_1" if rule.asks == ["int"] else "sconst_1" if rule.asks == ["short"] else "aconst_null"
-    return Method(rule.title + ", one register", registers=1, stack=2).snip("%s; %s; return" % (before, rule.text)).header(
-        rule.title + ": there is no register 0", 3, 0, 1, "NoLocal 0")
+    """Whether there is a register 0 is asked first."""
+    before = [push(one) for one in rule.asks]
+    return Method(rule.title + ", one register", registers=1, stack=2).snip("; ".join([*before, rule.text, rule.drop(), "return"])).header(
+        rule.title + ": there is no register 0", 3, 0, len(before), "NoLocal 0")
 
 
 def receivers(rule, owner):
     method = Method(rule.title + ", receivers", registers=SPARE + 2)
-    pushes = ["iconst_1" if one == "int" else "sconst_1" if one == "short" else "aconst_null" for one in rule.asks]
+    pushes = [push(one) for one in rule.asks]
     for pushed in (one for one in PUSHES if one != "fresh"):
         if not serves(owner, pushed):
             found = pushed.replace("low", "high")
@@ -196,7 +197,7 @@ def results():
         demand = {"I": "int", "Z": "short", "B": "short", "S": "short"}.get(kind, kind)
         rule = Rule(own, "" if kind == "V" else demand)
         method = Method("a result %s" % kind, "-> " + kind)
-        before = "" if kind == "V" else "iconst_1; " if kind == "I" else "sconst_1; " if demand == "short" else "aconst_null; "
+        before = "" if kind == "V" else push(demand) + "; "
         for other in ("areturn", "sreturn", "ireturn", "return"):
             if other != own:
                 at = before.count(";")

@@ -218,7 +218,7 @@ def calls():
                 Rule("invokevirtual Child.next", "Parent Child", "class Parent"), Rule("invokevirtual Hollow.hollow", "Hollow"))
     yield from (Rule("invokespecial super.get", "Child", "short"), Rule("invokespecial super.near", "short Child", "short"),
                 Rule("invokespecial super.put", "int [S Part", "array short"), Rule("invokespecial Parent.hidden", "short Parent", "short"),
-                Rule("invokespecial bare.get", "Parent", "short"))
+                Rule("invokespecial super.next", "Parent Tests", "class Parent"), Rule("invokespecial bare.get", "Parent", "short"))
     yield from (Rule("invokestatic Parent.twice", "short", "short"), Rule("invokestatic Parent.sum", "short int", "int"),
                 Rule("invokestatic Parent.make", "[S Parent", "class Parent"), Rule("invokestatic Thing.only", "short", "class Thing"),
                 Rule("invokestatic Parent.many", "[Own Own [I [B [Z short short"))
@@ -227,7 +227,7 @@ def calls():
 
 
 def objects():
-    yield from (Rule("new " + name, "", "fresh class " + name) for name in ("Parent", "Child", "Thing", "Object"))
+    yield from (Rule("new " + name, "", "fresh class " + name) for name in ("Parent", "Child", "Thing", "Object", "Full"))
     yield Rule("athrow", "Throwable")
     kinds = [("object", name) for name in ("Parent", "Object", "Thing", "Own")]
     kinds += [("array", name) for name in ("Parent", "Object", "Own")] + [(name, "Object") for name in ("boolean", "byte", "short", "int")]

@@ -218,9 +218,12 @@ class Writer:
         laid = b""
         for m in bodies:
             code = Code(m, names)
+            size = len(m.header_bytes()) + code.length
+            if m.handlers and at // 256 < (at + size) // 256:       # places of one method differ in their lower byte alone
+                laid, at = laid + bytes(-at % 256), at + -at % 256
             self.codes[id(m)], self.offsets[id(m)], self.handler_numbers[id(m)] = code, at, len(handlers) // 8
             start = at + len(m.header_bytes())
-            for number, (begin, end, entry, caught) in enumerate(m.handlers):
+            for number, (_, _, _, caught) in enumerate(m.handlers):
                 handlers += self.handler(m, number, start, code)
                 if caught is not None:
                     self.indices.append(1 + len(handlers) - 2)

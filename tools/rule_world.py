@@ -59,6 +59,8 @@ def rule_classes(tests):
             *constructor(), body("get", "-> S", token=1), body("size", "S -> S", token=6)]),
         Class("Sibling", "Parent", methods=constructor()),
         Class("Hollow", "Parent", methods=[*constructor(), abstract("hollow", "-> V", 6)]),
+        Class("Full", "Hollow", methods=[body("hollow", "-> V", token=6)]),
+        Class("Vacant", "Hollow", methods=constructor()),
         Class("Part", "Thing", [("Named", [2, 3])], methods=[
             *constructor(), body("size", "S -> S", token=2), body("name", "I Object -> S", token=3)]),
         Class("Alarm", "Throwable", methods=constructor()),
@@ -88,7 +90,7 @@ def pool():
     entries.update({"Object.equals": (3, "Object", 0), "Thing.put": (3, "Thing", 1), "Child.size": (3, "Child", 6),
                     "Child.next": (3, "Child", 3), "Hollow.hollow": (3, "Hollow", 6)})
     entries.update({"super.get": (4, "Child", 1), "super.near": (4, "Child", VISIBLE), "super.put": (4, "Part", 1),
-                    "super.hollow": (4, "Tests", 3)})
+                    "super.next": (4, "Tests", 3), "super.hollow": (4, "Full", 6)})
     entries.update(("Parent." + name, (6, "Parent", name)) for name in ("init", "initS", "hidden", "twice", "sum", "make", "many"))
     entries.update((name + ".init", (6, name, "init")) for name in ("Child", "Sibling", "Hollow", "Alarm"))
     entries.update({"bare.get": (6, "Parent", "get"), "bare.hollow": (6, "Hollow", "hollow"),
@@ -133,6 +135,24 @@ class Rules(Writer):
         if change.fault is None:
             return "accepted "
         return told("refused package 1 method %s %s" % (self.name_of(m), self.line(m, change)))
+
+
+class Root(Writer):
+    """A base package in which object has an abstract method, and throwable one in its place; the classes below have the tests."""
+
+    def __init__(self, tests):
+        run = Method("run", "-> V", PUBLIC + ABSTRACT, 0, 0, is_compact=True)
+        classes = [Class("Object", methods=[run]), Class("Throwable", "Object", methods=[body("run", "-> V", token=0)]),
+                   *(Class(name, "Throwable") for name in ROLES[2:]), Class("Tests", "Throwable", methods=tests)]
+        super().__init__(b"\xf0root!", classes, {
+            "Object.run": (3, "Object", 0), "Throwable.run": (3, "Throwable", 0), "super.run": (4, "Tests", 0), "above.run": (4, "Throwable", 0)})
+        self.tests = tests
+
+    def name_of(self, m):
+        return "%d.%d" % (len(ROLES), self.tests.index(m))
+
+    def wanted(self, m, change):
+        return "refused package 0 method %s %s" % (self.name_of(m), self.line(m, change))
 
 
 # ---- types, as a line of the program tells them
