@@ -3,10 +3,10 @@ of cells that move, and of objects before their constructor ran."""
 from instructions import BRANCHES, BY_OPCODE, POOL, POOL_BYTE, SIZES
 from rule_cases import PUSHES, Rule, push, rule_asks
 from rule_package import Method
-from rule_world import Root
+from rule_world import ENTRIES, Root
 
 LEFT_OUT, UNUSED = (113, 114, 254, 255), range(185, 254)
-BEYOND = 250        # no entry of the pool
+BEYOND = 250        # no entry of the pool has this number
 
 
 # ---- decoding
@@ -100,17 +100,18 @@ def switch_targets():
 
 # ---- members
 
-ENTRIES = {
+NAMED = {
     "a class": "Parent", "an interface": "Own", "a field of references": "Parent.a", "a boolean field": "Parent.z", "a byte field": "Parent.b",
     "a short field": "Parent.s", "an int field": "Parent.i", "a virtual method": "Parent.get", "a method of the superclass": "super.get",
     "a static field of references": "theParent", "a static boolean": "theBoolean", "a static byte": "theByte", "a static short": "theShort",
     "a static int": "theInt", "a static method": "Parent.twice", "a constructor": "Parent.init", "a private method": "Parent.hidden",
-    "an abstract method by its offset": "bare.hollow", "an abstract method of the superclass": "super.hollow", "nothing": BEYOND,
+    "an abstract method by its offset": "bare.hollow", "an abstract method of the superclass": "super.hollow",
+    "an inherited virtual method": "Child.next", "the entry after the last": len(ENTRIES), "an entry far beyond": BEYOND,
 }
 FIELDS = {"a": ("a field of references",), "b": ("a boolean field", "a byte field"), "s": ("a short field",), "i": ("an int field",)}
 STATICS = {"a": ("a static field of references",), "b": ("a static boolean", "a static byte"), "s": ("a static short",), "i": ("a static int",)}
 SERVING = {
-    "invokevirtual": ("a virtual method",), "invokespecial": ("a method of the superclass", "a constructor", "a private method"),
+    "invokevirtual": ("a virtual method", "an inherited virtual method"), "invokespecial": ("a method of the superclass", "a constructor", "a private method"),
     "invokestatic": ("a static method",), "invokeinterface": ("an interface",), "new": ("a class", "an interface"),
     "anewarray": ("a class", "an interface"), "checkcast": ("a class", "an interface"), "instanceof": ("a class", "an interface"),
 }
@@ -142,10 +143,10 @@ def member_kinds():
             continue
         name, (at, size) = row[0], index_offset(row)
         method = Method(name + ", members", stack=10, registers=1)
-        good = EXAMPLES.get(name) or "%s %s" % (name, ENTRIES[serving(name)[0]])
+        good = EXAMPLES.get(name) or "%s %s" % (name, NAMED[serving(name)[0]])
         pushes = before_member(name)
         refused = len(pushes)
-        for told, entry in ENTRIES.items():
+        for told, entry in NAMED.items():
             if told in serving(name):
                 continue
             method.change(name + ": names " + told, refused, at, entry, "BadMember")
@@ -175,6 +176,8 @@ def other_members():
     method.snip("aconst_null; iconst_1; aconst_null; invokeinterface 4 Named 1; pop",
                 ("invokeinterface: a method that another interface describes", 3, 4, 0, 3, "BadMember"),
                 ("invokeinterface: an int is two words", 3, 1, 3, 3, "BadMember"))
+    method.snip("aconst_null; sconst_1; invokeinterface 2 Sized 0; pop", (
+        "invokeinterface: what the interface extends describes the method", 2, 3, "Named", 2, "BadMember"))
     method.snip("new Parent; pop", ("new: an interface", 0, 2, "Own", 0, "NotConcrete"),
                 ("new: a class with an abstract method", 0, 2, "Hollow", 0, "NotConcrete"),
                 ("new: a class that inherits an abstract method", 0, 2, "Vacant", 0, "NotConcrete"),
@@ -189,6 +192,8 @@ def other_members():
                ("putfield_s_this: then the stack", 0, 0, "putfield_s_this", 0, "Underflow"))
     for name in ("astore", "sstore", "istore", "aload", "sload", "iload"):
         order.snip("bspush 77; pop", ("%s: the register is asked first" % name, 0, 0, name, 0, "NoLocal 77"))
+    order.snip("sconst_1; sstore_0; bspush Parent.s; pop", (
+        "putfield_s_this: the cell is asked before the class of register 0", 2, 0, "putfield_s_this", 2, "Underflow"))
     yield order.snip("return")
     bare = Method("no registers and no operands", stack=4)
     bare.snip("bspush Parent.s; pop", ("putfield_s_this: the register is asked before the stack", 0, 0, "putfield_s_this", 0, "NoLocal 0"))
@@ -248,6 +253,8 @@ def split_ints(text, depth, cuts):
     for cut in cuts:
         method.snip("; ".join([*["sconst_1"] * depth, "sconst_1", *["sconst_1"] * (cut - 1), text, "return"]), (
             "%s: an int lies across cut %d" % (text, cut), depth, 0, "iconst_1", depth + cut, "SplitInt"))
+        if cut + 1 not in cuts:     # an int right below a cut
+            method.add("; ".join(["iconst_1", *["sconst_1"] * depth, "iconst_1", *["sconst_1"] * cut, text, "return"]))
     if min(cuts) > 1:
         method.add("; ".join([*["sconst_1"] * depth, "iconst_1", text, "return"]))
     return method.snip("return")

@@ -54,6 +54,9 @@ def load_of_two(text, kind, number):
             method.snip("%s; %s %d; %s; %s" % (PUSHES[pushed], store_of(pushed), SPARE, text, drop(kind)), (
                 "%s: the register had %s and %s" % (text, right.replace("low", ""), pushed.replace("low", "")), 1, 1, number, 2,
                 "Mismatch found top wanted " + {"a": "class Object", "s": "short", "i": "inthigh"}[kind]))
+    if text.startswith("iload "):
+        at = method.add("sconst_1; sstore 10; sconst_1; sstore 11; %s; pop2" % text)
+        method.change("iload: the first register comes first", at + 4, 1, 10, "Mismatch found short wanted inthigh")
     method.add("return")
     return method
 
@@ -121,7 +124,9 @@ def increments():
                     method.snip("%s; %s 215; %s %d 1" % (PUSHES[pushed], store_of(pushed), text, at), (
                         "%s: register %d is %s" % (text, at + found[0], found[1]), 1, 1, at + shift, 2, "Mismatch found %s wanted %s" % found[1:]))
                     at += 3
-        method.add("%s; %s 0; %s 0 -1; return" % (PUSHES[KINDS[kind][1]], store_of(KINDS[kind][1]), text))
+        at = method.add("sconst_1; sstore 210; sconst_1; sstore 211; %s; %s 0; %s 0 -1; return" % (PUSHES[KINDS[kind][1]], store_of(KINDS[kind][1]), text))
+        if kind == "i":
+            method.change(text + ": the first register comes first", at + 6, 1, 210, "Mismatch found short wanted inthigh")
         yield method
         held = Method(text + ", then a load", registers=SPARE)
         held.add(text + " 4 -1")
@@ -188,6 +193,7 @@ def arguments():
         yield method
 
 
+RETURNED = {"areturn": "class Object", "sreturn": "short", "ireturn": "inthigh", "return": "bottom"}      # as a refusal tells it
 RETURNS = {"V": "return", "I": "ireturn", "Z": "sreturn", "B": "sreturn", "S": "sreturn"}
 
 
@@ -201,7 +207,9 @@ def results():
         for other in ("areturn", "sreturn", "ireturn", "return"):
             if other != own:
                 at = before.count(";")
-                method.snip(before + own, ("%s where the result is %s" % (other, kind), at, 0, other, at, "Mismatch"))
+                wanted = {"V": "bottom", "I": "inthigh"}.get(kind) or type_told(kind)
+                method.snip(before + own, ("%s where the result is %s" % (other, kind), at, 0, other, at,
+                                           "Mismatch found %s wanted %s" % (RETURNED[other], wanted)))
         for pushed in PUSHES if kind != "V" else ():
             if not serves(rule.asks[0], pushed):
                 rule.add_refused(method, 0, pushed)

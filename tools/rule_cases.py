@@ -238,6 +238,33 @@ def objects():
         yield Rule("instanceof %s %s" % (kind, name), "object", "short")
 
 
+def elements():
+    """What is loaded from an array of a class is of this class."""
+    method = Method("aaload, elements", stack=4)
+    for name, element in (("theParents", "Parent"), ("theChildren", "Child"), ("theObjects", "Object"), ("theOwns", "Object")):
+        method.snip("getstatic_a %s; sconst_1; aaload; nop; pop" % name, (
+            "aaload: gives class " + element, 3, 0, "sneg", 3, "Mismatch found class %s wanted short" % element))
+        method.add("getstatic_a %s; sconst_1; aaload; putstatic_a the%s" % (name, element))
+    return method.snip("return")
+
+
+def rooms():
+    """Where a demand is not met and room lacks too, the demand comes first."""
+    for before, text, at, given, fault in (
+            ("aconst_null", "nop", 0, "s2i", "Mismatch found null wanted short"), ("iconst_1", "nop", 0, "dup", "SplitInt"),
+            ("iconst_1; sconst_1", "nop", 0, "dup2", "SplitInt"),
+            ("sconst_1", "sinc 0 Parent.i", 0, "getfield_i_w", "Mismatch found short wanted class Parent"),
+            ("iconst_1; sconst_1", "sstore 34", 0, "dup_x", "SplitInt"), ("iconst_1; sconst_1", "sstore 36", 0, "dup_x", "SplitInt"),
+            ("sconst_1; sconst_1", "sstore Parent.i", 0, "getfield_i", "Mismatch found short wanted class Parent")):
+        method = Method("%s, a demand before the room" % given, stack=cells(PUSHED[one] for one in before.split("; ")), registers=100)
+        number = before.count(";") + 1
+        yield method.snip("%s; %s; return" % (before, text), (
+            "%s in place of %s: the demand comes before the room" % (given, text.split()[0]), number, at, given, number, fault))
+
+
+PUSHED = {"aconst_null": "object", "sconst_1": "short", "iconst_1": "int"}
+
+
 def families():
     """The methods of each family of instructions, by the family's name."""
     for name, rules in (("constants", constants), ("arrays", arrays), ("arithmetic", arithmetic), ("branches", branches), ("fields", fields),
@@ -247,4 +274,5 @@ def families():
             rule.kinds = FEW if tuple(rule.asks) in seen else rule.kinds
             seen.add(tuple(rule.asks))
             methods += [one for one in (rule.method(), rule.room()) if one]
-        yield name, methods
+        yield name, methods + ([elements()] if name == "arrays" else [])
+    yield "room", list(rooms())
