@@ -54,8 +54,8 @@ def rule_asks(name):
 
 
 class Rule:
-    """An instruction with what it asks of the cells, from the top down, and what it gives: a type, `int` or nothing. Types that
-    are left out are tried otherwise."""
+    """An instruction with what it asks of the cells, from the top down, and what it gives: a type, `int`, `two` cells or nothing.
+    Types that are left out are tried otherwise."""
 
     def __init__(self, text, asks="", gives=None, without=()):
         self.text, self.asks, self.gives, self.without = text, asks.split(), gives, without
@@ -250,19 +250,16 @@ def elements():
 
 def rooms():
     """Where a demand is not met and room lacks too, the demand comes first."""
-    for before, text, at, given, fault in (
-            ("aconst_null", "nop", 0, "s2i", "Mismatch found null wanted short"), ("iconst_1", "nop", 0, "dup", "SplitInt"),
-            ("iconst_1; sconst_1", "nop", 0, "dup2", "SplitInt"),
-            ("sconst_1", "sinc 0 Parent.i", 0, "getfield_i_w", "Mismatch found short wanted class Parent"),
-            ("iconst_1; sconst_1", "sstore 34", 0, "dup_x", "SplitInt"), ("iconst_1; sconst_1", "sstore 36", 0, "dup_x", "SplitInt"),
-            ("sconst_1; sconst_1", "sstore Parent.i", 0, "getfield_i", "Mismatch found short wanted class Parent")):
-        method = Method("%s, a demand before the room" % given, stack=cells(PUSHED[one] for one in before.split("; ")), registers=100)
-        number = before.count(";") + 1
-        yield method.snip("%s; %s; return" % (before, text), (
-            "%s in place of %s: the demand comes before the room" % (given, text.split()[0]), number, at, given, number, fault))
-
-
-PUSHED = {"aconst_null": "object", "sconst_1": "short", "iconst_1": "int"}
+    wrong_object = "Mismatch found short wanted class Parent"
+    for before, former, given, fault in (
+            ("aconst_null", "nop", "s2i", "Mismatch found null wanted short"), ("iconst_1", "nop", "dup", "SplitInt"),
+            ("iconst_1; sconst_1", "nop", "dup2", "SplitInt"), ("sconst_1", "sinc 0 Parent.i", "getfield_i_w", wrong_object),
+            ("iconst_1; sconst_1", "sstore 34", "dup_x", "SplitInt"), ("iconst_1; sconst_1", "sstore 36", "dup_x", "SplitInt"),
+            ("sconst_1; sconst_1", "sstore Parent.i", "getfield_i", wrong_object)):
+        pushes = before.split("; ")
+        method = Method("%s in place of %s" % (given, former), registers=100, stack=len(pushes) + before.count("iconst"))
+        yield method.snip("%s; %s; return" % (before, former), (
+            "%s: the demand comes before the room" % given, len(pushes), 0, given, len(pushes), fault))
 
 
 def families():
