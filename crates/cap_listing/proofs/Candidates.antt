@@ -115,12 +115,15 @@ heading-read line name a stack b args d locals f class_no method_no max_stack na
     let n = decimal m.laid.nargs in
     let l = decimal m.laid.max_locals in
     let plain = head-plain m h in
+    let from_stack = plain.1.1 in
+    let from_args = from_stack.1.1 in
+    let from_locals = from_args.1.1 in
     let last = codes "locals" ∷ l ∷ [] in
     let after_name = codes "args" ∷ n ∷ last in
     let w1 = one (codes "method") (decimal m.class_no ++ 46 ∷ decimal m.method_no) (codes "stack" ∷ s ∷ after_name) plain.0 plain.1.0 e in
-    let w2 = two (codes "stack") s after_name plain.1.1.0 plain.1.1.1.0 w1.1 in
-    let w3 = three (codes "args") n last plain.1.1.1.1.0 plain.1.1.1.1.1.0 w2.1 in
-    let w4 = four (codes "locals") l [] plain.1.1.1.1.1.1.0 plain.1.1.1.1.1.1.1.0 w3.1 in
+    let w2 = two (codes "stack") s after_name from_stack.0 from_stack.1.0 w1.1 in
+    let w3 = three (codes "args") n last from_args.0 from_args.1.0 w2.1 in
+    let w4 = four (codes "locals") l [] from_locals.0 from_locals.1.0 w3.1 in
     let numbers = names m.class_no m.method_no (omega (arith, h.class_no)) (omega (arith, h.method_no)) w1.0 in
     ap (λ (x : ℕ). mk-heading x method_no max_stack nargs max_locals) numbers.0
     ∙ ap (λ (x : ℕ). mk-heading m.class_no x max_stack nargs max_locals) numbers.1
@@ -138,13 +141,14 @@ pub handler-read : (line first a second b third d fourth f : List ℕ) (start en
 unfolding mk-handler
 handler-read line first a second b third d fourth f start end length entry pool one two three four starts ends long entries pools h fits e =
     let plain = handler-plain h fits in
+    let from_end = plain.1.1 in
     let w = decimal (h.start + h.length) in
     let x = decimal h.entry in
     let y = decimal h.pool in
     let w1 = one (codes "handler") (decimal h.start) (w ∷ x ∷ y ∷ []) plain.0 plain.1.0 e in
-    let w2 = two w (x ∷ y ∷ []) plain.1.1.0 w1.1 in
-    let w3 = three x (y ∷ []) plain.1.1.1.0 w2.1 in
-    let w4 = four y [] plain.1.1.1.1.0 w3.1 in
+    let w2 = two w (x ∷ y ∷ []) from_end.0 w1.1 in
+    let w3 = three x (y ∷ []) from_end.1.0 w2.1 in
+    let w4 = four y [] from_end.1.1.0 w3.1 in
     let s = starts h.start fits.start w1.0 in
     let n = ends (h.start + h.length) fits.end w2.0 in
     let l : length ≡ h.length = omega (arith, long, s, n) in

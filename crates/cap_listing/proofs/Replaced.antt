@@ -22,7 +22,7 @@ use Rattle.jc_decode.specs.declared.symbols.LaidHandler.{LaidHandler}
 use Rattle.law_package.specs.Changes.{changes, changes_of, laid_but, now_at, sources_from}
 use Rattle.law_package.specs.Rewritten.{bare_class, bare_method, IsRewritten}
 use Rattle.law_package.specs.Written.{HasCode, IsAs}
-use Rattle.law_package.proofs.Agreed.{agrees}
+use Rattle.cap_package.proofs.Agreed.{agrees}
 use Rattle.law_package.proofs.Bare.{but_same, same_interfaces}
 use Rattle.law_package.proofs.Facts.{Fact, facts, plain}
 use Rattle.law_package.proofs.Headers.{moved}

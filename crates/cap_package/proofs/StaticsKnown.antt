@@ -21,6 +21,7 @@ use Rattle.cap_package.specs.Agreement.{IsPackage}
 use Rattle.cap_package.specs.StaticPlaces.{static_places, IsStaticPlace, AreApart}
 use Rattle.cap_package.proofs.FieldTypes.{IsFieldType, field_typed}
 use Rattle.cap_package.proofs.OneRecord.{answer_is}
+use Rattle.cap_package.proofs.Agreed.{agrees}
 
 -- ---- where nothing is at fault, each thing is right
 
@@ -40,6 +41,12 @@ none_of f (x ∷ xs) h = none_first f xs (f x) (none_of f xs) h
 pub both_empty : {X : Type 0} (xs ys : List X) → xs ++ ys ≡ [] → (xs ≡ []) × (ys ≡ [])
 both_empty [] ys h = (refl, h)
 both_empty (x ∷ xs) ys h = absurd cc
+
+pub three_empty : {X : Type 0} (xs ys zs : List X) → (xs ++ ys) ++ zs ≡ [] → (xs ≡ []) × (ys ≡ []) × (zs ≡ [])
+three_empty xs ys zs h =
+    let (front, last) = both_empty (xs ++ ys) zs h in
+    let (first, second) = both_empty xs ys front in
+    (first, second, last)
 
 none_front : {X Y : Type 0} (f : X → Option Y) (xs ys : List X) → NoneOf f (xs ++ ys) → NoneOf f xs
 none_front f [] ys h = tt {0}
@@ -130,12 +137,10 @@ places_known s d (f ∷ fs) images fills = place_first s d f fs (place_in d f) r
 -- the static fields of a package lie where they must
 pub statics_known : (p : PackageRecord) → IsPackage p → All (IsStaticPlace p.statics) (static_places p)
 statics_known p h =
-    let agree = (answer_is p.parts p h).agree in
-    let none = agree.1.1.1.1.1.1.1.1.1.1.1.1.1.1.1.1.1.1.1.1.0 in
-    let both = both_empty (filter_map (image_fault p.statics p.description) (fields p))
-    (filter_map (filled_fault (array_kinds p.statics.arrays) p.description) (fields p)) none in
-    places_known p.statics p.description (fields p) (none_of (image_fault p.statics p.description) (fields p) both.0)
-    (none_of (filled_fault (array_kinds p.statics.arrays) p.description) (fields p) both.1)
+    let agreed = agrees p.parts p (answer_is p.parts p h).agree in
+    let (inside, filled) = both_empty _ _ agreed.places in
+    places_known p.statics p.description (fields p) (none_of (image_fault p.statics p.description) (fields p) inside)
+    (none_of (filled_fault (array_kinds p.statics.arrays) p.description) (fields p) filled)
 
 -- ---- fields that share no byte stand apart
 
@@ -186,6 +191,5 @@ all_apart d (f ∷ fs) none =
 -- the static fields of a package share no byte
 pub statics_apart : (p : PackageRecord) → IsPackage p → AreApart (static_places p)
 statics_apart p h =
-    let agree = (answer_is p.parts p h).agree in
-    let none = agree.1.1.1.1.1.1.1.1.1.1.1.1.1.1.1.0 in
-    all_apart p.description (fields p) (none_of (share_pair p.description) (pairs (fields p)) none)
+    let agreed = agrees p.parts p (answer_is p.parts p h).agree in
+    all_apart p.description (fields p) (none_of (share_pair p.description) (pairs (fields p)) agreed.statics)

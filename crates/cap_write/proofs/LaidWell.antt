@@ -9,7 +9,7 @@ use Rattle.cap_package.specs.StandsFor.{StandsFor}
 use Rattle.cap_laying.specs.HandlerTable.{AreInside}
 use Rattle.jc_decode.specs.declared.symbols.Laid.{Laid}
 use Rattle.law_package.proofs.Lists.{Each}
-use Rattle.law_package.proofs.Agreed.{agrees}
+use Rattle.cap_package.proofs.Agreed.{agrees}
 use Rattle.law_package.proofs.Facts.{WasWell, wells}
 use Rattle.cap_write.specs.Condition.{handler_sum, no_method, methods_for, IsElement, AreElements, MayBeLaid}
 

@@ -9,6 +9,7 @@ use Rattle.cap_components.specs.MethodPlaces.{size_by}
 use Rattle.cap_components.specs.Parts.{Lent}
 use Rattle.cap_components.specs.PackageRecord.{PackageRecord, described_methods, names_interface}
 use Rattle.cap_package.specs.StandsFor.{StandsFor}
+use Rattle.cap_package.proofs.Agreed.{agrees}
 use Rattle.jc_decode.specs.declared.symbols.Laid.{Laid}
 use Rattle.cap_laying.specs.declared.member.Body.{Body}
 use Rattle.cap_laying.specs.declared.member.Body.TheVariants.{Code, Header}
@@ -228,8 +229,9 @@ may_be_written parts p ls ms stands may e =
     let set = names_interface p.classes in
     let info = p.methods.info in
     let cs = p.description.items.classes in
-    let ends : AllEnd info (described_methods p) = all_end info (length p.methods.handlers) (described_methods p) stands.agree.1.1.1.0 in
-    let apart : AreDistinct (map offset_of (described_methods p)) = all_apart info (described_methods p) ends stands.agree.1.1.0 in
+    let agreed = agrees parts p stands.agree in
+    let ends : AllEnd info (described_methods p) = all_end info (length p.methods.handlers) (described_methods p) agreed.outside in
+    let apart : AreDistinct (map offset_of (described_methods p)) = all_apart info (described_methods p) ends agreed.overlaps in
     let good : AreGood (length info) (map member_seen ms) = subst (AreGood (length info)) (sym e)
     (good_classes set info cs ls ends (laid_well parts p ls stands may)) in
     let offsets : map seen_offset (map member_seen ms) ≡ map offset_of (described_methods p) = ap (map seen_offset) e ∙ offsets_classes set info cs ls in

@@ -1,6 +1,6 @@
 -- The sizes that the Directory of a package tells are those of its parts.
-use Rattle.std.proofs.Common.{◌≡◌, ◌≤◌, ◌<◌, ◌+◌, ◌-◌, ℕ, zero, suc, Bool, true, false, cond, List, [], ◌∷◌, ◌++◌, length}
-use Rattle.std.proofs.Common.{map, find, filter_map, Option, Some, None, Result, Ok, Err, ◌⊎◌, inl, inr, refl, sym, ap, subst, ◌∙◌, arith}
+use Rattle.std.proofs.Common.{◌≡◌, ◌≤◌, ◌<◌, ◌+◌, ◌-◌, ℕ, zero, suc, Bool, true, false, cond, List, [], ◌∷◌, length}
+use Rattle.std.proofs.Common.{map, find, Option, Some, None, Result, Ok, Err, ◌⊎◌, inl, inr, refl, sym, ap, subst, ◌∙◌, arith}
 use Rattle.std.specs.Prelude.{◌==◌, ◌&&◌, nat_le, slice_get, slice_index, unwrap_or, is_some, if◌then◌else◌}
 use Rattle.std.proofs.lemmas.Bool.{cases_eq, eqb-true}
 use Rattle.std.proofs.lemmas.Bool.Decides.{nat_tests}
@@ -20,16 +20,16 @@ use Rattle.cap_components.specs.declared.fault.PackFault.TheVariants.{MissingPar
 use Rattle.cap_components.specs.Parts.{Lent, held}
 use Rattle.cap_components.specs.Components.{framed, info_in}
 use Rattle.cap_components.specs.PackageRecord.{PackageRecord}
-use Rattle.cap_components.specs.PartChecks.{required, optional, components, custom_tags, absent_fault, absent_by, sized_fault, form_fault, form_by, size_fault}
+use Rattle.cap_components.specs.PartChecks.{optional, components, custom_tags, absent_fault, absent_by, sized_fault, form_fault, form_by, size_fault}
 use Rattle.cap_components.specs.PartChecks.{size_by}
 use Rattle.cap_components.specs.Saying.{HoldsComponent, SaysIf}
 use Rattle.cap_components.proofs.Saying.{info-read, formed_ok}
 use Rattle.cap_package.specs.FirstFault.{missing_parts}
 use Rattle.cap_package.specs.StandsFor.{StandsFor}
-use Rattle.cap_package.proofs.StaticsKnown.{both_empty}
+use Rattle.cap_package.proofs.StaticsKnown.{both_empty, three_empty}
 use Rattle.law_package.specs.RewrittenPackage.{IsSizeOf}
 use Rattle.law_package.proofs.Lists.{Each, Has, each_at, none_each}
-use Rattle.law_package.proofs.Agreed.{agrees}
+use Rattle.cap_package.proofs.Agreed.{agrees}
 use Rattle.law_package.proofs.Sized.{directory_read}
 use Rattle.cap_laying.specs.NewDirectory.{new_size, sizes_from}
 use Rattle.cap_laying.specs.declared.sizes.ComponentSizes.{ComponentSizes}
@@ -104,16 +104,14 @@ has_told p s =
     let d = p.directory in
     let a = agrees parts p s.agree in
     let m : missing_parts parts (Ok d) ≡ [] = ap (missing_parts parts) (sym (directory_read parts p s.said)) ∙ s.missing in
-    let both = both_empty (filter_map (absent_fault parts) required ++ filter_map (sized_fault parts d) optional)
-    (filter_map (sized_fault parts d) (custom_tags d)) m in
-    let front = both_empty (filter_map (absent_fault parts) required) (filter_map (sized_fault parts d) optional) both.0 in
-    let sizes = both_empty (filter_map (size_fault parts d) components) (filter_map (size_fault parts d) (custom_tags d)) a.sizes in
+    let (required_there, optional_sized, customs_sized) = three_empty _ _ _ m in
+    let (sizes, custom_sizes) = both_empty _ _ a.sizes in
     record {
-      optional_sized = none_each (sized_fault parts d) optional front.1;
-      customs_sized = none_each (sized_fault parts d) (custom_tags d) both.1;
+      optional_sized = none_each (sized_fault parts d) optional optional_sized;
+      customs_sized = none_each (sized_fault parts d) (custom_tags d) customs_sized;
       forms = none_each (form_fault parts) (custom_tags d) a.forms;
-      sizes = none_each (size_fault parts d) components sizes.0;
-      custom_sizes = none_each (size_fault parts d) (custom_tags d) sizes.1;
+      sizes = none_each (size_fault parts d) components sizes;
+      custom_sizes = none_each (size_fault parts d) (custom_tags d) custom_sizes;
     }
 
 -- of a component, its size is told
@@ -137,20 +135,26 @@ pub record TellsSizes (p : PackageRecord) : Type 0 where
   pub description : Tells p 11
 
 pub tells_sizes : (p : PackageRecord) → StandsFor p.parts p → TellsSizes p
-tells_sizes p s =
-    let t = has_told p s in
-    let z = t.sizes in
-    let d = p.directory in
-    record {
-      header = λ size e. told_said p.parts d 1 size header_info s.said.header.0 p.header s.said.header.1 e z.0;
-      applets = told_if p 3 _ p.applets s.said.applets t.optional_sized.0 z.1.1.0;
-      imports = λ size e. told_said p.parts d 4 size _ s.said.imports.0 p.imports s.said.imports.1 e z.1.1.1.0;
-      pool = λ size e. told_said p.parts d 5 size _ s.said.pool.0 p.pool s.said.pool.1 e z.1.1.1.1.0;
-      classes = λ size e. told_said p.parts d 6 size _ s.said.classes.0 p.classes s.said.classes.1 e z.1.1.1.1.1.0;
-      statics = λ size e. told_said p.parts d 8 size _ s.said.statics.0 p.statics s.said.statics.1 e z.1.1.1.1.1.1.1.0;
-      export = told_if p 10 _ p.export s.said.export t.optional_sized.1.0 z.1.1.1.1.1.1.1.1.1.0;
-      description = λ size e. told_said p.parts d 11 size _ p.description.info p.description.items s.said.description e z.1.1.1.1.1.1.1.1.1.1.0;
-    }
+tells_sizes p s = told_each t.sizes
+  where
+    t : HasTold p.parts p
+    t = has_told p s
+
+    d : DirectoryItems
+    d = p.directory
+
+    told_each : Each (λ tag. size_fault p.parts p.directory tag ≡ None) components → TellsSizes p
+    told_each (header, (directory, (applets, (imports, (pool, (classes, (methods, (statics, (references, (export, (description, done))))))))))) =
+        record {
+          header = λ size e. told_said p.parts d 1 size header_info s.said.header.0 p.header s.said.header.1 e header;
+          applets = told_if p 3 _ p.applets s.said.applets t.optional_sized.0 applets;
+          imports = λ size e. told_said p.parts d 4 size _ s.said.imports.0 p.imports s.said.imports.1 e imports;
+          pool = λ size e. told_said p.parts d 5 size _ s.said.pool.0 p.pool s.said.pool.1 e pool;
+          classes = λ size e. told_said p.parts d 6 size _ s.said.classes.0 p.classes s.said.classes.1 e classes;
+          statics = λ size e. told_said p.parts d 8 size _ s.said.statics.0 p.statics s.said.statics.1 e statics;
+          export = told_if p 10 _ p.export s.said.export t.optional_sized.1.0 export;
+          description = λ size e. told_said p.parts d 11 size _ p.description.info p.description.items s.said.description e description;
+        }
 
 found_has : (cs : List Custom) (tag : ℕ) (c : Custom) → find (has_tag tag) cs ≡ Some c → Has (map (λ (x : Custom). x.tag) cs) tag
 found_has [] tag c e = absurd (cc)

@@ -108,6 +108,9 @@ due-tells t classes methods r due = told-by t classes methods (classes_agree t c
 
 pub told_short : (t : LineTable) (classes : List NamedClass) (methods : List MethodRec) → Ok (tt {0}) ≡ classes_agree t classes methods
     → long_instances t classes ≡ []
-told_short t classes methods e = (told_empty t classes methods e).1.1.1.0
+told_short t classes methods e = none_long (told_empty t classes methods e)
+  where
+    none_long : AllEmpty (conditions t classes methods) → long_instances t classes ≡ []
+    none_long (holes, (overrides, (unserved, (long, done)))) = long
 
 pub ruleset telling = (told_first, told_empty, told_short, layouts_count)

@@ -107,14 +107,14 @@ interfaces-none cs c r e at =
     (none-all (not_interface_fault cs) (λ (i : Iface). (c, i)) r.interfaces own)
 
 pub no_fault : (cs : List NamedClass) (first : ℕ) (roles : List ℕ) → AllEmpty (conditions cs first roles) → NoFault cs first roles
-no_fault cs first roles e = record {
-  supers = λ c p r at named. super-none cs c p r (none-numbered (super_fault cs) cs c r e.0 at) named;
-  cycles = λ c r at. cycle-none cs c r (none-numbered (cycle_fault cs) cs c r e.1.0 at);
-  fitting = λ k c at. role-none cs first (slice_index roles 1) k c (none-numbered (role_fault cs first (slice_index roles 1)) roles k c e.1.1.0 at);
+no_fault cs first roles (supers, (cycles, (fitting, (roots, (interfaces, done))))) = record {
+  supers = λ c p r at named. super-none cs c p r (none-numbered (super_fault cs) cs c r supers at) named;
+  cycles = λ c r at. cycle-none cs c r (none-numbered (cycle_fault cs) cs c r cycles at);
+  fitting = λ k c at. role-none cs first (slice_index roles 1) k c (none-numbered (role_fault cs first (slice_index roles 1)) roles k c fitting at);
   rootless =
-      λ r at plain. rootless-is (slice_index roles 0) r (none-numbered (root_fault (slice_index roles 0)) cs (slice_index roles 0) r e.1.1.1.0 at) plain;
+      λ r at plain. rootless-is (slice_index roles 0) r (none-numbered (root_fault (slice_index roles 0)) cs (slice_index roles 0) r roots at) plain;
   rooted =
       λ c r at plain none. rooted-is (slice_index roles 0) c (c == slice_index roles 0) r refl
-      (none-numbered (root_fault (slice_index roles 0)) cs c r e.1.1.1.0 at) plain none;
-  interfaces = λ c r at. interfaces-none cs c r e.1.1.1.1.0 at;
+      (none-numbered (root_fault (slice_index roles 0)) cs c r roots at) plain none;
+  interfaces = λ c r at. interfaces-none cs c r interfaces at;
 }

@@ -378,17 +378,17 @@ tables_linked packages t classes methods s = λ c. by c (slice_get classes c) re
 pub links : (t : LineTable) (classes : List NamedClass) (methods : List MethodRec) (table : ClassTable) → table ≡ class_tables t classes
     → t ≡ outline classes t.roles → AreLines t → HaveSuperclasses t classes → HaveLines classes t → AllEmpty (conditions t classes methods)
     → Links t classes methods table
-links t classes methods table e o are known lines empty = λ packages named_all.
+links t classes methods table e o are known lines (holes, (overrides, (unserved, (long, done)))) = λ packages named_all.
     subst (λ (u : ClassTable). AreLinkedClasses packages u methods) (sym e) (tables_linked packages t classes methods (record {
       outline = record { is = o };
       are = are;
       known = known;
       lines = lines;
       named = named_all;
-      holes = empty.0;
-      overrides = empty.1.0;
-      unserved = empty.1.1.0;
-      long = empty.1.1.1.0;
+      holes = holes;
+      overrides = overrides;
+      unserved = unserved;
+      long = long;
     }))
 
 -- the table of an answer that is due is what a world needs of its classes

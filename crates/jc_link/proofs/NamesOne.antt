@@ -1,6 +1,6 @@
 -- Each import, class reference and pool entry of packages that link names one thing.
 use Rattle.std.proofs.Common.{◌≡◌, ℕ, zero, suc, ◌+◌, ◌<◌, Bool, true, false, cond, eqb, leb, List, [], ◌∷◌, length, take, Option, Some, None}
-use Rattle.std.proofs.Common.{refl, sym, ap, subst, ◌∙◌, arith, inl, inr, ◌++◌, map, position, option_and_then, ◌&&◌}
+use Rattle.std.proofs.Common.{refl, sym, ap, subst, ◌∙◌, arith, inl, inr, map, position, option_and_then, ◌&&◌}
 use Rattle.std.specs.Prelude.{slice_get, bytes_eq}
 use Rattle.std.specs.List.{position_from, filter_map}
 use Rattle.std.proofs.lemmas.Bool.{false≢true, and_parts, and_from, eqb-true, eq-eqb, leb-true, le-leb, cases_lt}
@@ -19,6 +19,8 @@ use Rattle.jc_resolve.specs.Conditions as names
 use Rattle.jc_resolve.specs.Conditions.{class_references, no_package_fault}
 use Rattle.jc_resolve.specs.References.{meets_import, import_of, met_by}
 use Rattle.jc_resolve.proofs.Faultless.{one_of_get, faultless_at, both_faultless}
+use Rattle.jc_resolve.proofs.ConditionLists.{AllEmpty-before, AllEmpty-after}
+use Rattle.jc_resolve.proofs.NamesFaultless.{names_faultless}
 use Rattle.jc_resolve.proofs.NamedClassLaws.{names-class}
 use Rattle.jc_resolve.proofs.ReferenceLaws.{named-refers, refers-only}
 use Rattle.jc_classes.proofs.Overlays.{slice_get-range}
@@ -71,14 +73,6 @@ taken-there (x ∷ xs) (suc k) zero lt = refl
 taken-there (x ∷ xs) (suc k) (suc i) lt = taken-there xs k i (omega (arith, lt))
 
 -- ---- conditions
-
-AllEmpty-before : {F : Type 0} (xs ys : List (List F)) → AllEmpty (xs ++ ys) → AllEmpty xs
-AllEmpty-before [] ys none = tt {0}
-AllEmpty-before (x ∷ xs) ys none = (none.0, AllEmpty-before xs ys none.1)
-
-AllEmpty-after : {F : Type 0} (xs ys : List (List F)) → AllEmpty (xs ++ ys) → AllEmpty ys
-AllEmpty-after [] ys none = none
-AllEmpty-after (x ∷ xs) ys none = AllEmpty-after xs ys none.1
 
 -- what the package of a number names is not at fault
 named-faultless : (fault : ℕ × ℕ → Option LinkFault) (f : PackageRecord → List ℕ) (j : ℕ) (ps : List PackageRecord) (k : ℕ) (p : PackageRecord)
@@ -152,7 +146,7 @@ module _ (ps : List PackageRecord) where
       let p = then_some (λ (p : PackageRecord). slice_get p.imports token) (slice_get ps k) asked is in
       let lt = slice_get_within p.0.imports token asked p.2 in
       let place : 0 + k ≡ k = omega arith in
-      let none-here = named-faultless (no_package_fault ps) names.import_tokens 0 ps k p.0 none.1.1.1.0 p.1 in
+      let none-here = named-faultless (no_package_fault ps) names.import_tokens 0 ps k p.0 (names_faultless ps none).imports p.1 in
       let fault = faultless_at (no_package_fault ps) (map (λ n. (0 + k, n)) (names.import_tokens p.0)) token (0 + k, token) none-here
       (slice_get-range (λ n. (0 + k, n)) (length p.0.imports) token lt) in
       met-some k token (met_by ps k token) refl (subst (λ i. no_package_fault ps (i, token) ≡ None) place fault)

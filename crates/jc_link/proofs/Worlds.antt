@@ -63,7 +63,7 @@ module _ (ps : List PackageRecord) (roles : List ℕ) where
 
   made : ConcreteIsDecided → (t : ClassTable) → IsTableOf ps roles t → AreNamed (infos_of ps) (slice_index roles 0) (classes_of ps roles)
       (methods_of ps roles) → AllEmpty (member_conditions ps roles) → AreKnownLists ps world_of → IsWorld world_of
-  made decided t is known none lists = record {
+  made decided t is known (static_cells, (members, (catches, (arrays, (abstract, done))))) lists = record {
     limits = record {
       packages = rw infos_count lists.packages;
       bytes = lists.bytes;
@@ -79,11 +79,11 @@ module _ (ps : List PackageRecord) (roles : List ℕ) where
     chains = table-chains ps roles t is;
     extension = none-extends-itself ps roles t is;
     classes = rw infos_count is.linked;
-    methods = methods-linked ps roles t is none.1.0 none.1.1.0 known;
+    methods = methods-linked ps roles t is members catches known;
     statics = rw infos_count (lists.fields lists.arrays (table_of ps roles) (statics-declared ps roles t is known));
     slots = lists.slots;
     arrays = lists.elements;
-    roles = are-roles decided ps roles t is none.1.1.1.1.0;
+    roles = are-roles decided ps roles t is abstract;
     one_index_each = indexes-each ps (methods_of ps roles);
   }
 

@@ -12,6 +12,14 @@ module _ {F : Type 0} where
   AllEmpty-append [] ys none others = others
   AllEmpty-append (x ∷ xs) ys none others = (none.0, AllEmpty-append xs ys none.1 others)
 
+  pub AllEmpty-before : (xs ys : List (List F)) → AllEmpty (xs ++ ys) → AllEmpty xs
+  AllEmpty-before [] ys none = tt {0}
+  AllEmpty-before (x ∷ xs) ys none = (none.0, AllEmpty-before xs ys none.1)
+
+  pub AllEmpty-after : (xs ys : List (List F)) → AllEmpty (xs ++ ys) → AllEmpty ys
+  AllEmpty-after [] ys none = none
+  AllEmpty-after (x ∷ xs) ys none = AllEmpty-after xs ys none.1
+
   pub IsFirst-append_left : (place : F → Place) (xs ys : List (List F)) (f : F) → IsFirst place xs f → IsFirst place (xs ++ ys) f
   IsFirst-append_left place [] ys f h = absurd h
   IsFirst-append_left place (x ∷ xs) ys f (inl least) = inl least

@@ -9,12 +9,11 @@ use Rattle.std.proofs.lemmas.List.Sums.{sum_by-cons}
 use Rattle.first_fault.proofs.LeastFaults.{faultless_first}
 use Rattle.cap_class.specs.ClassFormat.{Class}
 use Rattle.cap_desc.specs.DescriptorFormat as described
-use Rattle.cap_pool.specs.ExportFormat.{Exported}
-use Rattle.cap_package.specs.Agreement.{or_none}
-use Rattle.cap_package.specs.NameChecks.{undescribed_fault, undescribed_class_fault, not_own_fault}
+use Rattle.cap_package.specs.NameChecks.{undescribed_fault}
 use Rattle.cap_components.specs.declared.fault.PackFault.{PackFault}
 use Rattle.cap_package.specs.PackageRecord.{PackageRecord}
-use Rattle.cap_package.proofs.StaticsKnown.{both_empty}
+use Rattle.cap_package.proofs.Agreed.{agrees}
+use Rattle.cap_package.proofs.StaticsKnown.{three_empty}
 use Rattle.jc_resolve.specs.Described.{describes_at, IsDescribedOnce, AreDescribedOnce, place_at, spot_of_record}
 use Rattle.jc_resolve.specs.Named.{IsAgreed}
 use Rattle.jc_resolve.specs.NamedClasses.{describes}
@@ -146,9 +145,5 @@ module _ (ds : List described.ClassDescriptor) where
 
 pub described_once : (p : PackageRecord) → IsAgreed p → AreDescribedOnce p.description.items.classes p.classes
 described_once p agreed =
-    let ds = p.description.items.classes in
-    let undescribed = filter_map (undescribed_fault ds) p.classes in
-    let unnamed = filter_map (not_own_fault p.classes) (map (λ (d : described.ClassDescriptor). d.class_ref) ds) in
-    let unknown = filter_map (undescribed_class_fault p.classes) (map (λ (c : Exported). c.class_offset) (or_none p.export)) in
-    let all = both_empty (undescribed ++ unnamed) unknown agreed.agree.1.1.1.1.1.1.1.1.1.1.1.1.1.1.1.1.1.0 in
-    each_once ds p.classes (both_empty undescribed unnamed all.0).0
+    let (undescribed, not_own, unknown) = three_empty _ _ _ (agrees p.parts p agreed.agree).classes in
+    each_once p.description.items.classes p.classes undescribed

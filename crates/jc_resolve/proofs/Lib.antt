@@ -1,4 +1,5 @@
 pub mod ConditionLists
+pub mod NamesFaultless
 pub mod Totals
 pub mod NumberLaws
 pub mod NamedFaults

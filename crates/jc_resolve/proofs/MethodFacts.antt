@@ -1,5 +1,5 @@
 -- What holds of the methods that the Descriptor of a package describes, since its parts agree.
-use Rattle.std.proofs.Common.{◌≡◌, ℕ, ◌+◌, ◌≤◌, Bool, true, false, not, ◌&&◌, ◌||◌, ltb, eqb, cond, List, [], ◌++◌, length}
+use Rattle.std.proofs.Common.{◌≡◌, ℕ, ◌+◌, ◌≤◌, Bool, true, false, not, ◌&&◌, ◌||◌, ltb, eqb, cond, List, [], length}
 use Rattle.std.proofs.Common.{Option, Some, None, refl, sym, ap, arith}
 use Rattle.std.specs.Prelude.{All, MatchBool}
 use Rattle.std.specs.List.{enumerate_from, filter_map}
@@ -11,7 +11,7 @@ use Rattle.cap_components.specs.declared.count_kind.CountKind.TheVariants.{Argum
 use Rattle.cap_components.specs.declared.fault.PackFault.{PackFault}
 use Rattle.cap_components.specs.declared.fault.PackFault.TheVariants.{MethodLength, CountDisagrees, BadType}
 use Rattle.cap_package.specs.Descriptions.{Description, argument_words}
-use Rattle.cap_package.specs.HandlerChecks.{claim_fault, numbered_fault}
+use Rattle.cap_package.specs.HandlerChecks.{numbered_fault}
 use Rattle.cap_package.specs.HeaderChecks.{header_in, is_abstract, registers_fault, length_fault, this_words, arguments_fault, abstract_fault}
 use Rattle.cap_package.specs.MethodChecks.{code_start, code_end, outside_fault}
 use Rattle.cap_package.specs.TypeChecks.{method_type_by, method_type_fault, field_type_fault}
@@ -19,7 +19,8 @@ use Rattle.cap_package.specs.PackageRecord.{PackageRecord, described_methods, in
 use Rattle.cap_package.specs.StandsFor.{StandsFor}
 use Rattle.cap_package.proofs.HeaderLaws.{HasHeader, has-header, ends-within, few_registers}
 use Rattle.cap_package.proofs.InfoLaws.{info-short}
-use Rattle.cap_package.proofs.StaticsKnown.{both_empty}
+use Rattle.cap_package.proofs.Agreed.{Agrees, agrees}
+use Rattle.cap_package.proofs.StaticsKnown.{both_empty, three_empty}
 use Rattle.jc_base.specs.Linked.{IsCodeLength}
 use Rattle.jc_resolve.proofs.Faultless.{IsOneOf, faultless}
 use Rattle.jc_resolve.proofs.OwnedHandlers.{LiesIn, handlers-lie}
@@ -103,29 +104,24 @@ begins_at : (info : List ℕ) (m : MethodDescriptor) (x : HasHeader info m.metho
 unfolding code_start
 begins_at info m x = ap (λ n. m.method_offset + n) (sym x.size)
 
-module _ (p : PackageRecord) (agreed : StandsFor p.parts p) where
-  -- the types of all methods have the shape of a method's
+module _ (p : PackageRecord) (stands : StandsFor p.parts p) where
+  agreed : Agrees p.parts p
+  agreed = agrees p.parts p stands.agree
+
+  -- the types of fields are types, and those of methods, of interfaces too, have the shape of a method's
+  typed : (filter_map (field_type_fault p.description) (fields p) ≡ [])
+      × (filter_map (method_type_fault p.description 510) (methods_of p.description.items.classes) ≡ [])
+      × (filter_map (method_type_fault p.description 254) (interface_methods p) ≡ [])
+  typed = three_empty _ _ _ agreed.types
+
   types : filter_map (method_type_fault p.description 510) (methods_of p.description.items.classes) ≡ []
-  types =
-      let all = agreed.agree.1.1.1.1.1.1.1.1.1.1.1.1.1.1.1.1.1.1.1.0 in
-      let first = both_empty
-      (filter_map (field_type_fault p.description) (fields p) ++ filter_map (method_type_fault p.description 510)
-      (methods_of p.description.items.classes)) (filter_map (method_type_fault p.description 254) (interface_methods p)) all in
-      (both_empty (filter_map (field_type_fault p.description) (fields p))
-      (filter_map (method_type_fault p.description 510) (methods_of p.description.items.classes)) first.0).1
+  types = let (of_fields, of_methods, of_interfaces) = typed in of_methods
 
   interface_types : filter_map (method_type_fault p.description 254) (interface_methods p) ≡ []
-  interface_types =
-      let all = agreed.agree.1.1.1.1.1.1.1.1.1.1.1.1.1.1.1.1.1.1.1.0 in
-      (both_empty
-      (filter_map (field_type_fault p.description) (fields p) ++ filter_map (method_type_fault p.description 510)
-      (methods_of p.description.items.classes)) (filter_map (method_type_fault p.description 254) (interface_methods p)) all).1
+  interface_types = let (of_fields, of_methods, of_interfaces) = typed in of_interfaces
 
   entries_owned : filter_map (numbered_fault p.methods.info (described_methods p)) (enumerate_from 0 p.methods.handlers) ≡ []
-  entries_owned =
-      let all = agreed.agree.1.1.1.1.1.1.1.1.1.1.1.1.1.1.0 in
-      (both_empty (filter_map (numbered_fault p.methods.info (described_methods p)) (enumerate_from 0 p.methods.handlers))
-      (filter_map (claim_fault (length p.methods.handlers)) (described_methods p)) all).0
+  entries_owned = let (owned, claimed) = both_empty _ _ agreed.handlers in owned
 
   pub interface-words : (m : MethodDescriptor) → IsOneOf (interface_methods p) m → HasWords p.description m 254
   interface-words m one = words_told p.description m 254 (faultless (method_type_fault p.description 254) _ m interface_types one)
@@ -133,11 +129,11 @@ module _ (p : PackageRecord) (agreed : StandsFor p.parts p) where
   pub is-placed : (m : MethodDescriptor) → IsOneOf (described_methods p) m → IsOneOf (methods_of p.description.items.classes) m → IsPlaced p m
   is-placed m one any =
       let info = p.methods.info in
-      let outside = faultless (outside_fault info (length p.methods.handlers)) (described_methods p) m agreed.agree.1.1.1.0 one in
-      let arguments = faultless (arguments_fault info p.description) (described_methods p) m agreed.agree.1.1.1.1.1.1.1.1.1.1.0 one in
-      let abstract = faultless (abstract_fault info) (described_methods p) m agreed.agree.1.1.1.1.1.1.1.1.1.1.1.1.1.0 one in
-      let registers = faultless (registers_fault info) (described_methods p) m agreed.agree.1.1.1.1.1.1.1.1.1.1.1.1.1.1.1.1.1.1.0 one in
-      let lengths = faultless (length_fault info) (described_methods p) m agreed.agree.1.1.1.1.1.1.1.1.1.1.1.1.1.1.1.1.1.1.1.1.1.0 one in
+      let outside = faultless (outside_fault info (length p.methods.handlers)) (described_methods p) m agreed.outside one in
+      let arguments = faultless (arguments_fault info p.description) (described_methods p) m agreed.arguments one in
+      let abstract = faultless (abstract_fault info) (described_methods p) m agreed.bare one in
+      let registers = faultless (registers_fault info) (described_methods p) m agreed.registers one in
+      let lengths = faultless (length_fault info) (described_methods p) m agreed.lengths one in
       let words = words_told p.description m 510 (faultless (method_type_fault p.description 510) (methods_of p.description.items.classes) m types any) in
       let ends = ends-within info (length p.methods.handlers) m outside in
       let h = has-header info m ends in
@@ -146,7 +142,7 @@ module _ (p : PackageRecord) (agreed : StandsFor p.parts p) where
         there = h.there;
         begins = begins_at info m h;
         ends = ends;
-        short = info-short 7 agreed.said.methods.file info agreed.said.methods.framed;
+        short = info-short 7 stands.said.methods.file info stands.said.methods.framed;
         words = words.words;
         told = words.told;
         nargs = nargs_of info p.description m h.header words.words h.there words.told arguments;

@@ -15,6 +15,7 @@ use Rattle.cap_desc.specs.Members.{methods_but}
 use Rattle.cap_package.specs.MethodChecks.{code_end, overlap_fault, overlap_pair, outside_fault}
 use Rattle.cap_package.specs.PackageRecord.{PackageRecord, names_interface, described_methods}
 use Rattle.cap_package.specs.Pairs.{pairs}
+use Rattle.cap_package.proofs.Agreed.{agrees}
 use Rattle.cap_package.proofs.HeaderLaws.{ends-within}
 use Rattle.cap_package.proofs.Overlaps.{method_some}
 use Rattle.jc_base.specs.declared.record.MethodRec.{MethodRec}
@@ -73,10 +74,11 @@ pairs_apart info count (m ∷ ms) inside e =
     )
 
 described_apart : (p : PackageRecord) → IsAgreed p → Pairwise IsApart (described_methods p)
-described_apart p agreed =
+described_apart p stands =
+    let agreed = agrees p.parts p stands.agree in
     pairs_apart p.methods.info (length p.methods.handlers) (described_methods p)
-    (all_faultless (outside_fault p.methods.info (length p.methods.handlers)) (described_methods p) agreed.agree.1.1.1.0)
-    agreed.agree.1.1.0
+    (all_faultless (outside_fault p.methods.info (length p.methods.handlers)) (described_methods p) agreed.outside)
+    agreed.overlaps
 
 -- ---- methods at places
 

@@ -13,6 +13,7 @@ use Rattle.jc_resolve.specs.NamedMethods.{class_described}
 use Rattle.jc_resolve.specs.References.{class_named}
 use Rattle.jc_resolve.proofs.Faultless.{IsOneOf, faultless, one_of_front, one_of_after, one_of_flat}
 use Rattle.jc_resolve.proofs.DeclaredTypes.{named_below}
+use Rattle.jc_resolve.proofs.NamesFaultless.{names_faultless}
 
 one_paired : (k : ℕ) (ns : List ℕ) (n : ℕ) → IsOneOf ns n → IsOneOf {F = ℕ × ℕ} (map (λ i. (k, i)) ns) (k, n)
 one_paired k [] n h = absurd h
@@ -52,7 +53,7 @@ pub names-class : (ps : List PackageRecord) (k : ℕ) (p : PackageRecord) (refer
     → IsOneOf (class_references p) reference → NamesClass ps k reference
 names-class ps k p reference none at one =
     let place : 0 + k ≡ k = omega arith in
-    let fault = faultless (no_class_fault ps) (named_in class_references ps) (0 + k, reference) none.1.1.1.1.0
+    let fault = faultless (no_class_fault ps) (named_in class_references ps) (0 + k, reference) (names_faultless ps none).references
     (named_further class_references 0 ps k p reference at one) in
     named_since ps k reference (rw place at fault)
 

@@ -1,18 +1,17 @@
 -- The classes that a Descriptor describes are its package's own: no reference has its high bit set.
-use Rattle.std.proofs.Common.{◌≡◌, ℕ, ◌<◌, Bool, true, false, ◌&&◌, ltb, cond, List, [], ◌∷◌, ◌++◌, map, inl, inr, Some, None, refl}
+use Rattle.std.proofs.Common.{◌≡◌, ℕ, ◌<◌, Bool, true, false, ◌&&◌, ltb, cond, List, [], ◌∷◌, map, inl, inr, Some, None, refl}
 use Rattle.std.proofs.Common.{ap}
 use Rattle.std.specs.List.{filter_map}
 use Rattle.std.proofs.lemmas.Bool.{ltb-true}
 use Rattle.cap_class.specs.ClassFormat as of_class
 use Rattle.cap_desc.specs.DescriptorFormat.{ClassDescriptor}
-use Rattle.cap_pool.specs.ExportFormat.{Exported}
 use Rattle.cap_components.specs.declared.fault.PackFault.{PackFault}
 use Rattle.cap_components.specs.declared.fault.PackFault.TheVariants.{ClassUndescribed}
-use Rattle.cap_package.specs.Agreement.{or_none}
-use Rattle.cap_package.specs.NameChecks.{undescribed_fault, undescribed_class_fault, not_own_fault, is_class_at}
+use Rattle.cap_package.specs.NameChecks.{not_own_fault, is_class_at}
 use Rattle.cap_package.specs.PackageRecord.{PackageRecord}
 use Rattle.cap_package.specs.StandsFor.{StandsFor}
-use Rattle.cap_package.proofs.StaticsKnown.{both_empty}
+use Rattle.cap_package.proofs.Agreed.{agrees}
+use Rattle.cap_package.proofs.StaticsKnown.{three_empty}
 use Rattle.jc_resolve.proofs.Faultless.{IsOneOf, faultless}
 
 one_of_map : (cs : List ClassDescriptor) (c : ClassDescriptor) → IsOneOf cs c → IsOneOf (map (λ (d : ClassDescriptor). d.class_ref) cs) c.class_ref
@@ -34,10 +33,7 @@ module _ (p : PackageRecord) (agreed : StandsFor p.parts p) where
 
   are_own : filter_map (not_own_fault p.classes) references ≡ []
   are_own =
-      let all = agreed.agree.1.1.1.1.1.1.1.1.1.1.1.1.1.1.1.1.1.0 in
-      let first = both_empty (filter_map (undescribed_fault p.description.items.classes) p.classes ++ filter_map (not_own_fault p.classes) references)
-      (filter_map (undescribed_class_fault p.classes) (map (λ (c : Exported). c.class_offset) (or_none p.export))) all in
-      (both_empty (filter_map (undescribed_fault p.description.items.classes) p.classes) (filter_map (not_own_fault p.classes) references) first.0).1
+      let (undescribed, not_own, unknown) = three_empty _ _ _ (agrees p.parts p agreed.agree).classes in not_own
 
   pub own-reference : (c : ClassDescriptor) → IsOneOf p.description.items.classes c → c.class_ref < 0x8000
   own-reference c one =

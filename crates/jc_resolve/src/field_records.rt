@@ -26,10 +26,7 @@ use std::alloc::{AllocError, Global};
 fn place_of(described: DescClass<'_>) -> RecordPlace
     ensures { Some result ≡ spot_of_record (described_class_seen described.entry) }
 {
-    RecordPlace {
-        package: 0,
-        offset: described.class_ref(),
-    }
+    RecordPlace::of_own(described.class_ref())
 }
 
 /// Keeps a field with its type: a static field among those of its package, and an instance field among those of its record.

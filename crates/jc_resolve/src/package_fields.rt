@@ -39,7 +39,7 @@ impl PackageFields {
         if offset >= 0x8000 {
             return &[];
         }
-        match self.numbers.at(RecordPlace { package: 0, offset }) {
+        match self.numbers.at(RecordPlace::of_own(offset)) {
             Some(n) => fields_at(&self.records, n),
             None => &[],
         }

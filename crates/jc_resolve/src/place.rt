@@ -1,3 +1,6 @@
+ghost use Rattle.std.specs.Prelude.{◌≡◌};
+ghost use Rattle.jc_resolve.specs.Described.{place_at};
+
 use std::hash::{Hash, Hasher};
 
 /// Where a record stands: its package, and its offset in a component of it.
@@ -5,6 +8,15 @@ use std::hash::{Hash, Hasher};
 pub struct RecordPlace {
     pub package: u16,
     pub offset: u16,
+}
+
+impl RecordPlace {
+    /// Where a record stands of a package that stands for itself.
+    pub(crate) fn of_own(offset: u16) -> RecordPlace
+        ensures { result ≡ place_at offset }
+    {
+        RecordPlace { package: 0, offset }
+    }
 }
 
 // Both numbers in one write, which takes half the time of two.

@@ -18,11 +18,25 @@ use std::alloc::{AllocError, Global};
 /// The nibbles of a type descriptor.
 const VOID: u8 = 1;
 
+const BOOLEAN: u8 = 2;
+
+const BYTE: u8 = 3;
+
+const SHORT: u8 = 4;
+
 const INT: u8 = 5;
 
 const REFERENCE: u8 = 6;
 
-const ARRAY: u8 = 14;
+const BOOLEAN_ARRAY: u8 = 10;
+
+const BYTE_ARRAY: u8 = 11;
+
+const SHORT_ARRAY: u8 = 12;
+
+const INT_ARRAY: u8 = 13;
+
+const REFERENCE_ARRAY: u8 = 14;
 
 /// The class as which a type knows what was named: object where that is an interface, or no class.
 fn class_or_object(index: &Index<'_, '_, '_>, object: u16, named: Option<u16>) -> u16
@@ -69,13 +83,13 @@ fn type_of(index: &Index<'_, '_, '_>, object: u16, package: u16, item: TypeItem)
     ensures { result ≡ type_of index.now object «package» item }
 {
     match item.nibble {
-        5 => Ty::IntHigh,
-        6 => Ty::Class(type_class(index, object, package, item.class_ref)),
-        10 => Ty::ArrBool,
-        11 => Ty::ArrByte,
-        12 => Ty::ArrShort,
-        13 => Ty::ArrInt,
-        14 => Ty::ArrRef(type_class(index, object, package, item.class_ref)),
+        INT => Ty::IntHigh,
+        REFERENCE => Ty::Class(type_class(index, object, package, item.class_ref)),
+        BOOLEAN_ARRAY => Ty::ArrBool,
+        BYTE_ARRAY => Ty::ArrByte,
+        SHORT_ARRAY => Ty::ArrShort,
+        INT_ARRAY => Ty::ArrInt,
+        REFERENCE_ARRAY => Ty::ArrRef(type_class(index, object, package, item.class_ref)),
         _ => Ty::Short,
     }
 }
@@ -97,7 +111,13 @@ pub(crate) fn type_checked(
 {
     match item.nibble {
         REFERENCE => Ty::Class(type_class_checked(index, object, package, item.class_ref, least)),
-        ARRAY => Ty::ArrRef(type_class_checked(index, object, package, item.class_ref, least)),
+        REFERENCE_ARRAY => Ty::ArrRef(type_class_checked(
+            index,
+            object,
+            package,
+            item.class_ref,
+            least,
+        )),
         _ => type_of(index, object, package, item),
     }
 }
@@ -108,8 +128,8 @@ pub fn kind_of(item: TypeItem) -> Kind
     ensures { result ≡ kind_of item }
 {
     match item.nibble {
-        2 | 3 => Kind::Byte,
-        4 => Kind::Short,
+        BOOLEAN | BYTE => Kind::Byte,
+        SHORT => Kind::Short,
         INT => Kind::Int,
         _ => Kind::Ref,
     }

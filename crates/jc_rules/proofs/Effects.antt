@@ -283,7 +283,7 @@ module _ (t : ClassTable) (f : Frame) where
 
   two-there : (w : Width) → SatisfiesAll t f (two_numbers w) → size w + size w ≤ length f.stack
   two-there widths.Short h = cell-there f.stack 1 (Meets t (Value Short)) h.1.0
-  two-there widths.Int h = cell-there f.stack 3 (Meets t (Value IntHigh)) h.1.1.1.0
+  two-there widths.Int (low, (high, (left_low, (left_high, done)))) = cell-there f.stack 3 (Meets t (Value IntHigh)) left_high
 
   number-known : (w : Width) → CellsKnown t (number_given w)
   number-known widths.Short = (tt, tt)
@@ -454,7 +454,8 @@ module _ (t : ClassTable) (f : Frame) where
     suits-array_write kinds.Ref h = suits-replacing 3 given.Nothing (cell-there f.stack 2 (Meets t (array_wanted t kinds.Ref)) h.1.1.0) tt
     suits-array_write kinds.Byte h = suits-replacing 3 given.Nothing (cell-there f.stack 2 (Meets t (array_wanted t kinds.Byte)) h.1.1.0) tt
     suits-array_write kinds.Short h = suits-replacing 3 given.Nothing (cell-there f.stack 2 (Meets t (array_wanted t kinds.Short)) h.1.1.0) tt
-    suits-array_write kinds.Int h = suits-replacing 4 given.Nothing (cell-there f.stack 3 (Meets t (array_wanted t kinds.Int)) h.1.1.1.0) tt
+    suits-array_write kinds.Int (low, (high, (index, (array, done)))) =
+        suits-replacing 4 given.Nothing (cell-there f.stack 3 (Meets t (array_wanted t kinds.Int)) array) tt
 
     suits-branch : (b : Branch) → SatisfiesAll t f (branch_demands t b) → Suits t f (branch_effect b)
     suits-branch branches.Always h = suits-replacing 0 given.Nothing (omega arith) tt

@@ -478,21 +478,21 @@ module _ (t : ClassTable) (f : Frame) (whole : IsPaired f.stack) where
 
   two-gone : (width : Width) → SatisfiesAll t f (two_numbers width) → IsPaired (drop (size width + size width) f.stack)
   two-gone widths.Short all = next-gone 1 (Value Short) a_short all.1.0 (one-gone (Value Short) a_short all.0)
-  two-gone widths.Int all = peel-int t f.stack 2 all.1.1.0 all.1.1.1.0 (peel-int t f.stack 0 all.0 all.1.0 whole)
+  two-gone widths.Int (low, (high, (left_low, (left_high, done)))) = peel-int t f.stack 2 left_low left_high (peel-int t f.stack 0 low high whole)
 
   keep-move : (m : Move) → SatisfiesAll t f (move_demands m) → IsPaired (changed (move_effect m).change f.stack)
   keep-move moves.Pop all = one-gone Whole plain_want.2 all.0
   keep-move moves.PopTwo all = (cut-at whole 2 all.1.0).rest
   keep-move moves.Duplicate all = whole-append (top-one t f.stack all.0) whole
   keep-move moves.DuplicateTwo all = whole-append (cut-at whole 2 all.1.0).front whole
-  keep-move (moves.CopyUnder m n) all =
-      let a = cut-at whole m all.1.0 in
-      let b = cut-at whole n all.1.1.1.0 in
+  keep-move (moves.CopyUnder m n) (deep, (cut, (deep_under, (cut_under, done)))) =
+      let a = cut-at whole m cut in
+      let b = cut-at whole n cut_under in
       whole-append b.front (whole-append a.front b.rest)
-  keep-move (moves.Exchange m n) all =
-      let a = cut-at whole m all.1.0 in
-      let b = cut-at whole (m + n) all.1.1.1.0 in
-      whole-append (cut-under f.stack m n a.rest all.1.1.1.0) (whole-append a.front b.rest)
+  keep-move (moves.Exchange m n) (deep, (cut, (deep_under, (cut_under, done)))) =
+      let a = cut-at whole m cut in
+      let b = cut-at whole (m + n) cut_under in
+      whole-append (cut-under f.stack m n a.rest cut_under) (whole-append a.front b.rest)
 
   keep-arithmetic : (a : Arithmetic) → SatisfiesAll t f (arithmetic_demands a) → IsPaired (changed (arithmetic_effect a).change f.stack)
   keep-arithmetic (arithmetic.Binary o widths.Short) all = whole-append (short-one t) (two-gone widths.Short all)
@@ -525,9 +525,9 @@ module _ (t : ClassTable) (f : Frame) (whole : IsPaired f.stack) where
   keep-array_write kinds.Short all =
       next-gone 2 (array_wanted t kinds.Short) (an_array kinds.Short) all.1.1.0
       (next-gone 1 (Value Short) a_short all.1.0 (one-gone (Value Short) a_short all.0))
-  keep-array_write kinds.Int all =
-      next-gone 3 (array_wanted t kinds.Int) (an_array kinds.Int) all.1.1.1.0
-      (next-gone 2 (Value Short) a_short all.1.1.0 (peel-int t f.stack 0 all.0 all.1.0 whole))
+  keep-array_write kinds.Int (low, (high, (index, (array, done)))) =
+      next-gone 3 (array_wanted t kinds.Int) (an_array kinds.Int) array
+      (next-gone 2 (Value Short) a_short index (peel-int t f.stack 0 low high whole))
 
   keep-branch : (b : Branch) → SatisfiesAll t f (branch_demands t b) → IsPaired (changed (branch_effect b).change f.stack)
   keep-branch branches.Always all = whole

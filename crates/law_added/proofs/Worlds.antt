@@ -14,7 +14,6 @@ use Rattle.jc_base.specs.declared.record.Member.TheVariants.{ClassOf}
 use Rattle.jc_base.specs.Class.{ClassTable, AreClasses}
 use Rattle.jc_base.specs.Linked.{list_at}
 use Rattle.jc_base.specs.World.{Linked, member_at}
-use Rattle.jc_resolve.specs.declared.fault.LinkFault.{LinkFault}
 use Rattle.jc_resolve.specs.Conditions as names
 use Rattle.jc_resolve.specs.Named.{IsAgreed, infos_of}
 use Rattle.jc_resolve.specs.NamedClasses.{named_classes}
@@ -28,6 +27,7 @@ use Rattle.jc_link.specs.Pools.{pools_after, pools}
 use Rattle.jc_link.specs.Members.{member_of}
 use Rattle.cap_index.specs.Indexes.{indexes_of}
 use Rattle.jc_link.specs.Arrays.{array_records}
+use Rattle.jc_resolve.proofs.ConditionLists.{AllEmpty-before, AllEmpty-after}
 use Rattle.jc_resolve.proofs.NumberedLaws.{IsDescribed, all-described}
 use Rattle.jc_resolve.proofs.NamedClassLaws.{describes-class, class-described}
 use Rattle.jc_resolve.proofs.OwnClasses.{own-reference}
@@ -50,20 +50,12 @@ use Rattle.law_added.proofs.Statics.{arrays_begin, HaveStaticsThen, statics_then
 
 -- ---- conditions
 
-empty_first : (xs ys : List (List LinkFault)) → AllEmpty (xs ++ ys) → AllEmpty xs
-empty_first [] ys h = tt
-empty_first (x ∷ xs) ys h = (h.0, empty_first xs ys h.1)
-
-empty_second : (xs ys : List (List LinkFault)) → AllEmpty (xs ++ ys) → AllEmpty ys
-empty_second [] ys h = h
-empty_second (x ∷ xs) ys h = empty_second xs ys h.1
-
 line_conditions : (ps : List PackageRecord) (roles : List ℕ) → AllEmpty (conditions ps roles)
     → AllEmpty (lineage.conditions (classes_of ps roles) (first_classes ps) roles)
 line_conditions ps roles none =
-    empty_first (lineage.conditions (classes_of ps roles) (first_classes ps) roles)
+    AllEmpty-before (lineage.conditions (classes_of ps roles) (first_classes ps) roles)
     (classes.conditions (lineage_of ps roles) (classes_of ps roles) (methods_of ps roles))
-    (empty_second (names.conditions ps) (class_conditions ps roles) (empty_first (table_conditions ps roles) (member_conditions ps roles) none))
+    (AllEmpty-after (names.conditions ps) (class_conditions ps roles) (AllEmpty-before (table_conditions ps roles) (member_conditions ps roles) none))
 
 lines_of : (ps : List PackageRecord) (roles : List ℕ) → AllEmpty (conditions ps roles) → 0 < length roles → AreLines (lineage_of ps roles)
 lines_of ps roles none some = lines_are ps (slice_index roles 0) (first_classes ps) roles (line_conditions ps roles none) some
@@ -161,8 +153,8 @@ module _ (ps qs : List PackageRecord) (roles : List ℕ) (none : AllEmpty (condi
       by : (o : Option NumberedMethod) → IfSome o (IsDescribed ps) → IfSome o (λ m. (named_method ps roles m).class < length (numbered_classes ps))
       by None d = tt
       by (Some m) d =
-          let names_none = empty_first (names.conditions ps) (class_conditions ps roles)
-          (empty_first (table_conditions ps roles) (member_conditions ps roles) none) in
+          let names_none = AllEmpty-before (names.conditions ps) (class_conditions ps roles)
+          (AllEmpty-before (table_conditions ps roles) (member_conditions ps roles) none) in
           let x = describes-class ps m.home m.of_package m.class names_none d.«package» d.class in
           omega (arith, x.below, class-described ps m.home m.class x)
 
@@ -186,8 +178,8 @@ module _ (ps qs : List PackageRecord) (roles : List ℕ) (none : AllEmpty (condi
       later_class (Some m) a d =
           let is = All-slice_get IsAgreed (ps ++ qs) m.home m.of_package agreed d.«package» in
           let own = own-reference m.of_package is m.class d.class in
-          let names_none = empty_first (names.conditions (ps ++ qs)) (class_conditions (ps ++ qs) roles)
-          (empty_first (table_conditions (ps ++ qs) roles) (member_conditions (ps ++ qs) roles) none_more) in
+          let names_none = AllEmpty-before (names.conditions (ps ++ qs)) (class_conditions (ps ++ qs) roles)
+          (AllEmpty-before (table_conditions (ps ++ qs) roles) (member_conditions (ps ++ qs) roles) none_more) in
           let x = describes-class (ps ++ qs) m.home m.of_package m.class names_none d.«package» d.class in
           let most = own_number ps qs m.home m.class.class_ref x.number a own x.named in
           let same = class-described (ps ++ qs) m.home m.class x in

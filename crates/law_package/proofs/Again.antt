@@ -10,7 +10,7 @@ use Rattle.law_package.specs.Laying.{AreLaidFor}
 use Rattle.law_package.specs.Rewritten.{IsRewritten}
 use Rattle.law_package.specs.RewrittenPackage.{HasSizes}
 use Rattle.law_package.proofs.Lists.{append_none}
-use Rattle.law_package.proofs.Agreed.{Agrees, agrees, agreed}
+use Rattle.cap_package.proofs.Agreed.{Agrees, agrees, agreed}
 use Rattle.law_package.proofs.Kept.{same_numbers, same_instances, same_shares, same_places, same_exports, same_classes, same_types}
 use Rattle.law_package.proofs.Sized.{nothing_missing, sizes_told, forms_stand}
 use Rattle.law_package.proofs.Facts.{well_headers}

@@ -24,7 +24,7 @@ use Rattle.law_package.specs.Written.{IsAs, IsMethodWritten}
 use Rattle.law_package.specs.Rewritten.{bare_method, IsRewritten}
 use Rattle.law_package.specs.Laying.{IsFor, FitsHeader, AreLaidFor}
 use Rattle.law_package.proofs.Lists.{Each, Has, each_at, each_of, map_each, none_each, each_none, faults_map}
-use Rattle.law_package.proofs.Agreed.{Agrees}
+use Rattle.cap_package.proofs.Agreed.{Agrees}
 use Rattle.law_package.proofs.Zipped.{now_of, source_of, method_of, old_of, changes_now, changes_source, sources_method, length_but}
 use Rattle.law_package.proofs.Bare.{but_same, same_interfaces, alike, same_arguments}
 use Rattle.law_package.proofs.Kept.{map_twice}

@@ -24,7 +24,7 @@ use Rattle.law_package.specs.Laying.{IsFor, AreLaidFor}
 use Rattle.law_package.proofs.Lists.{Each, Has, each_at, each_of, none_each, each_none, append_none, filter_map_in, filter_alike, has_filter}
 use Rattle.law_package.proofs.Sums.{sum_beside}
 use Rattle.law_package.proofs.Owners.{below, is_below, lies_in, Distinct, owned}
-use Rattle.law_package.proofs.Agreed.{Agrees}
+use Rattle.cap_package.proofs.Agreed.{Agrees}
 use Rattle.law_package.proofs.Zipped.{now_of, old_of, source_of, from_number}
 use Rattle.law_package.proofs.Facts.{Fact, facts, news, olds, froms, old_each, all_written, few_by, no_faults}
 use Rattle.law_package.proofs.Standing.{distinct_map}

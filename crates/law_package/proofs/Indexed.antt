@@ -25,7 +25,7 @@ use Rattle.law_package.specs.Changes.{FormerMethod, Change, sources}
 use Rattle.law_package.specs.Written.{size_written, handlers_in, stood_before, block_of, methods_begin}
 use Rattle.law_package.specs.Writing.{first_handler, IsWrittenAnew, places}
 use Rattle.law_package.proofs.Lists.{Each, Has, each_at, each_of, each_map}
-use Rattle.law_package.proofs.Agreed.{agrees}
+use Rattle.cap_package.proofs.Agreed.{agrees}
 use Rattle.law_package.proofs.Owners.{Distinct}
 use Rattle.law_package.proofs.Zipped.{method_of, old_of}
 use Rattle.law_package.proofs.Sums.{filter_every}

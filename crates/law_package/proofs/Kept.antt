@@ -35,7 +35,7 @@ use Rattle.jc_decode.specs.declared.symbols.Laid.{Laid}
 use Rattle.law_package.specs.Changes.{changes, now_at}
 use Rattle.law_package.specs.Rewritten.{bare_method, bare_class, HasSameDescription, IsRewritten}
 use Rattle.law_package.proofs.Lists.{append_none, faults_map, faults_same, faults_alike}
-use Rattle.law_package.proofs.Agreed.{Agrees}
+use Rattle.cap_package.proofs.Agreed.{Agrees}
 use Rattle.law_package.proofs.Bare.{any_map, same_interfaces, in_same, alike, ref_of, same_arguments, same_field}
 
 -- ---- lists

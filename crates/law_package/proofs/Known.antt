@@ -28,7 +28,7 @@ use Rattle.law_package.specs.Written.{IsAs, size_written, lead_bytes}
 use Rattle.law_package.specs.Laying.{IsCodeFor, IsFor, FitsHeader, AreLaidFor}
 use Rattle.law_package.specs.Writing.{IsBodyOf, IsMemberOf, HasSmallStack, IsWrittenAnew, places}
 use Rattle.law_package.proofs.Lists.{Each, each_at, each_of, map_each}
-use Rattle.law_package.proofs.Agreed.{agrees}
+use Rattle.cap_package.proofs.Agreed.{agrees}
 use Rattle.law_package.proofs.Zipped.{method_of, sources_method, length_but}
 use Rattle.law_package.proofs.Facts.{WasWell, wells}
 use Rattle.law_package.proofs.Standing.{sizes_end}

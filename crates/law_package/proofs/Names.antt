@@ -24,7 +24,7 @@ use Rattle.jc_decode.specs.declared.symbols.Laid.{Laid}
 use Rattle.law_package.specs.Changes.{Change, changes, stood_at, offset_by, now_at}
 use Rattle.law_package.specs.Rewritten.{IsRewritten}
 use Rattle.law_package.proofs.Lists.{Each, Has, each_at, each_of, none_each, each_none, append_none, faults_map}
-use Rattle.law_package.proofs.Agreed.{agrees}
+use Rattle.cap_package.proofs.Agreed.{agrees}
 use Rattle.law_package.proofs.Zipped.{now_of, old_of}
 use Rattle.law_package.proofs.Bare.{any_map}
 use Rattle.law_package.proofs.Kept.{map_twice}

@@ -11,7 +11,7 @@ use Rattle.law_package.specs.Rewritten.{IsRewritten}
 use Rattle.law_package.specs.Naming.{Names}
 use Rattle.law_package.proofs.Lists.{Has, each_at}
 use Rattle.law_package.proofs.Owners.{Distinct}
-use Rattle.law_package.proofs.Agreed.{agrees}
+use Rattle.cap_package.proofs.Agreed.{agrees}
 use Rattle.law_package.proofs.Zipped.{now_of, old_of}
 use Rattle.law_package.proofs.Facts.{news, olds}
 use Rattle.law_package.proofs.Standing.{offset_of, apart}

@@ -17,7 +17,7 @@ use Rattle.law_package.specs.Rewritten.{IsRewritten}
 use Rattle.law_package.proofs.Lists.{Each, Has, each_at, each_of, map_each, none_each, each_none, append_none, faults_map, faults_append}
 use Rattle.law_package.proofs.Sums.{sum_beside}
 use Rattle.law_package.proofs.Owners.{below, is_below, Distinct, ends_before}
-use Rattle.law_package.proofs.Agreed.{Agrees}
+use Rattle.cap_package.proofs.Agreed.{Agrees}
 use Rattle.law_package.proofs.Zipped.{now_of, old_of}
 use Rattle.law_package.proofs.Headers.{some_bytes}
 use Rattle.law_package.proofs.Facts.{WasWell, wells, news, olds, no_faults, all_written, few_by}

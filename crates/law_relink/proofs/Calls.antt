@@ -32,7 +32,7 @@ use Rattle.law_package.specs.Changes.{Change, changes, now_at}
 use Rattle.law_package.specs.Written.{IsMethodWritten}
 use Rattle.law_package.specs.Rewritten.{IsRewritten}
 use Rattle.law_package.proofs.Lists.{Each, Has, each_at}
-use Rattle.law_package.proofs.Agreed.{agrees}
+use Rattle.cap_package.proofs.Agreed.{agrees}
 use Rattle.law_package.proofs.Zipped.{old_of}
 use Rattle.law_package.proofs.Facts.{olds, all_written}
 use Rattle.law_package.proofs.Standing.{offset_of, ends_inside, sizes_end, apart}

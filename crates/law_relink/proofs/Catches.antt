@@ -31,7 +31,7 @@ use Rattle.law_package.specs.Written.{IsAs, IsMethodWritten, handlers_in, block_
 use Rattle.law_package.specs.Rewritten.{IsRewritten}
 use Rattle.law_package.proofs.Lists.{Each, each_at, none_each, each_none, append_none, faults_append}
 use Rattle.law_package.proofs.Owners.{below, owned}
-use Rattle.law_package.proofs.Agreed.{agrees}
+use Rattle.cap_package.proofs.Agreed.{agrees}
 use Rattle.law_package.proofs.Facts.{all_written}
 use Rattle.law_package.proofs.Handlers.{all_blocks, get_drop, get_take}
 use Rattle.law_laid.proofs.Steps.{at-contains}

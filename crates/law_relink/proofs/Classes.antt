@@ -30,7 +30,7 @@ use Rattle.law_package.specs.Changes.{Change, changes, now_at}
 use Rattle.law_package.specs.Written.{IsMethodWritten}
 use Rattle.law_package.specs.Rewritten.{bare_class, IsRewritten}
 use Rattle.law_package.proofs.Lists.{Each, Has, each_at, each_of, none_each}
-use Rattle.law_package.proofs.Agreed.{agrees}
+use Rattle.cap_package.proofs.Agreed.{agrees}
 use Rattle.law_package.proofs.Zipped.{old_of}
 use Rattle.law_package.proofs.Bare.{any_map, same_field}
 use Rattle.law_package.proofs.Facts.{olds, all_written}

@@ -22,7 +22,7 @@ use Rattle.law_package.specs.Changes.{Change, sources, changes, changes_of}
 use Rattle.law_package.specs.Written.{IsAs, IsMethodWritten}
 use Rattle.law_package.specs.Rewritten.{IsRewritten}
 use Rattle.law_package.proofs.Lists.{Each, Has, each_at, each_of, map_each, none_each}
-use Rattle.law_package.proofs.Agreed.{agrees}
+use Rattle.cap_package.proofs.Agreed.{agrees}
 use Rattle.law_package.proofs.Zipped.{now_of}
 use Rattle.law_package.proofs.Bare.{but_same}
 use Rattle.law_package.proofs.Headers.{moved}

@@ -14,12 +14,12 @@ use Rattle.jc_base.specs.declared.record.MethodRec.{MethodRec}
 use Rattle.jc_base.specs.World.{Linked}
 use Rattle.jc_base.proofs.Eaching.{Each-from_All}
 use Rattle.jc_decode.specs.declared.symbols.Laid.{Laid}
-use Rattle.jc_resolve.specs.declared.fault.LinkFault.{LinkFault}
 use Rattle.jc_resolve.specs.declared.fault.LinkFault.TheVariants.{TooManyStatics, NoRoom}
 use Rattle.jc_resolve.specs.Named.{infos_of}
 use Rattle.jc_resolve.specs.Numbering.{NumberedMethod, numbered_methods}
 use Rattle.jc_resolve.specs.NamedMethods.{named_method, offset_in_info}
 use Rattle.jc_resolve.specs.Conditions as names
+use Rattle.jc_resolve.proofs.ConditionLists.{AllEmpty-append, AllEmpty-before, AllEmpty-after}
 use Rattle.jc_classes.specs.LineConditions as lineage
 use Rattle.jc_classes.specs.Outline.{outline}
 use Rattle.jc_classes.specs.TableConditions as classes
@@ -48,16 +48,6 @@ use Rattle.law_relink.proofs.Methods.{class_conditions_same, abstract_roles_same
 use Rattle.law_relink.proofs.Calls.{homes_classes, homes_after}
 use Rattle.law_relink.proofs.Pools.{none_missing, pools_same}
 use Rattle.law_relink.proofs.Catches.{LaidCatch, laid_catches, none_bad}
-
--- ---- no list has anything
-
-empty_parts : (xs ys : List (List LinkFault)) → AllEmpty (xs ++ ys) → AllEmpty xs × AllEmpty ys
-empty_parts [] ys h = (tt, h)
-empty_parts (x ∷ xs) ys h = let r = empty_parts xs ys h.1 in ((h.0, r.0), r.1)
-
-empty_both : (xs ys : List (List LinkFault)) → AllEmpty xs → AllEmpty ys → AllEmpty (xs ++ ys)
-empty_both [] ys a b = b
-empty_both (x ∷ xs) ys a b = (a.0, empty_both xs ys a.1 b)
 
 -- ---- the methods of the earlier packages, and those of the last
 
@@ -217,36 +207,26 @@ module _ (parts new_parts : List Lent) (ps : List PackageRecord) (p q : PackageR
   member_conditions_pass : map apart_from_code (methods_of now roles) ≡ map apart_from_code (methods_of old roles)
       → Each (MayBeLaid old roles (length ps) p) (twins_in p q laid)
       → AllEmpty (member_conditions old roles) → AllEmpty (member_conditions now roles)
-  member_conditions_pass apart may h =
-      let missing = none_missing parts ps p q laid s r short (table_of old roles) (statics_of old roles) h.1.0 in
-      let bad = none_bad ps p q laid r (table_of old roles) parts s (all_catch h.1.1.0 may) h.1.1.0 in (
-        ap option_to_list statics_room ∙ h.0,
-        (
-          ap (λ x. missing_members now x (statics_of now roles)) table_same
-              ∙ ap (missing_members now (table_of old roles)) fields_same ∙ missing,
-          (
-            ap (bad_catches now) table_same ∙ bad,
-            (
-              ap option_to_list arrays_room ∙ h.1.1.1.0,
-              (
-                ap (λ x. abstract_roles x (methods_of now roles)) table_same
-                    ∙ abstract_roles_same (table_of old roles) (methods_of now roles) (methods_of old roles) apart ∙ h.1.1.1.1.0,
-                tt,
-              ),
-            ),
-          ),
-        ),
-      )
+  member_conditions_pass apart may (cells, (members, (catches, (arrays, (abstract, done))))) =
+      let missing = none_missing parts ps p q laid s r short (table_of old roles) (statics_of old roles) members in
+      let bad = none_bad ps p q laid r (table_of old roles) parts s (all_catch catches may) catches in
+      let no_missing = ap (λ x. missing_members now x (statics_of now roles)) table_same
+      ∙ ap (missing_members now (table_of old roles)) fields_same ∙ missing in
+      let no_abstract = ap (λ x. abstract_roles x (methods_of now roles)) table_same
+      ∙ abstract_roles_same (table_of old roles) (methods_of now roles) (methods_of old roles) apart ∙ abstract in
+      let no_bad = ap (bad_catches now) table_same ∙ bad in
+      (ap option_to_list statics_room ∙ cells, (no_missing, (no_bad, (ap option_to_list arrays_room ∙ arrays, (no_abstract, tt)))))
 
   pub links : (w : Linked) → IsLinked old roles w → Each (MayBeLaid old roles (length ps) p) (twins_in p q laid)
       → LinksAgain ps q roles w
   links w l may =
       let apart : map apart_from_code (methods_of now roles) ≡ map apart_from_code (methods_of old roles) =
       methods_apart parts new_parts ps p q laid roles r s t may in
-      let both = empty_parts (table_conditions old roles) (member_conditions old roles) l.faultless in
-      let table : AllEmpty (table_conditions now roles) = subst AllEmpty (sym (table_conditions_same apart)) both.0 in
-      let members = member_conditions_pass apart may both.1 in
-      let missing : missing_members old (table_of old roles) (statics_of old roles) ≡ [] = both.1.1.0 in
+      let on_table = AllEmpty-before (table_conditions old roles) (member_conditions old roles) l.faultless in
+      let on_members = AllEmpty-after (table_conditions old roles) (member_conditions old roles) l.faultless in
+      let table : AllEmpty (table_conditions now roles) = subst AllEmpty (sym (table_conditions_same apart)) on_table in
+      let members = member_conditions_pass apart may on_members in
+      let missing : missing_members old (table_of old roles) (statics_of old roles) ≡ [] = on_members.1.0 in
       let pools_are : pools now (table_of now roles) (statics_of now roles)
       ≡ pools old (table_of old roles) (statics_of old roles) =
       ap (λ x. pools now x (statics_of now roles)) table_same ∙ ap (pools now (table_of old roles)) fields_same
@@ -262,7 +242,7 @@ module _ (parts new_parts : List Lent) (ps : List PackageRecord) (p q : PackageR
           indexes = indexes_of now (methods_of now roles);
         };
         linked = record {
-          faultless = empty_both (table_conditions now roles) (member_conditions now roles) table members;
+          faultless = AllEmpty-append (table_conditions now roles) (member_conditions now roles) table members;
           lists = record {
             infos = refl;
             pools = refl;

@@ -17,7 +17,7 @@ use Rattle.law_package.specs.Written.{IsMethodWritten}
 use Rattle.law_package.specs.Rewritten.{bare_method, bare_class, IsRewritten}
 use Rattle.law_package.proofs.Lists.{Each, Has, each_at, each_of}
 use Rattle.law_package.proofs.Owners.{Distinct}
-use Rattle.law_package.proofs.Agreed.{agrees}
+use Rattle.cap_package.proofs.Agreed.{agrees}
 use Rattle.law_package.proofs.Zipped.{now_of, old_of}
 use Rattle.law_package.proofs.Bare.{but_same, same_interfaces}
 use Rattle.law_package.proofs.Facts.{news, olds, all_written}

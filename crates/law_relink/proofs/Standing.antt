@@ -40,7 +40,7 @@ use Rattle.law_package.specs.Changes.{changes, now_at}
 use Rattle.law_package.specs.Written.{HasCode, IsAs}
 use Rattle.law_package.specs.Rewritten.{IsRewritten}
 use Rattle.law_package.proofs.Lists.{Each, Has, none_each, has_filter}
-use Rattle.law_package.proofs.Agreed.{Agrees, agrees}
+use Rattle.cap_package.proofs.Agreed.{Agrees, agrees}
 use Rattle.law_package.proofs.Facts.{news}
 use Rattle.law_package.proofs.Handlers.{has_map, get_drop, get_take}
 use Rattle.law_package.proofs.Headers.{header_sized}

@@ -145,7 +145,8 @@ module _ (w : Linked) (world : IsWorld w) (assigned : Typings) (f : Frame Cell) 
     array-wanted fields.Ref is = (asked-of w world assigned f below heap statics here (ops.ArrayWrite fields.Ref) is).1.1.0
     array-wanted fields.Byte is = (asked-of w world assigned f below heap statics here (ops.ArrayWrite fields.Byte) is).1.1.0
     array-wanted fields.Short is = (asked-of w world assigned f below heap statics here (ops.ArrayWrite fields.Short) is).1.1.0
-    array-wanted fields.Int is = (asked-of w world assigned f below heap statics here (ops.ArrayWrite fields.Int) is).1.1.1.0
+    array-wanted fields.Int is =
+        let above_value = (asked-of w world assigned f below heap statics here (ops.ArrayWrite fields.Int) is).1.1 in above_value.1.0
 
     pub array-write-safe :
         (fk : Kind) → here.turn.operation ≡ ops.ArrayWrite fk

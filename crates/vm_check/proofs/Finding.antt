@@ -100,7 +100,8 @@ module _ (w : Linked) (is : IsWorld w) (s : State TaggedCell) (kept : IsShaped w
   )
   finds-write i fields.Byte h = (array-or-null w is s kept.objects fields.Byte (on 2) (met 2 ByteArray h.1.1.0), null-or (word_of (on 2)) ⊤ (inr tt))
   finds-write i fields.Short h = (array-or-null w is s kept.objects fields.Short (on 2) (met 2 (Value ArrShort) h.1.1.0), null-or (word_of (on 2)) ⊤ (inr tt))
-  finds-write i fields.Int h = (array-or-null w is s kept.objects fields.Int (on 3) (met 3 (Value ArrInt) h.1.1.1.0), null-or (word_of (on 3)) ⊤ (inr tt))
+  finds-write i fields.Int (low, (high, (index, (array, done)))) =
+      (array-or-null w is s kept.objects fields.Int (on 3) (met 3 (Value ArrInt) array), null-or (word_of (on 3)) ⊤ (inr tt))
 
   finds-read : (i : Insn) (f : InstanceField) (holder : Holder) → IsFieldOf w f → SatisfiesAll w.classes frame (demands w (ops.FieldRead f holder))
       → FindsNamed tagged w i (ops.FieldRead f holder) s

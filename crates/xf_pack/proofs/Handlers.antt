@@ -4,9 +4,10 @@ use Rattle.std.proofs.Common.{length, filter, cond, refl, arith}
 use Rattle.std.specs.List.{filter_map, enumerate_from}
 use Rattle.std.proofs.lemmas.Bool.{ltb-true, ltb-false, leb-true, leb-false}
 use Rattle.cap_desc.specs.DescriptorFormat.{MethodDescriptor}
-use Rattle.cap_package.specs.HandlerChecks.{claims, claim_fault, numbered_fault}
+use Rattle.cap_package.specs.HandlerChecks.{claims, numbered_fault}
 use Rattle.cap_package.specs.PackageRecord.{PackageRecord, described_methods}
 use Rattle.cap_package.specs.StandsFor.{StandsFor}
+use Rattle.cap_package.proofs.Agreed.{agrees}
 use Rattle.cap_package.proofs.StaticsKnown.{both_empty}
 use Rattle.jc_resolve.proofs.Faultless.{faultless}
 use Rattle.jc_resolve.proofs.OwnedHandlers.{entry_numbered}
@@ -70,10 +71,7 @@ sum-within (suc many) ms one =
 
 module _ (p : PackageRecord) (agreed : StandsFor p.parts p) where
   entries-owned : filter_map (numbered_fault p.methods.info (described_methods p)) (enumerate_from 0 p.methods.handlers) ≡ []
-  entries-owned =
-      let all = agreed.agree.1.1.1.1.1.1.1.1.1.1.1.1.1.1.0 in
-      (both_empty (filter_map (numbered_fault p.methods.info (described_methods p)) (enumerate_from 0 p.methods.handlers))
-      (filter_map (claim_fault (length p.methods.handlers)) (described_methods p)) all).0
+  entries-owned = let (owned, claimed) = both_empty _ _ (agrees p.parts p agreed.agree).handlers in owned
 
   once : (n : ℕ) → n < length p.methods.handlers → length (filter (claims n) (described_methods p)) ≤ 1
   once n lt =

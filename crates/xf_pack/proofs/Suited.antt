@@ -17,12 +17,13 @@ use Rattle.jc_base.specs.declared.record.Sig.{Sig}
 use Rattle.jc_base.specs.Linked.{IsCodeLength}
 use Rattle.jc_base.specs.World.{Linked}
 use Rattle.jc_decode.specs.declared.symbols.Laid.{Laid}
-use Rattle.jc_link.specs.World.{IsLinked}
+use Rattle.jc_link.specs.World.{class_conditions, table_conditions, member_conditions, IsLinked}
 use Rattle.jc_resolve.specs.declared.method_records.Body.{Body}
 use Rattle.jc_resolve.specs.Conditions.{conditions}
 use Rattle.jc_resolve.specs.NamedMethods.{body_after, body_of, handler_named, have_headers, named_method, no_body, offset_in_info}
 use Rattle.jc_resolve.specs.Numbering.{NumberedMethod, numbered_method, methods_of_class, methods_of_classes}
 use Rattle.jc_resolve.specs.WorldTypes.{declared_signature}
+use Rattle.jc_resolve.proofs.ConditionLists.{AllEmpty-before}
 use Rattle.jc_resolve.proofs.Faultless.{IsOneOf}
 use Rattle.jc_resolve.proofs.MethodFacts.{IsPlaced, is-placed}
 use Rattle.jc_resolve.proofs.NumberedLaws.{from-any, from-class}
@@ -259,8 +260,8 @@ at-last (q ∷ ps) p = at-last ps p
 
 names-faultless : (qs : List PackageRecord) (roles : List ℕ) (w : Linked) → IsLinked qs roles w → AllEmpty (conditions qs)
 names-faultless qs roles w linked =
-    let f = linked.faultless in
-    (f.0, (f.1.0, (f.1.1.0, (f.1.1.1.0, (f.1.1.1.1.0, tt {0})))))
+    let on_table = AllEmpty-before (table_conditions qs roles) (member_conditions qs roles) linked.faultless in
+    AllEmpty-before (conditions qs) (class_conditions qs roles) on_table
 
 pub may-be-laid : (ps : List PackageRecord) (p : PackageRecord) (roles : List ℕ) (w : Linked) (linked : IsLinked (and_last ps p) roles w) (first : ℕ)
     (is : BeginsLast w first)

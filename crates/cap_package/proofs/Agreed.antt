@@ -1,4 +1,4 @@
--- The conditions on a package, by name.
+-- The conditions under which the parts of a package agree, by name.
 use Rattle.std.proofs.Common.{◌≡◌, ◌++◌, List, [], length, map}
 use Rattle.cap_frame.specs.AppletFormat.{Applet}
 use Rattle.cap_pool.specs.ExportFormat.{Exported}
@@ -20,8 +20,9 @@ use Rattle.cap_package.specs.TypeChecks.{field_type_fault, method_type_fault}
 use Rattle.cap_package.specs.CountChecks.{array_bytes, image_bytes, instance_fault, count_if}
 use Rattle.cap_package.specs.Agreement.{or_none}
 use Rattle.cap_components.specs.declared.count_kind.CountKind.TheVariants.{Imports, Applets, ImageSize, InitialArrays, ArrayBytes, PoolTypes, ImageSegments}
-use Rattle.cap_package.specs.FirstFault.{conditions_of, disagreements}
+use Rattle.cap_package.specs.FirstFault.{conditions_of, count_lists, member_lists, disagreements}
 
+-- nothing is at fault under any condition
 pub record Agrees (parts : List Lent) (p : PackageRecord) : Type 0 where
   pub forms : at_fault (form_fault parts) (custom_tags p.directory) ≡ []
   pub sizes : at_fault (size_fault p.parts p.directory) components ++ at_fault (size_fault p.parts p.directory) (custom_tags p.directory) ≡ []
@@ -56,77 +57,43 @@ pub record Agrees (parts : List Lent) (p : PackageRecord) : Type 0 where
   pub exports : at_fault (no_static_fault (is_static_at (fields p))) (exported_fields (or_none p.export)) ≡ []
 
 pub agrees : (parts : List Lent) (p : PackageRecord) → AllEmpty (conditions_of parts p) → Agrees parts p
-agrees parts p h =
-    let places = h.1 in
-    let counts = places.1.1.1 in
-    let members = counts.1.1.1.1.1.1.1.1.1.1 in
-    record {
-      forms = h.0;
-      sizes = places.0;
-      overlaps = places.1.0;
-      outside = places.1.1.0;
-      imports = counts.0;
-      applets = counts.1.0;
-      image = counts.1.1.0;
-      arrays = counts.1.1.1.0;
-      array_sizes = counts.1.1.1.1.0;
-      pool = counts.1.1.1.1.1.0;
-      arguments = counts.1.1.1.1.1.1.0;
-      instances = counts.1.1.1.1.1.1.1.0;
-      image_sum = counts.1.1.1.1.1.1.1.1.0;
-      bare = counts.1.1.1.1.1.1.1.1.1.0;
-      handlers = members.0;
-      statics = members.1.0;
-      names = members.1.1.0;
-      classes = members.1.1.1.0;
-      registers = members.1.1.1.1.0;
-      types = members.1.1.1.1.1.0;
-      places = members.1.1.1.1.1.1.0;
-      lengths = members.1.1.1.1.1.1.1.0;
-      exports = members.1.1.1.1.1.1.1.1.0;
-    }
+agrees parts p (forms, (sizes, (overlaps, (outside, others)))) = by_counts others
+  where
+    by_counts : AllEmpty (count_lists p ++ member_lists p) → Agrees parts p
+    by_counts (imports, (applets, (image, (arrays, (array_sizes, (pool, (arguments, (instances, (image_sum, (bare, others)))))))))) = by_members others
+      where
+        by_members : AllEmpty (member_lists p) → Agrees parts p
+        by_members (handlers, (statics, (names, (classes, (registers, (types, (places, (lengths, (exports, done))))))))) =
+            record {
+              forms = forms;
+              sizes = sizes;
+              overlaps = overlaps;
+              outside = outside;
+              imports = imports;
+              applets = applets;
+              image = image;
+              arrays = arrays;
+              array_sizes = array_sizes;
+              pool = pool;
+              arguments = arguments;
+              instances = instances;
+              image_sum = image_sum;
+              bare = bare;
+              handlers = handlers;
+              statics = statics;
+              names = names;
+              classes = classes;
+              registers = registers;
+              types = types;
+              places = places;
+              lengths = lengths;
+              exports = exports;
+            }
 
 pub agreed : (parts : List Lent) (p : PackageRecord) → Agrees parts p → AllEmpty (conditions_of parts p)
-agreed parts p a = (
-  a.forms,
-  (
-    a.sizes,
-    (
-      a.overlaps,
-      (
-        a.outside,
-        (
-          a.imports,
-          (
-            a.applets,
-            (
-              a.image,
-              (
-                a.arrays,
-                (
-                  a.array_sizes,
-                  (
-                    a.pool,
-                    (
-                      a.arguments,
-                      (
-                        a.instances,
-                        (
-                          a.image_sum,
-                          (
-                            a.bare,
-                            (a.handlers, (a.statics, (a.names, (a.classes, (a.registers, (a.types, (a.places, (a.lengths, (a.exports, tt))))))))),
-                          ),
-                        ),
-                      ),
-                    ),
-                  ),
-                ),
-              ),
-            ),
-          ),
-        ),
-      ),
-    ),
-  ),
-)
+agreed parts p a =
+    let members : AllEmpty (member_lists p) =
+    (a.handlers, (a.statics, (a.names, (a.classes, (a.registers, (a.types, (a.places, (a.lengths, (a.exports, tt))))))))) in
+    let counts : AllEmpty (count_lists p ++ member_lists p) =
+    (a.imports, (a.applets, (a.image, (a.arrays, (a.array_sizes, (a.pool, (a.arguments, (a.instances, (a.image_sum, (a.bare, members)))))))))) in
+    (a.forms, (a.sizes, (a.overlaps, (a.outside, counts))))
