@@ -9,6 +9,7 @@ pub mod Views
 pub mod Asked
 pub mod Doing
 pub mod Settling
+pub mod Standing
 pub mod Together
 pub mod Ready
 pub mod Begins

@@ -1,9 +1,8 @@
 -- What follows the step of another method in both worlds: a method that is called begins, one that waits goes on, an object is caught.
-use Rattle.std.proofs.Common.{◌≡◌, ℕ, suc, ◌+◌, ◌-◌, ◌<◌, ◌≤◌, Bool, true, false, if◌then◌else◌, List, []}
+use Rattle.std.proofs.Common.{◌≡◌, ℕ, suc, ◌+◌, ◌-◌, ◌<◌, ◌≤◌, false, List, []}
 use Rattle.std.proofs.Common.{◌∷◌, ◌++◌, length, map, reverse, replicate, refl, sym, ap, ◌∙◌, subst, arith, length-append}
 use Rattle.std.specs.Prelude.{Some, None, nat_lt, nat_le, slice_get}
-use Rattle.std.proofs.lemmas.Bool.{le-ltb, lt-leb, ltb-false, false≢true}
-use Rattle.std.proofs.lemmas.Bool.Decides.{nat_tests}
+use Rattle.std.proofs.lemmas.Bool.{le-ltb, lt-leb, ltb-false}
 use Rattle.std.proofs.lemmas.List.{length-map, map-append}
 use Rattle.jc_base.specs.declared.record.MethodRec.{MethodRec}
 use Rattle.jc_base.specs.Each.{Each}
@@ -24,16 +23,17 @@ use Rattle.vm_step.specs.declared.ending.Fault.TheVariants.{StackFault, JumpFaul
 use Rattle.vm_step.specs.declared.ending.Plain.TheVariants.{Returned}
 use Rattle.vm_step.specs.declared.ending.Value.{Value}
 use Rattle.vm_step.specs.Methods.{of_method, code_at, handlers_of, instruction_at, max_stack_of}
-use Rattle.vm_step.specs.Raising.{Outcome, running, ended, ends}
+use Rattle.vm_step.specs.Raising.{Outcome, running, ended}
 use Rattle.vm_step.specs.Run.{Continues, stands}
 use Rattle.vm_step.specs.Settled.{fault_next, goes_to, given_to, return_place, unless_fault}
 use Rattle.law_sound.specs.Frames.{Typings}
 use Rattle.law_sound.specs.State.{IsTypedState}
 use Rattle.law_sound.specs.Soundness.{IsTypedOutcome}
 use Rattle.law_sound.specs.Handed.{nargs_of}
-use Rattle.law_sound.proofs.Finish.{has-room}
+use Rattle.law_sound.proofs.Finish.{has-room, pick}
 use Rattle.law_alike.specs.Alike.{renamed_cell}
-use Rattle.law_alike.proofs.Settling.{unless-none}
+use Rattle.law_alike.proofs.Settling.{unless-none, both-passed, after_call, given_frame, given-goes}
+use Rattle.law_alike.proofs.Standing.{stands-at}
 use Rattle.xf_homes.specs.declared.home.Home.{Home}
 use Rattle.law_homes.specs.Held.{HoldsValue, HoldsLocals}
 use Rattle.xf_homes.specs.Source.{Source}
@@ -46,7 +46,7 @@ use Rattle.law_transform.specs.Counterparts.{IsSameMethod, IsRewrittenIn, IsKept
 use Rattle.law_transform.specs.Beside.{AreTop, top_kept, top_rewritten, wait_kept, wait_rewritten, AreUnder, no_frames, more_frames}
 use Rattle.law_transform.specs.Beside.{AreBeside}
 use Rattle.law_transform.specs.Beside.{OutcomesBeside, both_run, both_end}
-use Rattle.law_transform.proofs.Typed.{AreLaws, its-method, stands-at, typed-at}
+use Rattle.law_transform.proofs.Typed.{AreLaws, its-method, typed-at}
 
 -- how many steps may still follow: an ending comes at once
 abbrev pub extra : Outcome Cell → ℕ
@@ -90,36 +90,6 @@ pub locals-too :
     (s : Source) (p : ℕ) (f g : Frame Cell) (at on : ℕ) (below above : List Cell) → HoldsLocals s p f g
     → HoldsLocals s p (record f { place = at; stack = below }) (record g { place = on; stack = above })
 locals-too s p f g at on below above locals = λ x. each-too s f.registers g on above (needed s p x) (locals x)
-
--- ---- tests
-
-both-passed : (a b : Bool) → (if a then Some StackFault else if b then Some JumpFault else None) ≡ None → (a ≡ false) × (b ≡ false)
-both-passed true b h = absurd (cc)
-both-passed false true h = absurd (cc)
-both-passed false false h = (refl, refl)
-
-passed-both : (a b : Bool) → a ≡ false → b ≡ false → (if a then Some StackFault else if b then Some JumpFault else None) ≡ None
-passed-both true b h k = absurd (false≢true (sym h))
-passed-both false true h k = absurd (false≢true (sym k))
-passed-both false false h k = refl
-
--- what a caller is given, where nothing is at fault
-abbrev after_call : Linked → Frame Cell → ℕ
-after_call x f = return_place (instruction_at (code_at x f.method) f.place)
-
-abbrev given_frame : Linked → List Cell → Frame Cell → Frame Cell
-given_frame x cells f = record { method = f.method; place = after_call x f; registers = f.registers; stack = with_value cells f.stack }
-
-given-goes :
-    (x : Linked) (value : Value) (cells : List Cell) (f : Frame Cell) (fs : List (Frame Cell)) (heap : List (Object Cell)) (statics : List Cell)
-    → given_to tagged x value cells (record { frames = f ∷ fs; heap = heap; statics = statics })
-    ≡ goes_to tagged x (after_call x f) (record { frames = f ∷ fs; heap = heap; statics = statics })
-    (record { frames = record f { stack = with_value cells f.stack } ∷ fs; heap = heap; statics = statics })
-given-goes x value cells f fs heap statics =
-    let z : State Cell = record { frames = f ∷ fs; heap = heap; statics = statics } in
-    let back : State Cell = record { frames = record f { stack = with_value cells f.stack } ∷ fs; heap = heap; statics = statics } in
-    let some : nat_lt 0 (length (f ∷ fs)) ≡ true = grind (arith, nat_tests) in
-    ap (λ b. if b then goes_to tagged x (after_call x f) z back else ends (endings.Plain (Returned value)) z) some
 
 module _ (v w : Linked) (typings : Typings) (laws : AreLaws v) (pair : AreCounterparts v w typings) where
   -- ---- states beside one another
@@ -249,7 +219,8 @@ module _ (v w : Linked) (typings : Typings) (laws : AreLaws v) (pair : AreCounte
           let here : IsTypedOutcome v typings (goes_to tagged v (after_call v f) waiting back) = subst (IsTypedOutcome v typings) goes safe in
           let passed = unless-none waiting (fault_next tagged v back depth (after_call v f)) (running given)
           (safe-free v typings (goes_to tagged v (after_call v f) waiting back) here) in
-          let tests = both-passed (nat_lt (max_stack_of v f.method) depth) (nat_le (length (code_at v f.method)) (after_call v f)) passed.0 in
+          let tests =
+          both-passed StackFault JumpFault (nat_lt (max_stack_of v f.method) depth) (nat_le (length (code_at v f.method)) (after_call v f)) passed.0 in
           record {
             goes = goes ∙ passed.1;
             fits = ltb-false (max_stack_of v f.method) depth tests.0;
@@ -264,7 +235,7 @@ module _ (v w : Linked) (typings : Typings) (laws : AreLaws v) (pair : AreCounte
           let depth : ℕ = length (with_value cells g.stack) in
           let back : State Cell = record { frames = record g { stack = with_value cells g.stack } ∷ gs; heap = other; statics = others } in
           let none : fault_next tagged w back depth (after_call w g) ≡ None =
-          passed-both (nat_lt (max_stack_of w g.method) depth) (nat_le (length (code_at w g.method)) (after_call w g))
+          pick (Some StackFault) (Some JumpFault) (nat_lt (max_stack_of w g.method) depth) (nat_le (length (code_at w g.method)) (after_call w g))
           (le-ltb (max_stack_of w g.method) depth fits) inside in
           given-goes w value cells g gs other others ∙ ap (λ o. unless_fault also_waiting o (running also_given)) none
 
