@@ -15,3 +15,5 @@ pub mod Ready
 pub mod Begins
 pub mod Simulation
 pub mod Entering
+pub mod Giving
+pub mod Catching

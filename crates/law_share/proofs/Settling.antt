@@ -1,8 +1,8 @@
 -- What follows the step of another method in both worlds: a method that is called begins, and one that waits goes on.
 use Rattle.std.proofs.Common.{◌≡◌, ℕ, zero, suc, ◌+◌, ◌-◌, ◌<◌, ◌≤◌, inl, inr, ⊎_elim, false, List, [], ◌∷◌}
 use Rattle.std.proofs.Common.{◌++◌, length, map, reverse, replicate, refl, sym, ap, ◌∙◌, subst, arith, length-append}
-use Rattle.std.specs.Prelude.{Some, None, nat_lt, nat_le, slice_get}
-use Rattle.std.proofs.lemmas.Bool.{cases_lt, le-ltb, lt-leb, leb-false, ltb-false}
+use Rattle.std.specs.Prelude.{Some, None, nat_le, slice_get}
+use Rattle.std.proofs.lemmas.Bool.{cases_lt, lt-leb, leb-false}
 use Rattle.std.proofs.lemmas.List.{length-map, length-replicate, map-append}
 use Rattle.std.proofs.lemmas.Option.{slice_get_past}
 use Rattle.jc_base.specs.declared.record.MethodRec.{MethodRec}
@@ -22,23 +22,22 @@ use Rattle.vm_store.specs.State.{Frame, Object, State, top, entered, register_co
 use Rattle.vm_store.specs.Value.{with_value}
 use Rattle.vm_store.proofs.Stacks.{reverse-map}
 use Rattle.vm_step.specs.declared.ending.Ending.TheVariants as endings
-use Rattle.vm_step.specs.declared.ending.Fault.TheVariants.{StackFault, JumpFault}
 use Rattle.vm_step.specs.declared.ending.Plain.TheVariants.{Returned}
 use Rattle.vm_step.specs.declared.ending.Value.{Value}
 use Rattle.vm_step.specs.Methods.{of_method, code_at, instruction_at, max_stack_of}
 use Rattle.vm_step.specs.Raising.{Outcome, running}
-use Rattle.vm_step.specs.Settled.{fault_next, goes_to, given_to, return_place, unless_fault}
+use Rattle.vm_step.specs.Settled.{given_to, return_place}
 use Rattle.law_sound.specs.Frames.{Typings}
 use Rattle.law_sound.specs.Handed.{nargs_of}
 use Rattle.law_sound.specs.Soundness.{IsTypedOutcome}
 use Rattle.law_sound.specs.State.{IsTypedState}
-use Rattle.law_sound.proofs.Finish.{has-room, pick}
+use Rattle.law_sound.proofs.Finish.{has-room}
 use Rattle.law_sound.proofs.Going.{goes-on}
-use Rattle.law_erasure.proofs.Together.{safe-free}
 use Rattle.law_alike.specs.Alike.{renamed_cell}
 use Rattle.law_alike.specs.Simulation.{AreBoth, both_run, both_end}
-use Rattle.law_alike.proofs.Settling.{unless-none, both-passed, after_call, given_frame, given-goes}
+use Rattle.law_alike.proofs.Settling.{after_call, given_frame}
 use Rattle.law_alike.proofs.Standing.{stands-at}
+use Rattle.law_alike.proofs.Giving.{IsGiven, is-given, goes-given}
 use Rattle.law_share.specs.Live.{IsLiveAt, leads_on}
 use Rattle.law_share.specs.Renamed.{IsMatched, IsRenamed, BeginsAlike, register_total}
 use Rattle.law_share.specs.Beside.{Renaming, AreRenamed, FrameBeside, WaitBeside, AreUnder, no_frames, more_frames, AreBeside}
@@ -173,40 +172,6 @@ module _ (v w : Linked) (typings : Typings) (r : Renaming) where
         abbrev also_given : State Cell
         also_given = record { frames = given_frame w cells g ∷ gs; heap = other; statics = others }
 
-        record IsGiven : Type 0 where
-          goes : given_to tagged v value cells waiting ≡ running given
-          fits : length (with_value cells f.stack) ≤ max_stack_of v f.method
-          inside : nat_le (length (code_at v f.method)) (after_call v f) ≡ false
-          typed : IsTypedState v typings given
-
-        is-given : IsTypedOutcome v typings (given_to tagged v value cells waiting) → IsGiven
-        is-given safe =
-            let depth : ℕ = length (with_value cells f.stack) in
-            let back : State Cell = record { frames = record f { stack = with_value cells f.stack } ∷ fs; heap = heap; statics = statics } in
-            let goes = given-goes v value cells f fs heap statics in
-            let here : IsTypedOutcome v typings (goes_to tagged v (after_call v f) waiting back) = subst (IsTypedOutcome v typings) goes safe in
-            let passed = unless-none waiting (fault_next tagged v back depth (after_call v f)) (running given)
-            (safe-free v typings (goes_to tagged v (after_call v f) waiting back) here) in
-            let tests =
-            both-passed StackFault JumpFault (nat_lt (max_stack_of v f.method) depth) (nat_le (length (code_at v f.method)) (after_call v f)) passed.0 in
-            record {
-              goes = goes ∙ passed.1;
-              fits = ltb-false (max_stack_of v f.method) depth tests.0;
-              inside = tests.1;
-              typed = subst (IsTypedOutcome v typings) passed.1 here;
-            }
-
-        also-goes :
-            length (with_value cells g.stack) ≤ max_stack_of w g.method → nat_le (length (code_at w g.method)) (after_call w g) ≡ false
-            → given_to tagged w value cells also_waiting ≡ running also_given
-        also-goes fits inside =
-            let depth : ℕ = length (with_value cells g.stack) in
-            let back : State Cell = record { frames = record g { stack = with_value cells g.stack } ∷ gs; heap = other; statics = others } in
-            let none : fault_next tagged w back depth (after_call w g) ≡ None =
-            pick (Some StackFault) (Some JumpFault) (nat_lt (max_stack_of w g.method) depth) (nat_le (length (code_at w g.method)) (after_call w g))
-            (le-ltb (max_stack_of w g.method) depth fits) inside in
-            given-goes w value cells g gs other others ∙ ap (λ o. unless_fault also_waiting o (running also_given)) none
-
         -- ---- the place after the call
 
         abbrev at : FrameBeside v w r f g
@@ -275,7 +240,9 @@ module _ (v w : Linked) (typings : Typings) (r : Renaming) where
             leb-false (length at.source.code) (after_call v f) (ap (λ (c : List ℕ). nat_le (length c) (after_call v f)) (sym code) ∙ inside) in
             next-is-place at.source call (after_call v f) (pair.typed at.source at.is_source).formed b.operates.stands after-here lt
 
-        wait-given : IsGiven → Settles (given_to tagged v value cells waiting) (given_to tagged w value cells also_waiting)
+        wait-given :
+            IsGiven value cells f fs heap statics v typings
+            → Settles (given_to tagged v value cells waiting) (given_to tagged w value cells also_waiting)
         wait-given is =
             let target = (its v w typings laws r pair f g at).target in
             let fits : length (with_value cells g.stack) ≤ max_stack_of w g.method =
@@ -287,7 +254,7 @@ module _ (v w : Linked) (typings : Typings) (r : Renaming) where
             ap (λ (c : List ℕ). nat_le (length c) (after_call w g)) (other-code v w typings laws r pair f g at)
             ∙ (ap (nat_le (length target.code)) after-there ∙ lt-leb (length target.code) (rename (after_call v f)) lt) in
             settles-as (given_to tagged v value cells waiting) (given_to tagged w value cells also_waiting) (running given) (running also_given)
-            is.goes (also-goes fits inside)
+            is.goes (goes-given value cells g gs other others w fits inside)
             (both_run (record {
               first = refl;
               second = refl;
@@ -304,4 +271,4 @@ module _ (v w : Linked) (typings : Typings) (r : Renaming) where
           → Settles (given_to tagged v value cells (record { frames = fs; heap = heap; statics = statics }))
           (given_to tagged w value cells (record { frames = gs; heap = other; statics = others }))
       gives no_frames safe = both_end (endings.Plain (Returned value)) same_heap same_statics
-      gives (more_frames {f = f} {g = g} {fs = fs} {gs = gs} b rest) safe = wait-given f g fs gs rest b (is-given f g fs gs rest b safe)
+      gives (more_frames {f = f} {g = g} {fs = fs} {gs = gs} b rest) safe = wait-given f g fs gs rest b (is-given value cells f fs heap statics v typings safe)
