@@ -346,14 +346,11 @@ row_listed [] r h = absurd h
 row_listed (x ∷ xs) r (inl e) = inl (ap placed_of e)
 row_listed (x ∷ xs) r (inr h) = inr (row_listed xs r h)
 
-same_place : (p : ℕ) → (p == p) ≡ true
-same_place p = eq-eqb p p refl
-
 row_at_place : (rows : List Row) (r : Row) → are_apart rows ≡ true → Has rows r → frame_at rows r.placed.place ≡ Some r.before
 row_at_place [] r e h = absurd h
 row_at_place (x ∷ xs) r e (inl s) =
     subst (λ (y : Row). cond (x.placed.place == y.placed.place) (Some x.before) (frame_at xs y.placed.place) ≡ Some y.before) s
-    (ap (λ (b : Bool). cond b (Some x.before) (frame_at xs x.placed.place)) (same_place x.placed.place))
+    (ap (λ (b : Bool). cond b (Some x.before) (frame_at xs x.placed.place)) (eq-eqb x.placed.place x.placed.place refl))
 row_at_place (x ∷ xs) r e (inr h) =
     let both = and_parts (all_true (is_elsewhere x) xs) (are_apart xs) e in
     let other = not-true (x.placed.place == r.placed.place) (has_true (is_elsewhere x) xs r both.0 h) in

@@ -188,10 +188,6 @@ match-yes b P Q h e = subst (λ c. MatchBool c P Q) e h
 pub match-no : (b : Bool) (P Q : Type 0) → MatchBool b P Q → b ≡ false → Q
 match-no b P Q h e = subst (λ c. MatchBool c P Q) e h
 
-pub empty-bytes : (xs : List ℕ) → length xs ≡ 0 → xs ≡ []
-empty-bytes [] e = refl
-empty-bytes (x ∷ xs) e = absurd (omega (arith, e))
-
 pub none-begun : (done ms : List ListedMethod) (o : Option OpenMethod) → state_by done o ≡ between ms → o ≡ None
 none-begun done ms None e = refl
 none-begun done ms (Some m) e = absurd (false≢true (sym (ap (λ (s : State). is-begun s.begun) e)))

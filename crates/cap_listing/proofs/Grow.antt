@@ -24,7 +24,7 @@ use Rattle.cap_listing.proofs.Blocks.{alone, longer, cases-longer, shifted, case
 err : (r : Result Insn CodeEnd) → r ≡ Err Cut → IsErr r
 err r e = rw e (search rules)
 
-no-ok : (r : Result Insn CodeEnd) (i : Insn) → r ≡ Ok i → IsErr r → ⊥
+pub no-ok : (r : Result Insn CodeEnd) (i : Insn) → r ≡ Ok i → IsErr r → ⊥
 no-ok r i e h = absurd (search rules)
 
 end-append : (at : ℕ) (ps qs : List Placed) → end_from at (ps ++ qs) ≡ end_from (end_from at ps) qs

@@ -69,9 +69,9 @@ abbrev AllFit : List ListedMethod → Type 0
 AllFit [] = Unit {0}
 AllFit (m ∷ ms) = Fits m × AllFit ms
 
-few-registers : (n : ℕ) (f : AsmFault) (b : Bool) → ltb 255 n ≡ b → cond b (f ∷ []) [] ≡ [] → n ≤ 255
-few-registers n f true e h = absurd (some-none f [] h)
-few-registers n f false e h = ltb-false 255 n e
+few-counted : (n : ℕ) (f : AsmFault) (b : Bool) → ltb 255 n ≡ b → cond b (f ∷ []) [] ≡ [] → n ≤ 255
+few-counted n f true e h = absurd (some-none f [] h)
+few-counted n f false e h = ltb-false 255 n e
 
 code-length : (n : ℕ) (f : AsmFault) (a b : Bool) → eqb n 0 ≡ a → ltb 32767 n ≡ b → cond (a || b) (f ∷ []) [] ≡ [] → (1 ≤ n) × (n ≤ 32767)
 code-length n f true b e g h = absurd (some-none f [] h)
@@ -102,7 +102,7 @@ all-fit n (m ∷ ms) r h l =
     let own : (1 ≤ size) × (size ≤ 32767) = code-length size (CodeLength n size) (eqb size 0) (ltb 32767 size) refl refl
     (first-none (own_faults conditions.Length n m) (faults_from conditions.Length (n + 1) ms) l) in (
       record {
-        registers = few-registers count (Registers n count) (ltb 255 count) refl
+        registers = few-counted count (Registers n count) (ltb 255 count) refl
             (first-none (own_faults conditions.Registers n m) (faults_from conditions.Registers (n + 1) ms) r);
         some = own.0;
         short = own.1;
@@ -113,10 +113,6 @@ all-fit n (m ∷ ms) r h l =
           (second-none (own_faults conditions.Handlers n m) (faults_from conditions.Handlers (n + 1) ms) h)
           (second-none (own_faults conditions.Length n m) (faults_from conditions.Length (n + 1) ms) l),
     )
-
-few-total : (n : ℕ) (f : AsmFault) (b : Bool) → ltb 255 n ≡ b → cond b (f ∷ []) [] ≡ [] → n ≤ 255
-few-total n f true e h = absurd (some-none f [] h)
-few-total n f false e h = ltb-false 255 n e
 
 -- ---- the elements
 
@@ -210,7 +206,7 @@ placed-fits p ms none =
     let same = all-same 0 ms (methods_of p) (first-none others (registers ++ (handlers ++ (lengths ++ total))) none) in
     let fit = all-fit 0 ms (first-none registers (handlers ++ (lengths ++ total)) one) (first-none handlers (lengths ++ total) two)
     (first-none lengths total three) in
-    let few = few-total (handler_total ms) (TooManyHandlers (min (handler_total ms) 18446744073709551615)) (ltb 255 (handler_total ms)) refl
+    let few = few-counted (handler_total ms) (TooManyHandlers (min (handler_total ms) 18446744073709551615)) (ltb 255 (handler_total ms)) refl
     (second-none lengths total three) in
     record {
       elements = of-classes (names_interface p.classes) p.methods 0 p.description.items.classes ms same fit;

@@ -4,6 +4,7 @@ use Rattle.std.proofs.Common.{Option, Some}
 use Rattle.std.proofs.Common.{refl, sym, ap, subst, ◌∙◌, arith, append_assoc, suc}
 use Rattle.std.proofs.lemmas.Bool.{eqb-true, and_parts}
 use Rattle.std.proofs.lemmas.List.{length-map}
+use Rattle.std.proofs.Math.Seq.{take-append_seam, drop-append_seam}
 use Rattle.cap_method.specs.MethodFormat.{Header}
 use Rattle.cap_desc.specs.DescriptorFormat.{MethodDescriptor, ClassDescriptor}
 use Rattle.cap_desc.specs.Members.{methods_but}
@@ -78,14 +79,6 @@ filled-append (b ∷ bs) cs ms = ap (λ (l : List (Option Laid)). first_filled b
 filled-length : (bs : List Bool) (ms : List ListedMethod) → length (filled bs ms) ≡ length bs
 filled-length [] ms = refl
 filled-length (b ∷ bs) ms = ap suc (filled-length bs (rest_filled b ms))
-
-take-front : {X : Type 0} (xs ys : List X) → take (length xs) (xs ++ ys) ≡ xs
-take-front [] ys = refl
-take-front (x ∷ xs) ys = ap (λ (l : List _). x ∷ l) (take-front xs ys)
-
-drop-front : {X : Type 0} (xs ys : List X) → drop (length xs) (xs ++ ys) ≡ ys
-drop-front [] ys = refl
-drop-front (x ∷ xs) ys = drop-front xs ys
 
 -- ---- code that is laid is listed as it was
 
@@ -225,7 +218,7 @@ module _ (p q : PackageRecord) where
         let dropped : drop (length c.methods) (filled (fs ++ rest) ms) ≡ filled rest ms =
         ap (λ (l : List (Option Laid)). drop (length c.methods) l) (filled-append fs rest ms)
         ∙ ap (λ (n : ℕ). drop n (filled fs ms ++ filled rest (after fs ms))) (sym size)
-        ∙ drop-front (filled fs ms) (filled rest (after fs ms))
+        ∙ drop-append_seam (filled fs ms) (filled rest (after fs ms))
         ∙ ap (filled rest) (no-flags c.methods ms) in
         later x ms num (subst (λ (l : List (Option Laid)). Become x (methods_but set cs) (laid_but set cs l) (methods_but set ds)) dropped be)
     of-kind k x c d cs ds ms false long later num be =
@@ -238,10 +231,10 @@ module _ (p q : PackageRecord) where
         let all = filled-append fs rest ms in
         let taken : take (length c.methods) (filled (fs ++ rest) ms) ≡ filled fs ms =
         ap (λ (l : List (Option Laid)). take (length c.methods) l) all
-        ∙ ap (λ (n : ℕ). take n (filled fs ms ++ filled rest next)) (sym size) ∙ take-front (filled fs ms) (filled rest next) in
+        ∙ ap (λ (n : ℕ). take n (filled fs ms ++ filled rest next)) (sym size) ∙ take-append_seam (filled fs ms) (filled rest next) in
         let dropped : drop (length c.methods) (filled (fs ++ rest) ms) ≡ filled rest next =
         ap (λ (l : List (Option Laid)). drop (length c.methods) l) all
-        ∙ ap (λ (n : ℕ). drop n (filled fs ms ++ filled rest next)) (sym size) ∙ drop-front (filled fs ms) (filled rest next) in
+        ∙ ap (λ (n : ℕ). drop n (filled fs ms ++ filled rest next)) (sym size) ∙ drop-append_seam (filled fs ms) (filled rest next) in
         let cut : Become x (c.methods ++ old) (filled fs ms ++ laid_but set cs (filled rest next)) (d.methods ++ new) =
         subst (λ (l : List (Option Laid)). Become x (c.methods ++ old) (l ++ laid_but set cs (filled rest next)) (d.methods ++ new)) taken
         (subst (λ (l : List (Option Laid)). Become x (c.methods ++ old)

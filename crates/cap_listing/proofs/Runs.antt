@@ -24,7 +24,7 @@ use Rattle.cap_listing.specs.Text.{begun_lines, lines_of}
 use Rattle.cap_listing.specs.Reading.{State, block_words, next_head, next_instruction, next_bytes, next_handler, next_end, Reads}
 use Rattle.cap_listing.specs.Reading.{reads_nothing, reads_more, start}
 use Rattle.cap_listing.proofs.Blocks.{own, own-one, cases-alone, shifted}
-use Rattle.cap_listing.proofs.Grow.{lists-all}
+use Rattle.cap_listing.proofs.Grow.{lists-all, no-ok}
 
 abbrev Lines : Type 0
 Lines = List (List (List ℕ))
@@ -49,9 +49,6 @@ none-there code at (p ∷ ps) l = none-there code (at + p.insn.len) ps l.2
 pub ends-inside : (code : List ℕ) (at : ℕ) (ps : List Placed) → at ≤ length code → ListsFound (decoded code) at ps → end_from at ps ≤ length code
 ends-inside code at [] h l = h
 ends-inside code at (p ∷ ps) h l = ends-inside code (at + p.insn.len) ps ((IsWithin-decoded code at p.insn l.1).reaches) l.2
-
-no-ok : (r : Result Insn CodeEnd) (i : Insn) → r ≡ Ok i → IsErr r → ⊥
-no-ok r i e h = absurd (search rules)
 
 module _ (done : List ListedMethod) (m : ListedMethod) (ok : IsMethod m) where
   -- the instructions from a place on

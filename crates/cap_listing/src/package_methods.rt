@@ -201,7 +201,7 @@ fn laid_handler(start: u32, handler: HandlerInfo) -> LaidHandler
 }
 
 /// The handlers after so many.
-#[tactic(auto, using(crate::proofs::Counted::drop_step))]
+#[tactic(auto, using(jc_resolve::proofs::Parts::drop_step))]
 fn handlers_after<'a>(handlers: HandlerEntries<'a>, count: u16) -> HandlerEntries<'a>
     ensures { handlers_left result ≡ drop count (handlers_left handlers.entry) }
 {
@@ -216,7 +216,7 @@ fn handlers_after<'a>(handlers: HandlerEntries<'a>, count: u16) -> HandlerEntrie
 }
 
 /// The first handlers, so many, with their places counted from an offset.
-#[tactic(auto, using(crate::proofs::Counted::take_step))]
+#[tactic(auto, using(jc_resolve::proofs::Parts::take_step))]
 fn laid_handlers(
     alloc: Global,
     start: u32,

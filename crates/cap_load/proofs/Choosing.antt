@@ -7,6 +7,7 @@ use Rattle.std.specs.Prelude.{◌==◌, ◌||◌, ◌&&◌, nat_le, nat_lt, is_s
 use Rattle.std.specs.List.{position_or_len}
 use Rattle.std.proofs.lemmas.Bool.Decides.{nat_tests}
 use Rattle.std.specs.List.{AllByRecursion, flat_map}
+use Rattle.std.proofs.Math.Bool.{or-true, or-false}
 use Rattle.cap_components.specs.Parts.{Lent, is_of, bytes_of, held}
 use Rattle.cap_load.specs.Order.{components, place, is_below, comes_before, InOrder}
 use Rattle.cap_load.specs.LoadFile.{tag_of, files_of}
@@ -116,17 +117,9 @@ found (t ∷ ts) tag = found_by t tag ts (t == tag) refl (found ts tag)
 position_some : (ts : List ℕ) (tag : ℕ) → is_some (position (λ t. t == tag) ts) ≡ stands_in tag ts
 position_some ts tag = some_cond (nat_lt (position_or_len (λ t. t == tag) ts) (length ts)) (position_or_len (λ t. t == tag) ts) ∙ found ts tag
 
-or_false : (b : Bool) → (b || false) ≡ b
-or_false true = refl
-or_false false = refl
-
-or_true : (b : Bool) → (b || true) ≡ true
-or_true true = refl
-or_true false = refl
-
 place_by : (b : Bool) (tag : ℕ) → (stands_in tag components || b) ≡ is_some (if b then Some tag else position (λ t. t == tag) components)
-place_by true tag = or_true (stands_in tag components)
-place_by false tag = or_false (stands_in tag components) ∙ sym (position_some components tag)
+place_by true tag = or-true (stands_in tag components)
+place_by false tag = or-false (stands_in tag components) ∙ sym (position_some components tag)
 
 place_is : (tag : ℕ) → stands_in tag in_order ≡ is_some (place tag)
 unfolding place in_order

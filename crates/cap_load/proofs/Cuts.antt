@@ -1,7 +1,7 @@
 -- Contents in full blocks.
 use Rattle.std.proofs.Common.{◌≡◌, ℕ, ◌+◌, ◌*◌, ◌<◌, ◌≤◌, ◌^◌, Bool, true, false, List, [], ◌∷◌, ◌++◌, length, take}
 use Rattle.std.proofs.Common.{drop, get_or, refl, sym, ap, subst, ◌∙◌, arith, length-append, append_assoc, if◌then◌else◌}
-use Rattle.std.proofs.lemmas.List.{append-nil, take-append-drop, length-take}
+use Rattle.std.proofs.lemmas.List.{append-nil, take-append-drop, length-take, nil_from_length}
 use Rattle.std.proofs.lemmas.List.Concat.{flat_map-append}
 use Rattle.std.proofs.lemmas.List.Folds.{concat-append}
 use Rattle.std.proofs.lemmas.Bool.{eqb-true, eqb-false}
@@ -59,10 +59,6 @@ cut_step contents stream rest content back new c more front behind h =
     let long : length content ≡ 255 = ap length front ∙ omega (arith, length-take 255 rest) in
     cut_more contents stream rest content back new c long whole h
 
-no_bytes : (xs : List ℕ) → length xs ≡ 0 → xs ≡ []
-no_bytes [] e = refl
-no_bytes (x ∷ xs) e = absurd (omega arith)
-
 pub cut_end : (contents stream rest new : List ℕ) → IsCutUpTo contents stream rest → length rest ≤ 255 → new ≡ stream ++ ending rest
     → IsCut contents new
 cut_end contents stream rest new c few h = by (length rest == 0) refl
@@ -71,7 +67,7 @@ cut_end contents stream rest new c few h = by (length rest == 0) refl
     by true e = record {
       blocks = c.blocks;
       full = full_all c.blocks c.each;
-      joined = sym (c.joined ∙ ap (λ (x : List ℕ). concat c.blocks ++ x) (no_bytes rest (eqb-true (length rest) 0 e)) ∙ append-nil (concat c.blocks));
+      joined = sym (c.joined ∙ ap (λ (x : List ℕ). concat c.blocks ++ x) (nil_from_length rest (eqb-true (length rest) 0 e)) ∙ append-nil (concat c.blocks));
       whole = h ∙ ap (λ (t : Bool). stream ++ (if t then 0 ∷ [] else block rest ++ 0 ∷ [])) e ∙ ap (λ (x : List ℕ). x ++ 0 ∷ []) c.whole;
     }
     by false e =

@@ -12,6 +12,7 @@ use Rattle.std.proofs.lemmas.Fmt.{parse-decimal, parse-signed_decimal, decimal_i
 use Rattle.hex.specs.Hex.{encode_lower, decode_of, lower_digits}
 use Rattle.hex.specs.declared.error.FromHexError.{FromHexError}
 use Rattle.hex.proofs.HexLemmas.{length-encode_with, decode_of-encode_lower, decode_of-ok, decode_of-same}
+use Rattle.cap_listing.proofs.Cuts.{count-read}
 use Rattle.cap_text.specs.Word.{IsNumberWord, IsBytesWord, IsArgWord}
 use Rattle.vm_step.specs.Arguments.{Argument, number, null, bytes}
 use lib.Pointwise.{pointwise, bytes_decides}
@@ -102,16 +103,12 @@ written digits read is prints few =
 
 -- ---- a number of 16 bits
 
-pub short_is_read : {E : Type 0} (word : List ℕ) (r : Result ℕ E) (n : ℕ) → ParsesUnsigned 16 10 word r → n < 2 ^ 16 → word ≡ decimal n
-    → r ≡ Ok n
-short_is_read word r n reads fits writes = parse-decimal 16 n word r fits (omega (arith, fits)) writes reads
-
 -- no number of 16 bits is written by a word that the one that was read does not print
 pub no_short : {E : Type 0} (word : List ℕ) (r : Result ℕ E) (x : ℕ) → ParsesUnsigned 16 10 word r → r ≡ Ok x
     → (word ≡ decimal x → IsTrue false)
     → (n : ℕ) → n < 2 ^ 16 → word ≢ decimal n
 no_short word r x reads is other n fits = λ writes.
-    let read : r ≡ Ok n = short_is_read word r n reads fits writes in
+    let read : r ≡ Ok n = count-read word r n reads fits writes in
     false≢true (other (cc))
 
 -- ---- the number sign

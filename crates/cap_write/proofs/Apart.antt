@@ -1,6 +1,6 @@
 -- Described methods stand apart in the Method component, since the parts of a package agree.
-use Rattle.std.proofs.Common.{◌≡◌, ◌≤◌, ◌<◌, ◌+◌, ℕ, Bool, true, false, cond, List, [], ◌∷◌, length, map, Option, Some, None, refl}
-use Rattle.std.proofs.Common.{sym, ap, ◌∙◌, arith, leb}
+use Rattle.std.proofs.Common.{◌≡◌, ◌≤◌, ◌<◌, ◌+◌, ℕ, Bool, true, false, cond, List, [], ◌∷◌, length, map, Some, None, refl}
+use Rattle.std.proofs.Common.{sym, ap, ◌∙◌, arith}
 use Rattle.std.specs.Prelude.{min, max, ◌||◌}
 use Rattle.std.specs.List.{filter_map}
 use Rattle.std.proofs.lemmas.Bool.{ltb-false}
@@ -9,9 +9,10 @@ use Rattle.first_fault.proofs.LeastFaults.{faultless_first}
 use Rattle.cap_desc.specs.DescriptorFormat.{MethodDescriptor}
 use Rattle.cap_components.specs.declared.fault.PackFault.{PackFault}
 use Rattle.cap_components.specs.declared.fault.PackFault.TheVariants.{MethodOverlaps, MethodOutside}
-use Rattle.cap_package.specs.MethodChecks.{code_start, code_end, size_by, share_byte, overlap_fault, overlap_pair, outside_fault}
+use Rattle.cap_package.specs.MethodChecks.{code_start, code_end, share_byte, overlap_fault, overlap_pair, outside_fault}
 use Rattle.cap_package.specs.Pairs.{pairs}
 use Rattle.cap_package.proofs.StaticsKnown.{both_empty}
+use Rattle.cap_package.proofs.HeaderLaws.{size_least}
 use Rattle.cap_bytes.specs.Number.{number_at}
 
 -- a method ends in the info, two bytes or more after its offset
@@ -23,14 +24,6 @@ abbrev pub AllEnd : List ℕ → List MethodDescriptor → Type 0
 AllEnd info [] = Unit {0}
 AllEnd info (m ∷ ms) = EndsInside info m × AllEnd info ms
 
-size_two : (o : Option ℕ) → 2 ≤ size_by o
-size_two None = omega arith
-size_two (Some first) = by (leb 128 first)
-  where
-    by : (b : Bool) → 2 ≤ cond b 4 2
-    by true = omega arith
-    by false = omega arith
-
 outside_none : (a b : Bool) (f : PackFault) → cond (a || b) (Some f) None ≡ None → b ≡ false
 outside_none true b f e = absurd (cc)
 outside_none false true f e = absurd (cc)
@@ -39,7 +32,7 @@ outside_none false false f e = refl
 ends_inside : (info : List ℕ) (n : ℕ) (m : MethodDescriptor) → outside_fault info n m ≡ None → EndsInside info m
 unfolding outside_fault code_end code_start
 ends_inside info n m none =
-    let s = size_two (number_at 1 m.method_offset info) in
+    let s = size_least (number_at 1 m.method_offset info) in
     let e = ltb-false (length info) (code_end info m) (outside_none _ _ (MethodOutside m.method_offset) none) in
     record { two = omega arith; ends = e }
 

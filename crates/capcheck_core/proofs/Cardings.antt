@@ -19,7 +19,7 @@ use Rattle.cap_text.specs.Line.{methods_line, refused_card_line}
 use Rattle.capcheck_core.specs.declared.verdict.Verdict.{Verdict}
 use Rattle.capcheck_core.specs.declared.verdict.Verdict.TheVariants.{Refused, Memory}
 use Rattle.jc_control.specs.Asked.{AllHaveBelow}
-use Rattle.vm_offend.proofs.Accepting.{accepted-typed}
+use Rattle.card_verify.proofs.Accepting.{accepted-typed}
 use Rattle.xf_pack.proofs.Passing.{method-is}
 use Rattle.capcheck_core.specs.Typed.{numbers_of_method}
 use Rattle.xf_share.specs.Ends.{HaveCardTypings}

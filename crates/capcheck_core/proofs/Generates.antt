@@ -23,7 +23,7 @@ use Rattle.cap_gen.specs.Generated.{generated_parts}
 use Rattle.jc_base.specs.Class.{is_interface}
 use Rattle.jc_base.specs.Linked.{IsCodeLength, IsMethod}
 use Rattle.jc_base.specs.World.{Linked, IsWorld, method_numbered}
-use Rattle.jc_base.proofs.Lists.{All-slice_get}
+use Rattle.jc_base.proofs.Lists.{All-slice_get, slice_get-farther}
 use Rattle.jc_base.specs.declared.record.MethodRec.{MethodRec}
 use Rattle.jc_base.specs.declared.ty.Ty.TheVariants.{Bottom}
 use Rattle.jc_link.specs.World.{IsLinked, LinkTells}
@@ -47,7 +47,7 @@ use Rattle.vm_store.specs.declared.cell.Cell.{Cell}
 use Rattle.vm_offend.specs.Held.{ending_of, Follows}
 use Rattle.law_laid.specs.Apart.{IsSameBut}
 use Rattle.cap_text.specs.Generate.{GenerateRequest, generate_text}
-use Rattle.vm_offend.proofs.Accepting.{accepted-typed}
+use Rattle.card_verify.proofs.Accepting.{accepted-typed}
 use Rattle.cap_gen.proofs.Placed.{at_each}
 use Rattle.capcheck_core.specs.declared.verdict.Verdict.{Verdict}
 use Rattle.capcheck_core.specs.declared.verdict.Verdict.TheVariants.{Done, Refused, Limit, Malformed, Usage, ReadFault, StoreFault, Memory}
@@ -186,10 +186,6 @@ there_or_last (z ∷ zs) x y (suc n) there =
       | inr last ↦ inr (ap suc last.0, last.1)
     ]
 
-last_there : {X : Type 0} (xs : List X) (x : X) → slice_get (xs ++ x ∷ []) (length xs) ≡ Some x
-last_there [] x = refl
-last_there (y ∷ ys) x = last_there ys x
-
 come_more : (w : Linked) (os : List (Outcome Cell)) (o : Outcome Cell) → ComeOfRuns w os → ComesTo w (run_of (length os)) o
     → ComeOfRuns w (os ++ o ∷ [])
 come_more w os o come comes k p there =
@@ -211,7 +207,8 @@ one_run_more w k begun before c sum more ending have is adds =
     let o = is.outcome in
     let os = have.outcomes in
     let count : length (os ++ o ∷ []) ≡ k + 1 = length_push os o ∙ ap (λ n. n + 1) have.count in
-    let there : slice_get (os ++ o ∷ []) k ≡ Some o = subst (λ n. slice_get (os ++ o ∷ []) n ≡ Some o) have.count (last_there os o) in
+    let there : slice_get (os ++ o ∷ []) k ≡ Some o =
+    subst (λ n. slice_get (os ++ o ∷ []) n ≡ Some o) have.count (slice_get-farther os (o ∷ []) 0 (length os) (omega arith)) in
     let before_it : (k + 1) - 1 ≡ k = omega arith in
     let old_sum : ℤ = fold ◌+ℤ◌ (pos 0) (map short_result os) in
     record {

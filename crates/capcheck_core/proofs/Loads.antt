@@ -50,7 +50,7 @@ below_none low top tag (lent ∷ parts) rise lt =
     held-other tag lent parts (ne_eqb lent.part tag (λ e. absurd (omega (arith, least, lt, e))))
     ∙ below_none (suc lent.part) top tag parts rise.2 (omega (arith, least, lt))
 
-nothing : (o : Option (List ℕ)) → IsNone o → o ≡ None
+pub nothing : (o : Option (List ℕ)) → IsNone o → o ≡ None
 nothing None none = refl
 nothing (Some bytes) none = absurd cc
 

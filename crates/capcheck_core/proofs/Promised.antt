@@ -49,17 +49,13 @@ use Rattle.capcheck_core.specs.Trial.{TriesWorld}
 use Rattle.capcheck_core.specs.Verdict.{status_of, text_of}
 use Rattle.capcheck_core.specs.Verify.{VerifiesWorld}
 use Rattle.capcheck_core.specs.World.{Own, of_world, OverWorld}
-use Rattle.capcheck_core.proofs.Loads.{none_some, file_other, file_same, below_none}
+use Rattle.capcheck_core.proofs.Loads.{none_some, file_other, file_same, below_none, nothing}
 use Rattle.capcheck_core.proofs.Stores.{get_stored, stores_each, no_header_before}
 
 -- ---- what is stored
 
 abbrev order : List ℕ → List ℕ → Ordering
 order = slice_cmp nat_cmp
-
-nothing : (o : Option (List ℕ)) → IsNone o → o ≡ None
-nothing None none = refl
-nothing (Some bytes) none = absurd cc
 
 module _ (dir : List ℕ) where
   other : (key : List ℕ) (l : Lent) → (l.part ∷ dir ≡ key → ⊥) → eq_by_cmp order key (l.part ∷ dir) ≡ false

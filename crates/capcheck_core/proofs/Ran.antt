@@ -1,5 +1,5 @@
 -- What a run on the machine of verified code leaves: its words, and the text of them.
-use Rattle.std.proofs.Common.{◌≡◌, ℕ, List, ◌++◌, length, map, take, Option, Some, None, zero, suc, refl, sym, ap, subst, ◌∙◌}
+use Rattle.std.proofs.Common.{◌≡◌, ℕ, List, ◌++◌, length, map, take, Some, zero, suc, refl, sym, ap, subst, ◌∙◌}
 use Rattle.std.specs.Prelude.{slice_get, option_map, option_and_then, Result, Ok, Err, MatchResult, OnErr}
 use Rattle.std.proofs.Math.Seq.{take-append_seam, take-length}
 use Rattle.jc_base.specs.declared.record.StaticRec.{StaticRec}
@@ -8,14 +8,11 @@ use Rattle.vm_store.specs.declared.cell.Cell.{Cell}
 use Rattle.vm_store.specs.Cells.{tagged, words}
 use Rattle.vm_store.specs.State.{State, erased}
 use Rattle.vm_store.specs.Objects.{object_at}
-use Rattle.vm_step.specs.declared.ending.Ending.{Ending}
 use Rattle.vm_step.specs.declared.ending.Ending.TheVariants as endings
 use Rattle.vm_step.specs.declared.ending.Plain.{Plain}
 use Rattle.vm_step.specs.Raising.{Outcome, running, ended}
 use Rattle.vm_step.specs.Run.{stands}
 use Rattle.vm_step.specs.Start.{entry_state}
-use Rattle.vm_run.specs.Turn.{with_ending}
-use Rattle.law_erasure.specs.Erasure.{erased_outcome}
 use Rattle.vm_defend.specs.Held.{answer}
 use Rattle.vm_defend.specs.Reading.{value_at}
 use Rattle.vm_offend.specs.declared.words.Counts.{Counts}
@@ -24,6 +21,7 @@ use Rattle.vm_offend.specs.declared.machine.Machine.{Machine}
 use Rattle.vm_offend.specs.Sized.{static_cells}
 use Rattle.vm_offend.specs.Held.{AreWordsOf, IsOutcomeOfRun, Follows, state_of, ending_of}
 use Rattle.vm_offend.specs.Begun.{IsBegun}
+use Rattle.vm_offend.proofs.Living.{state-erased, state-with}
 use Rattle.vm_text.specs.Left.{Readout, number_array, left_by}
 use Rattle.vm_text.specs.Lent.{lent_state, IsLentRun}
 use Rattle.vm_text.specs.LikeTexts.{TextsAreAlike}
@@ -39,19 +37,11 @@ use Rattle.capcheck_core.specs.Run.{HoldsWords, IsCardKept, IsLeft, IsRun, Stops
 
 -- ---- the words of an outcome
 
-state_kept : (ending : Option Ending) (x : State ℕ) → state_of (with_ending ending x) ≡ x
-state_kept None x = refl
-state_kept (Some ending) x = refl
-
-erased_kept : (o : Outcome Cell) → state_of (erased_outcome o) ≡ erased (state_of o)
-erased_kept (running s) = refl
-erased_kept (ended ending s) = refl
-
 -- the memory holds the words of the state
 words_of : (w : Linked) (m : Machine) (ram heap statics : List ℕ) (o : Outcome Cell) → AreWordsOf w m ram heap statics o
     → words_state w.methods ram heap statics m.counts ≡ erased (state_of o)
 words_of w m ram heap statics o are =
-    sym (state_kept (option_map endings.Plain m.ending) (words_state w.methods ram heap statics m.counts)) ∙ ap state_of are.words ∙ erased_kept o
+    sym (state-with (option_map endings.Plain m.ending) (words_state w.methods ram heap statics m.counts)) ∙ ap state_of are.words ∙ state-erased o
 
 pub lent_run : (w : Linked) (m : Machine) (ram heap statics : List ℕ) (o : Outcome Cell) → AreWordsOf w m ram heap statics o
     → IsLentRun w w heap statics m.counts

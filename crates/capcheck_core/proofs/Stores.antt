@@ -17,7 +17,7 @@ use Rattle.capcheck_core.specs.Loads.{Rise, with_file}
 use Rattle.capcheck_core.specs.Roles.{roles_tag}
 use Rattle.capcheck_core.specs.Stores.{with_parts_stored, AreStored, IsPartlyStored, IsBrokenOff, AreInStoreOrder, StandWhole, HasAllButHeader, HasHeaderLast}
 use Rattle.capcheck_core.specs.Stores.{IsStoredInPart, header_tag}
-use Rattle.capcheck_core.proofs.Loads.{none_some, lent_of, above_none, below_none, rise_wider, rise_push, file_other, file_same}
+use Rattle.capcheck_core.proofs.Loads.{none_some, lent_of, above_none, below_none, rise_wider, rise_push, file_other, file_same, nothing, rise_once}
 
 -- ---- one store more
 
@@ -188,10 +188,6 @@ get_kept dir old (l ∷ ls) tag absent = by (eqb l.part tag) refl (get_kept dir 
     by true e rest = absurd (none_some l.bytes (sym absent ∙ held-same tag l ls e))
     by false e rest = rest (sym (held-other tag l ls e) ∙ absent) ∙ insert_other dir old l.part tag l.bytes (λ is. eqb-false l.part tag e is)
 
-nothing : (o : Option (List ℕ)) → IsNone o → o ≡ None
-nothing None none = refl
-nothing (Some bytes) none = absurd cc
-
 -- a part that is stored once is there
 pub get_stored : (dir : List ℕ) (old : Parts) (parts : List Lent) → HasEachOnce parts → StandWhole dir parts (with_parts_stored dir old parts)
 get_stored dir old [] each tag bytes is = absurd (none_some bytes is)
@@ -286,16 +282,10 @@ module _ (dir header : List ℕ) (others : List Lent) (each : HasEachOnce others
     | inr before ↦ inl (before_header done b before.0 before.1 begun)
   ]
 
--- parts of rising tags stand once each
-rise_each : (low top : ℕ) (parts : List Lent) → Rise low top parts → HasEachOnce parts
-rise_each low top [] rise = tt {0}
-rise_each low top (l ∷ ls) rise =
-    (is_none (held ls l.part) (below_none (suc l.part) top l.part ls rise.2 (omega arith)), rise_each (suc l.part) top ls rise.2)
-
 roles_each : (others : List Lent) (roles : Option (List ℕ)) → Rise 2 256 others → HasEachOnce (with_file others roles_tag roles)
-roles_each others None rise = rise_each 2 256 others rise
+roles_each others None rise = rise_once 2 256 others rise
 roles_each others (Some bytes) rise =
-    HasEachOnce-push others (lent_of roles_tag bytes) (rise_each 2 256 others rise)
+    HasEachOnce-push others (lent_of roles_tag bytes) (rise_once 2 256 others rise)
     (is_none (held others roles_tag) (below_none 2 256 0 others rise (omega arith)))
 
 pub header_last : (dir : List ℕ) (parts : List Lent) (roles : Option (List ℕ)) (stores : List Lent) (before after : Folders)

@@ -1,23 +1,12 @@
 -- The parts of a package in its Load file, from the bytes that a loader took.
 use Rattle.std.proofs.Common.{◌≡◌, ℕ, List, [], ◌++◌, Result, Ok, Err, ◌∙◌}
 use Rattle.cap_files.specs.Folder.{Folders}
-use Rattle.cap_load.specs.declared.fault.StreamFault.{StreamFault}
-use Rattle.cap_load.specs.declared.fault.StreamFault.TheVariants.{NoTag, Order, Full, AfterEnd, Unfinished}
-use Rattle.cap_load.specs.Fault.{IsFirst, IsRefused}
 use Rattle.cap_load.specs.Loaded.{Loaded, StandsFor}
 use Rattle.capcheck_core.specs.declared.packages.PackagesStop.{PackagesStop}
 use Rattle.capcheck_core.specs.declared.packages.PackagesStop.TheVariants.{TooMany, Malformed, Failed, Memory}
 use Rattle.capcheck_core.specs.PackageEnds.{HasTaken, PackagesLeave, PackagesStopLeaves}
 
 -- ---- a loader that takes all of the bytes
-
--- bytes are refused for the first fault that they show
-first_refused : (room : ℕ) (bytes : List ℕ) (fault : StreamFault) → IsFirst room bytes fault → IsRefused room bytes fault
-first_refused room bytes (NoTag tag) first = first
-first_refused room bytes (Order a b) first = first
-first_refused room bytes (Full n) first = first
-first_refused room bytes AfterEnd first = first
-first_refused room bytes Unfinished first = absurd first.shown
 
 pub takes : (loader new : Loaded) (stream : List ℕ) → StandsFor loader [] → loader.room ≡ 65538
     → ((bytes : List ℕ) → StandsFor loader bytes → StandsFor new (bytes ++ stream)) → new.room ≡ loader.room → HasTaken new stream

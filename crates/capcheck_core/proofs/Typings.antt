@@ -8,7 +8,6 @@ use Rattle.std.proofs.lemmas.List.Sums.{count_by_more_yes, count_by_more_no}
 use Rattle.std.specs.Int.{from_bool}
 use Rattle.std.proofs.Math.Nat.{eq-or-lt_of_le}
 use Rattle.std.proofs.lemmas.Option.{slice_get_within, get_or_from_slice_get}
-use Rattle.law_transform.proofs.Accepted.{in-world}
 use Rattle.jc_base.specs.declared.ty.Ty.TheVariants.{Top}
 use Rattle.jc_base.specs.declared.record.MethodRec.{MethodRec}
 use Rattle.jc_base.specs.World.{Linked, code_of}
@@ -23,16 +22,11 @@ use Rattle.jc_flow.specs.Infer.{TellsEnd, LacksTyping}
 use Rattle.cap_text.specs.declared.line.MethodNumber.{MethodNumber}
 use Rattle.cap_text.specs.Line.{methods_line, refused_flow_line}
 use Rattle.jc_control.specs.Asked.{IsOfLast}
+use Rattle.law_laid.proofs.Methods.{known}
 use Rattle.capcheck_core.specs.Typed.{is_of_last, AreTypedBelow, count_of_last, numbers_of_method, TellsTyped, TellsUntyped}
 use Rattle.capcheck_core.specs.CheckEnds.{IsTypedMethod, FailsMethod}
 
 -- ---- a method by its number
-
--- what is known of the method of a number holds of it
-known : (w : Linked) (n : ℕ) (P : Method → Type 0) → IsSomeAnd (method_in w n) P → (m : Method) → IsMethodOf w m → m.number ≡ n → P m
-known w n P some m is e =
-    let at : IsSomeAnd (method_in w m.number) P = subst (λ k. IsSomeAnd (method_in w k) P) (sym e) some in
-    subst (λ o. IsSomeAnd o P) (in-world w m is) at
 
 pub typed_at : (w : Linked) (n : ℕ) (t : List (Option Frame)) → IsSomeAnd (method_in w n) (λ m. IsLeastTyping w m Top (state_at t)) → IsTypedMethod w n
 typed_at w n t least = λ m of_last e.

@@ -3,7 +3,7 @@ use Rattle.std.proofs.Common.{◌≡◌, ℕ, zero, suc, ◌+◌, ◌<◌, ◌�
 use Rattle.std.proofs.Common.{if◌then◌else◌, List, [], ◌∷◌, length, All, refl, sym, ◌∙◌, ap, subst, arith, Contains, IsTrue}
 use Rattle.std.specs.Prelude.{pos}
 use Rattle.std.proofs.lemmas.List.Elements.{All-contains}
-use Rattle.std.proofs.lemmas.Bool.{false≢true}
+use Rattle.std.proofs.lemmas.Bool.{false≢true, eq-eqb}
 use Rattle.jc_base.specs.declared.ty.Ty.{Ty}
 use Rattle.jc_base.specs.declared.ty.Ty.TheVariants.{Bottom, Class}
 use Rattle.jc_base.specs.Order.{IsKnown}
@@ -27,9 +27,6 @@ use Rattle.card_typing.specs.Pass.{IsQuiet, quiet_end, quiet_more}
 use Rattle.card_typing.specs.Laws.{MetIsBelow, MetIsSound, QuietIsLeast}
 
 -- ---- lists
-
-pub eq-same : (n : ℕ) → (n == n) ≡ true
-eq-same n = grind arith
 
 pub eq-other : (n m : ℕ) → m < n → (n == m) ≡ false
 eq-other n m lt = grind arith
@@ -104,7 +101,7 @@ module _ (w : Linked) (m : Method) (marked : ℕ → Type 0) (regs : List Ty) wh
     unfolding stack-in
     onward at _ _ _ (quiet_end b given) l end agree = inr (end, agree at (omega arith))
     onward at _ _ _ (quiet_more b given stack after o i is a p u) l end agree =
-        let test : (at == i.place) ≡ true = subst (λ n. (at == n) ≡ true) (sym l.0) (eq-same at) in
+        let test : (at == i.place) ≡ true = subst (λ n. (at == n) ≡ true) (sym l.0) (eq-eqb at at refl) in
         let here : stacks at ≡ stack = agree at (omega arith) ∙ ap (λ (t : Bool). if t then stack else stack-in (falls i.insn.op) after is u at) test in
         inl (subst (Arrives w m b given at) (sym here) (subst (λ n. Arrives w m b given n stack) l.0 a))
 
@@ -122,7 +119,7 @@ module _ (w : Linked) (m : Method) (marked : ℕ → Type 0) (regs : List Ty) wh
         place = l.0
 
         test : (i.place == i.place) ≡ true
-        test = eq-same i.place
+        test = eq-eqb i.place i.place refl
 
         here : stacks i.place ≡ stack
         here = agree i.place (omega (arith, place)) ∙ ap (λ (t : Bool). if t then stack else stack-in (falls i.insn.op) after is u i.place) test

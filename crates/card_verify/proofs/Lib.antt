@@ -16,3 +16,4 @@ pub mod OneRefusal
 pub mod Tallies
 pub mod Twice
 pub mod Totals
+pub mod Accepting

@@ -50,7 +50,7 @@ pub started-all : (start regs : List Ty) (x : ℕ) → length regs ≡ length st
     → ((k : ℕ) → k < x → get_or regs k Bottom ≡ get_or start k Bottom) → regs ≡ start
 started-all start regs x count all so_far = ext_get_or Bottom regs start count (λ k lt. so_far k (omega arith))
 
-receiver-length : (b : Bool) (c : ℕ) → length (if b then [] else Class c ∷ []) ≡ receiver_words b
+pub receiver-length : (b : Bool) (c : ℕ) → length (if b then [] else Class c ∷ []) ≡ receiver_words b
 receiver-length true c = refl
 receiver-length false c = refl
 

@@ -4,6 +4,7 @@ use Rattle.std.proofs.Common.{flat_map, Option, Some, None, ◌⊎◌, refl, sym
 use Rattle.std.specs.Prelude.{All, IfSome, is_some, ◌==◌, ◌&&◌, ◌||◌, if◌then◌else◌, filter_map, slice_get, option_map}
 use Rattle.std.specs.List.{range_with_len, list_any}
 use Rattle.std.proofs.lemmas.Bool.{cases_lt, false≢true, and_parts}
+use Rattle.std.proofs.Math.Bool.{or-true}
 use Rattle.jc_base.proofs.Lists.{All-slice_get}
 use Rattle.jc_base.specs.declared.record.MethodRec.{MethodRec}
 use Rattle.jc_base.specs.Class.{list_of}
@@ -77,10 +78,6 @@ adds_all methods c first to table inherited list e is past before = record {
 
 -- ---- entries that may stand in a list
 
-or_true : (b : Bool) → (b || true) ≡ true
-or_true true = refl
-or_true false = refl
-
 own_stands : (t : LineTable) (c : ℕ) (o : Option MethodRec) → own_by c o ≡ true → may_stand t c o ≡ true
 own_stands t c None e = absurd (false≢true e)
 own_stands t c (Some m) e =
@@ -92,7 +89,7 @@ own_stands t c (Some m) e =
 
 on_above : (t : LineTable) (d c p : ℕ) → chain t c ≡ c ∷ chain t p → is_on_chain t d p ≡ true → is_on_chain t d c ≡ true
 unfolding is_on_chain
-on_above t d c p step on = ap (list_any (λ x. x == d)) step ∙ ap (λ (b : Bool). (c == d) || b) on ∙ or_true (c == d)
+on_above t d c p step on = ap (list_any (λ x. x == d)) step ∙ ap (λ (b : Bool). (c == d) || b) on ∙ or-true (c == d)
 
 above_stands : (t : LineTable) (c p : ℕ) (o : Option MethodRec) → chain t c ≡ c ∷ chain t p → may_stand t p o ≡ true → may_stand t c o ≡ true
 above_stands t c p None step e = absurd (false≢true e)

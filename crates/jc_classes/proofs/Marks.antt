@@ -6,6 +6,7 @@ use Rattle.std.proofs.lemmas.Bool.{cases_lt, false≢true, eq-eqb, eqb-true}
 use Rattle.std.proofs.lemmas.List.{get_or-set_same, get_or-set_other, length-set}
 use Rattle.std.proofs.lemmas.List.FromFn.{fill_by_all, get_or-map-range_with_len, length-map-range_with_len}
 use Rattle.std.specs.List.{range_with_len, list_any}
+use Rattle.std.proofs.Math.Bool.{or-true, or-false}
 use Rattle.jc_base.specs.Class.{list_of}
 use Rattle.jc_classes.specs.Outline.{LineTable, chain, is_on_chain}
 
@@ -28,10 +29,6 @@ at_class : (t : LineTable) (a d : ℕ) (next : Option ℕ) → chain t a ≡ a �
     → list_any (λ x. x == d) (list_of (chain t) (Some a)) ≡ ((a == d) || list_any (λ x. x == d) (list_of (chain t) next))
 at_class t a d next step = ap (list_any (λ x. x == d)) step
 
-or_true : (b : Bool) → (b || true) ≡ true
-or_true true = refl
-or_true false = refl
-
 marked_each : (t : LineTable) (c a : ℕ) (marks : List Bool) (next : Option ℕ) (d : ℕ) (b : Bool) → (a == d) ≡ b → a < length marks
     → chain t a ≡ a ∷ list_of (chain t) next
     → (get_or marks d false || list_any (λ x. x == d) (list_of (chain t) (Some a))) ≡ is_on_chain t d c
@@ -41,7 +38,7 @@ marked_each t c a marks next d true e h step before =
     let here : get_or (set marks a true) d false ≡ true = ap (λ (k : ℕ). get_or (set marks a true) k false) (sym same)
     ∙ get_or-set_same marks a true false h in
     let there : list_any (λ x. x == d) (list_of (chain t) (Some a)) ≡ true = at_class t a d next step ∙ rw e refl in
-    let whole : true ≡ is_on_chain t d c = sym (ap (λ (b : Bool). get_or marks d false || b) there ∙ or_true (get_or marks d false)) ∙ before in
+    let whole : true ≡ is_on_chain t d c = sym (ap (λ (b : Bool). get_or marks d false || b) there ∙ or-true (get_or marks d false)) ∙ before in
     ap (λ (b : Bool). b || list_any (λ x. x == d) (list_of (chain t) next)) here ∙ whole
 marked_each t c a marks next d false e h step before =
     let other : d ≢ a = λ same. false≢true (sym e ∙ eq-eqb a d (sym same)) in
@@ -62,15 +59,11 @@ marked_more t c a marks above next is step known are =
       known = known;
     }
 
-or_false : (b : Bool) → (b || false) ≡ b
-or_false true = refl
-or_false false = refl
-
 pub marked_all : (t : LineTable) (c : ℕ) (marks : List Bool) (above : Option ℕ) → above ≡ None → AreMarked t c marks above
     → marks ≡ map (λ d. is_on_chain t d c) (range_with_len 0 (length t.lines))
 marked_all t c marks above is are =
     let whole : AreMarked t c marks None = subst (AreMarked t c marks) is are in
-    fill_by_all (λ d. is_on_chain t d c) marks (length t.lines) false whole.count (λ d k. sym (or_false (get_or marks d false)) ∙ whole.each d k)
+    fill_by_all (λ d. is_on_chain t d c) marks (length t.lines) false whole.count (λ d k. sym (or-false (get_or marks d false)) ∙ whole.each d k)
 
 pub ruleset marking = (unmarked, marked_more, marked_all)
 

@@ -11,12 +11,6 @@ get_front [] ys n lt = absurd (omega (arith, lt))
 get_front (x ∷ xs) ys zero lt = refl
 get_front (x ∷ xs) ys (suc n) lt = get_front xs ys n (omega (arith, lt))
 
-pub get_after : {X : Type 0} (xs ys : List X) (n : ℕ) → slice_get (xs ++ ys) (length xs + n) ≡ slice_get ys n
-get_after [] ys n = let e : 0 + n ≡ n = omega arith in ap (slice_get ys) e
-get_after (x ∷ xs) ys n =
-    let e : length (x ∷ xs) + n ≡ suc (length xs + n) = omega arith in
-    ap (slice_get (x ∷ (xs ++ ys))) e ∙ get_after xs ys n
-
 -- what holds of each element after the first ones
 pub each_after : {X : Type 0} (P : X → Type 0) (xs ys : List X) → ((n : ℕ) → IfSome (slice_get ys n) P)
     → (n : ℕ) → length xs ≤ n → IfSome (slice_get (xs ++ ys) n) P

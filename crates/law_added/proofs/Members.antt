@@ -32,8 +32,9 @@ use Rattle.jc_link.specs.Sites.{MemberSite, members_standing, same_spot, only, i
 use Rattle.jc_link.specs.Members.{class_member, proper_by, proper_referred, virtual_by, virtual_member, super_by, super_of, super_member}
 use Rattle.jc_link.specs.Members.{static_site, static_sites, static_at, static_member, call_member, token_of_class, holder_of, as_of, field_of, field_member}
 use Rattle.jc_link.specs.Members.{member_referred, member_of}
+use Rattle.jc_link.proofs.KnownMembers.{class-below}
 use Rattle.law_added.proofs.Numbers.{other, method_at_front}
-use Rattle.law_added.proofs.Names.{asked_front, met_front, referred_front, referred_below}
+use Rattle.law_added.proofs.Names.{asked_front, met_front, referred_front}
 use Rattle.law_added.proofs.Records.{type_front}
 use Rattle.law_added.proofs.Tables.{IsGrown, object_front, interface_front, parent_front, package_front, cells_front, entry_front}
 
@@ -112,14 +113,14 @@ module _ (ps qs : List PackageRecord) (t u : ClassTable) (g : IsGrown (length (n
   proper_front : (k : ℕ) (r : ClassReference) → k < length ps → proper_referred (ps ++ qs) u k r ≡ proper_referred ps t k r
   unfolding proper_referred
   proper_front k r lt =
-      ap (option_and_then (proper_by u)) (referred_front ps qs k r lt) ∙ proper_same (class_referred ps k r) (referred_below ps k r)
+      ap (option_and_then (proper_by u)) (referred_front ps qs k r lt) ∙ proper_same (class_referred ps k r) (class-below ps k r)
 
   -- what is asked of the class that a reference names is answered as before
   proper_then : {X : Type 0} (f h : ℕ → Option X) (k : ℕ) (r : ClassReference) → k < length ps → ((c : ℕ) → c < n → f c ≡ h c)
       → option_and_then f (proper_referred (ps ++ qs) u k r) ≡ option_and_then h (proper_referred ps t k r)
   unfolding proper_referred
   proper_then f h k r lt same =
-      ap (option_and_then f) (proper_front k r lt) ∙ by (class_referred ps k r) (referred_below ps k r)
+      ap (option_and_then f) (proper_front k r lt) ∙ by (class_referred ps k r) (class-below ps k r)
     where
       at : (c : ℕ) (b : Bool) → c < n → option_and_then f (if b then None else Some c) ≡ option_and_then h (if b then None else Some c)
       at c true less = refl

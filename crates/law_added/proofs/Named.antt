@@ -27,7 +27,7 @@ use Rattle.jc_link.specs.Members.{static_sites, static_at, static_member, call_m
 use Rattle.jc_link.specs.Members.{field_member}
 use Rattle.jc_link.specs.Members.{member_referred, member_of}
 use Rattle.jc_link.specs.Pools.{pools_after, pools}
-use Rattle.law_added.proofs.Names.{referred_below}
+use Rattle.jc_link.proofs.KnownMembers.{class-below}
 
 -- a member is no Classref, or names a number below n
 abbrev NamesBelow : ℕ → Member → Type 0
@@ -127,7 +127,7 @@ module _ (ps : List PackageRecord) (t : ClassTable) (statics : List StaticRec) w
 
   referred_known : (k : ℕ) (x : PoolReference) → IfSome (member_referred ps t statics k x) (NamesBelow n)
   unfolding class_member field_member virtual_member super_member static_member call_member virtual_by super_of super_by static_at
-  referred_known k (refs.Class r) = by (class_referred ps k r) (referred_below ps k r)
+  referred_known k (refs.Class r) = by (class_referred ps k r) (class-below ps k r)
     where
       by : (o : Option ℕ) → IfSome o (λ c. c < n) → IfSome (option_map ClassOf o) (NamesBelow n)
       by None h = tt

@@ -8,10 +8,9 @@ use Rattle.cap_bytes.specs.ClassReference.{reference_of}
 use Rattle.cap_package.specs.PackageRecord.{PackageRecord}
 use Rattle.cap_package.specs.Agreement.{or_none}
 use Rattle.cap_pool.specs.ExportFormat.{Exported}
-use Rattle.jc_resolve.specs.Numbering.{class_at, numbered_classes}
+use Rattle.jc_resolve.specs.Numbering.{class_at}
 use Rattle.jc_resolve.specs.References.{meets_import, import_of, met_by, exported_offset, exported_place}
-use Rattle.jc_resolve.specs.References.{place_referred, class_referred, class_named}
-use Rattle.jc_resolve.proofs.DeclaredTypes.{named_at}
+use Rattle.jc_resolve.specs.References.{class_referred, class_named}
 use Rattle.jc_resolve.proofs.ImportLaws.{met_before}
 use Rattle.law_added.proofs.Lists.{get_front}
 use Rattle.law_added.proofs.Numbers.{class_at_front}
@@ -63,9 +62,3 @@ module _ (ps qs : List PackageRecord) where
   pub named_front : (k reference : ℕ) → k < length ps → class_named (ps ++ qs) k reference ≡ class_named ps k reference
   unfolding class_named
   named_front k reference lt = referred_front k (reference_of reference) lt
-
--- what is referred to is a class of the packages
-pub referred_below : (ps : List PackageRecord) (k : ℕ) (reference : ClassReference)
-    → IfSome (class_referred ps k reference) (λ c. c < length (numbered_classes ps))
-unfolding class_referred
-referred_below ps k reference = named_at ps (place_referred ps k reference)

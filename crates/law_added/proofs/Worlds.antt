@@ -35,8 +35,8 @@ use Rattle.jc_link.specs.World.{classes_of, lineage_of, table_of, methods_of, st
 use Rattle.jc_link.specs.World.{member_conditions, conditions, AreListsOf, IsLinked}
 use Rattle.law_added.specs.Added.{Begins, HasMore}
 use Rattle.law_added.specs.Worlds.{WorldsBegin}
-use Rattle.jc_base.proofs.Lists.{All-slice_get}
-use Rattle.law_added.proofs.Lists.{begins, each_after, get_after}
+use Rattle.jc_base.proofs.Lists.{All-slice_get, slice_get-farther}
+use Rattle.law_added.proofs.Lists.{begins, each_after}
 use Rattle.law_added.proofs.Numbers.{methods_are, methods_until, methods_from, each_mapped}
 use Rattle.law_added.proofs.Own.{own_number, all_at}
 use Rattle.law_added.proofs.Records.{added_classes, classes_begin, added_methods, methods_begin}
@@ -168,7 +168,8 @@ module _ (ps qs : List PackageRecord) (roles : List ℕ) (none : AllEmpty (condi
     where
       described : (i : ℕ) → IfSome (slice_get (methods_after (length ps) qs) i) (IsDescribed (ps ++ qs))
       described i =
-          subst (λ o. IfSome o (IsDescribed (ps ++ qs))) (get_after (numbered_methods ps) (methods_after (length ps) qs) i)
+          subst (λ o. IfSome o (IsDescribed (ps ++ qs)))
+          (slice_get-farther (numbered_methods ps) (methods_after (length ps) qs) i (length (numbered_methods ps) + i) refl)
           (subst (λ ms. IfSome (slice_get ms (length (numbered_methods ps) + i)) (IsDescribed (ps ++ qs))) (methods_are ps qs)
           (all_at (IsDescribed (ps ++ qs)) (numbered_methods (ps ++ qs)) (all-described (ps ++ qs)) (length (numbered_methods ps) + i)))
 

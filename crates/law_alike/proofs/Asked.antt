@@ -53,6 +53,10 @@ picked x y z false true c h = absurd (cc)
 picked x y z false false true h = refl
 picked x y z false false false h = absurd (cc)
 
+pub first-passed : {X : Type 0} (x y z : X) (a b c : Bool) → (if a then Some x else if b then Some y else if c then None else Some z) ≡ None → a ≡ false
+first-passed x y z true b c h = absurd (cc)
+first-passed x y z false b c h = refl
+
 of-true : (b : Bool) (P : Type 0) → MatchBool b P (¬ P) → b ≡ true → P
 of-true true P decided h = decided
 of-true false P decided h = absurd (false≢true h)

@@ -44,6 +44,7 @@ use Rattle.law_sound.proofs.Ready.{not-over-top}
 use Rattle.law_laid.specs.Laid.{renamed}
 use Rattle.law_alike.specs.Alike.{ArePlain, IsOneToOne, KeepsPlain, renamed_cell}
 use Rattle.law_alike.proofs.Cells.{type-renamed, value-plain, value-stays, ready-stays, all-ready-renamed, nth-renamed, word-at, short-is, int-is, take-stays}
+use Rattle.law_alike.proofs.Cells.{renamed-keeps}
 use Rattle.law_alike.proofs.Twins.{Pair, two, first, second, Does, calls_both, gives_both, lacks_both, stack-twins, null-does}
 use Rattle.law_alike.proofs.Acting.{other_stack}
 use Rattle.law_alike.proofs.Storing.{CellStays}
@@ -322,11 +323,8 @@ module _ (x : Pair) (t : ClassTable) (are : AreClasses t) where
       (n : ℕ) (ty : Ty) → IsDeclared t ty → IsSomeAnd (slice_get stack_types n) (Meets t (Value ty)) → CellIsPlain n
   declared-plain n ty d h = tested-plain n ty (declared-not_fresh t ty d) (declared-not_top t ty d) h
 
-  renamed-keeps : KeepsPlain tagged (renamed_cell x.rename)
-  renamed-keeps = record { empty = refl; short = λ n. refl; high = λ n. refl; low = λ n. refl; reference = λ h. refl }
-
   plain-stays : (n : ℕ) → CellIsPlain n → CellStays x n
-  plain-stays n plain = plain (renamed_cell x.rename) renamed-keeps
+  plain-stays n plain = plain (renamed_cell x.rename) (renamed-keeps x.rename)
 
   nth-same : (n : ℕ) → CellStays x n → nth tagged (other_stack x) n ≡ nth tagged x.frame.stack n
   nth-same n h = nth-renamed x.rename x.frame.stack n ∙ h

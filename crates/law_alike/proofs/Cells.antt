@@ -49,6 +49,9 @@ value-plain f keeps t are ks (cells.High n) ty fresh top b = keeps.high n
 value-plain f keeps t are ks (cells.Low n) ty fresh top b = keeps.low n
 value-plain f keeps t are ks (cells.Ref h) ty fresh top b = keeps.reference h
 
+pub renamed-keeps : (f : ℕ → ℕ) → KeepsPlain tagged (renamed_cell f)
+renamed-keeps f = record { empty = refl; short = λ n. refl; high = λ n. refl; low = λ n. refl; reference = λ h. refl }
+
 module _ (f : ℕ → ℕ) where
   -- ---- one cell
 

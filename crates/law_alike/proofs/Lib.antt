@@ -9,8 +9,11 @@ pub mod Views
 pub mod Asked
 pub mod Doing
 pub mod Settling
+pub mod Standing
 pub mod Together
 pub mod Ready
 pub mod Begins
 pub mod Simulation
 pub mod Entering
+pub mod Giving
+pub mod Catching

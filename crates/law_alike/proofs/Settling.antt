@@ -4,6 +4,7 @@ use Rattle.std.proofs.Common.{map, refl, sym, ap, ◌∙◌, subst, arith}
 use Rattle.std.specs.Prelude.{ℤ, pos, negsuc, nat_lt, nat_le, ◌&&◌, Option, Some, None, All, sum_by, slice_get}
 use Rattle.std.proofs.lemmas.Bool.{le-ltb, lt-leb, ltb-false}
 use Rattle.std.proofs.lemmas.List.{length-map}
+use Rattle.std.proofs.lemmas.Bool.Decides.{nat_tests}
 use Rattle.jc_base.specs.World.{Linked}
 use Rattle.jc_base.proofs.Lists.{All-slice_get}
 use Rattle.jc_decode.specs.declared.insn.Placed.{Placed}
@@ -19,16 +20,19 @@ use Rattle.vm_store.specs.declared.kind.ObjectKind.{ObjectKind}
 use Rattle.vm_store.specs.Cells.{tagged}
 use Rattle.vm_store.specs.State.{State, Frame, Object, top, other_frames, with_place, with_call, without_frames, frame_limit, arguments}
 use Rattle.vm_store.specs.Objects.{has_room}
-use Rattle.vm_step.specs.declared.ending.Plain.TheVariants.{TooDeep, HeapFull, InterfaceMissing}
+use Rattle.vm_store.specs.Value.{with_value}
+use Rattle.vm_step.specs.declared.ending.Plain.TheVariants.{TooDeep, HeapFull, InterfaceMissing, Returned}
 use Rattle.vm_step.specs.declared.ending.Ending.TheVariants.{Plain}
 use Rattle.vm_step.specs.declared.ending.Fault.{Fault}
 use Rattle.vm_step.specs.declared.ending.Fault.TheVariants.{StackFault, JumpFault}
 use Rattle.vm_step.specs.Act.{Act, calls}
-use Rattle.vm_step.specs.Methods.{code_at, max_stack_of}
+use Rattle.vm_step.specs.Methods.{code_at, max_stack_of, instruction_at}
 use Rattle.vm_step.specs.Performed.{act}
 use Rattle.vm_step.specs.Raising.{Outcome, running, ended, ends}
 use Rattle.vm_step.specs.Settled.{unless_fault, fault_next, fault_target, is_target_place, is_there, place_number, with_new, goes_to, jumps_to, made}
+use Rattle.vm_step.specs.Settled.{given_to, return_place}
 use Rattle.vm_step.specs.Settled.{entered_call, settled}
+use Rattle.vm_step.specs.declared.ending.Value.{Value}
 use Rattle.law_sound.proofs.Places.{place-instruction}
 use Rattle.law_sound.proofs.Finish.{pick, pick-yes}
 use Rattle.law_erasure.specs.Erasure.{IsNoFault}
@@ -44,11 +48,12 @@ pub unless-none :
 unless-none s None x h = (refl, refl)
 unless-none s (Some fault) x h = absurd h
 
-picked-both : {X : Type 0} (x y : X) (a b : Bool) → (if a then Some x else if b then Some y else None) ≡ None → a ≡ false
-picked-both x y true b h = absurd (cc)
-picked-both x y false b h = refl
+pub both-passed : {X : Type 0} (x y : X) (a b : Bool) → (if a then Some x else if b then Some y else None) ≡ None → (a ≡ false) × (b ≡ false)
+both-passed x y true b h = absurd (cc)
+both-passed x y false true h = absurd (cc)
+both-passed x y false false h = (refl, refl)
 
-picked-last :
+pub picked-last :
     {X : Type 0} (x y : X) (a b : Bool) → (if a then Some x else if b then None else Some y) ≡ None → (a ≡ false) × (b ≡ true)
 picked-last x y true b h = absurd (cc)
 picked-last x y false true h = (refl, refl)
@@ -62,6 +67,25 @@ target-there code (negsuc n) at = absurd at
 is-place : (code : List ℕ) (to : ℤ) → is_target_place code to ≡ true → to ≡ pos (place_number to)
 is-place code (pos p) h = refl
 is-place code (negsuc n) h = absurd (cc)
+
+-- ---- a caller that a method gives a value
+
+abbrev pub after_call : Linked → Frame Cell → ℕ
+after_call x f = return_place (instruction_at (code_at x f.method) f.place)
+
+abbrev pub given_frame : Linked → List Cell → Frame Cell → Frame Cell
+given_frame x cells f = record { method = f.method; place = after_call x f; registers = f.registers; stack = with_value cells f.stack }
+
+pub given-goes :
+    (x : Linked) (value : Value) (cells : List Cell) (f : Frame Cell) (fs : List (Frame Cell)) (heap : List (Object Cell)) (statics : List Cell)
+    → given_to tagged x value cells (record { frames = f ∷ fs; heap = heap; statics = statics })
+    ≡ goes_to tagged x (after_call x f) (record { frames = f ∷ fs; heap = heap; statics = statics })
+    (record { frames = record f { stack = with_value cells f.stack } ∷ fs; heap = heap; statics = statics })
+given-goes x value cells f fs heap statics =
+    let z : State Cell = record { frames = f ∷ fs; heap = heap; statics = statics } in
+    let back : State Cell = record { frames = record f { stack = with_value cells f.stack } ∷ fs; heap = heap; statics = statics } in
+    let some : nat_lt 0 (length (f ∷ fs)) ≡ true = grind (arith, nat_tests) in
+    ap (λ b. if b then goes_to tagged x (after_call x f) z back else ends (Plain (Returned value)) z) some
 
 module _ (x : Pair) where
   abbrev e : Cell → Cell
@@ -215,8 +239,8 @@ module _ (x : Pair) where
         pick (Some StackFault) (Some JumpFault) (nat_lt (max_stack_of w (top y).method) (length (top y).stack + more))
         (nat_le (length (code_at w (top y).method)) after)
         (fits z y more h
-        (picked-both StackFault JumpFault (nat_lt (max_stack_of v (top z).method) (length (top z).stack + more))
-        (nat_le (length (code_at v (top z).method)) next) ok))
+        (both-passed StackFault JumpFault (nat_lt (max_stack_of v (top z).method) (length (top z).stack + more))
+        (nat_le (length (code_at v (top z).method)) next) ok).0)
         (inside y h.second.method falls)
 
     no-more : (n : ℕ) → n + 0 ≡ n

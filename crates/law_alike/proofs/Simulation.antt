@@ -9,9 +9,15 @@ use Rattle.vm_step.specs.Arguments.{Argument}
 use Rattle.vm_step.specs.Raising.{Outcome, running, ended}
 use Rattle.vm_step.specs.Run.{Runs, Continues, stands, stops, steps}
 use Rattle.vm_step.specs.Start.{Starts, start_fault, entry_state}
+use Rattle.vm_step.specs.Step.{Steps}
 use Rattle.vm_step.proofs.Running.{continues-on}
 use Rattle.law_alike.specs.Ends.{Left, EndsWithin, GoesOnFor, EndsAlikeBy}
 use Rattle.law_alike.specs.Simulation.{AreBoth, both_run, both_end, StepsMatch, StartsMatch}
+
+-- a step is a run of one
+pub one-step : (w : Linked) (t : State Cell) (p : Outcome Cell) → Steps tagged w t p → Runs tagged w 1 t p
+one-step w t (running s) step = steps step stands
+one-step w t (ended ending s) step = stops step
 
 module _ (v w : Linked) (R : State Cell → State Cell → Type 0) (ending extra : ℕ) (some : 1 ≤ ending)
     (match : StepsMatch v w R ending extra) (begin : StartsMatch v w R extra)

@@ -1,5 +1,5 @@
 -- Operations that are alike, one case for each way in which they differ.
-use Rattle.std.proofs.Common.{ℕ, ap}
+use Rattle.std.proofs.Common.{ℕ, ap, ◌≡◌, List, refl}
 use Rattle.std.specs.Prelude.{ℤ, ⊤}
 use Rattle.jc_base.specs.declared.record.MethodRec.{MethodRec}
 use Rattle.jc_base.specs.World.{Linked}
@@ -9,7 +9,11 @@ use Rattle.jc_ops.specs.declared.operation.Operation.{Operation}
 use Rattle.jc_ops.specs.declared.operation.Operation.TheVariants as ops
 use Rattle.jc_ops.specs.Alike.{IsAlike, equal, loads, stores, increments}
 use Rattle.jc_ops.specs.Sound.{IsSound}
+use Rattle.jc_ops.specs.Next.{falls_from}
+use Rattle.jc_rules.specs.Rule.{demands}
+use Rattle.law_laid.proofs.Operations.{operation_renamed}
 use Rattle.law_alike.specs.Alike.{renamed_new}
+use Rattle.law_alike.specs.Running.{HaveKeys}
 
 abbrev pub IsNoNew : Operation → Type 0
 IsNoNew (ops.New p class) = ⊥
@@ -63,3 +67,21 @@ sound-view w m f place _ _ (new_ops p class) h = (ap f h.0, h.1)
 sound-view w m f place _ _ (load_ops _ x y) h = tt
 sound-view w m f place _ _ (store_ops _ x y) h = tt
 sound-view w m f place _ _ (increment_ops width x y amount) h = tt
+
+-- ---- an operation with its `new` at another place
+
+pub same-new : (f : ℕ → ℕ) (op : Operation) → operation_renamed f op ≡ renamed_new f op
+same-new f (ops.New p class) = refl
+same-new f _ = refl
+
+pub demands-new : (v : Linked) (f : ℕ → ℕ) (op : Operation) → demands v (renamed_new f op) ≡ demands v op
+demands-new v f (ops.New p class) = refl
+demands-new v f _ = refl
+
+pub falls-new : (f : ℕ → ℕ) (op : Operation) → falls_from (renamed_new f op) ≡ falls_from op
+falls-new f (ops.New p class) = refl
+falls-new f _ = refl
+
+pub have-keys : (op : Operation) (xs ys : List ℤ) → xs ≡ ys → HaveKeys op xs ys
+have-keys (ops.Switch width) xs ys e = e
+have-keys _ xs ys e = tt

@@ -1,7 +1,6 @@
 -- A method that runs is one that the method before it calls.
-use Rattle.std.proofs.Common.{◌≡◌, ℕ, ◌+◌, ◌==◌, Bool, true, false, if◌then◌else◌, inl, inr, List, [], ◌∷◌, length, refl, sym, ap, ◌∙◌, subst, arith}
+use Rattle.std.proofs.Common.{◌≡◌, ℕ, ◌+◌, ◌==◌, false, inl, inr, List, [], ◌∷◌, length, refl, sym, ap, ◌∙◌, subst, arith}
 use Rattle.std.specs.Prelude.{Option, Some, None, Ok, slice_get, slice_index_or, unwrap_or, IsSomeAnd, Contains, find}
-use Rattle.std.proofs.lemmas.Bool.{eqb-false}
 use Rattle.jc_base.specs.declared.ty.Ty.TheVariants.{Class}
 use Rattle.jc_base.specs.declared.record.MethodRec.{MethodRec}
 use Rattle.jc_base.specs.Class.{object}
@@ -27,8 +26,7 @@ use Rattle.vm_store.specs.declared.cell.Cell.TheVariants as cells
 use Rattle.vm_store.specs.Kind.{kind_of_handle, type_of_kind}
 use Rattle.vm_store.specs.Cells.{tagged, word_of}
 use Rattle.vm_store.specs.State.{Frame, Object, State, top}
-use Rattle.vm_step.specs.declared.exception.Exception.TheVariants as exceptions
-use Rattle.vm_step.specs.Act.{Act, calls, raises, lacks, unless_null}
+use Rattle.vm_step.specs.Act.{calls, lacks}
 use Rattle.vm_step.specs.Calls.{args_of, with_ready, class_with_methods, served, served_act, interface_act, call_act}
 use Rattle.vm_step.specs.Methods.{of_method, code_at, instruction_at}
 use Rattle.vm_step.specs.Performed.{act}
@@ -38,7 +36,7 @@ use Rattle.law_sound.specs.State.{CanBeMade, IsTypedState}
 use Rattle.law_sound.specs.Soundness.{AreTypings}
 use Rattle.law_sound.proofs.Calling.{receiver-at}
 use Rattle.law_sound.proofs.Dispatching.{own-dispatched, dispatch-runs, served-runs, class-code}
-use Rattle.law_sound.proofs.Handed.{only-calls-call}
+use Rattle.law_sound.proofs.Handed.{only-calls-call, null-calls}
 use Rattle.law_sound.proofs.Handles.{kinds_of}
 use Rattle.law_sound.proofs.Instances.{made-at}
 use Rattle.law_sound.proofs.Invoking.{instance-or-array, array-class, array-object, array-lacks}
@@ -47,16 +45,6 @@ use Rattle.law_sound.proofs.Sound.{here-now, same-method, same-instruction, same
 use Rattle.law_sound.proofs.SafeTurns.{Here}
 use Rattle.law_chains.specs.Calls.{HasCode, MayRun}
 use Rattle.law_chains.specs.Stacked.{OnlyCalledMethodsRun}
-
--- a call of an object that is no null
-not-null :
-    (h : ℕ) (rest : ℕ → Act Cell) (k count : ℕ) (y : State Cell) → unless_null h rest ≡ calls k count y
-    → (h ≡ 0 → ⊥) × (rest h ≡ calls k count y)
-not-null h rest k count y e = go (h == 0) refl e
-  where
-    go : (b : Bool) → (h == 0) ≡ b → (if b then raises exceptions.NullPointer else rest h) ≡ calls k count y → (h ≡ 0 → ⊥) × (rest h ≡ calls k count y)
-    go true is e = absurd (cc)
-    go false is e = (eqb-false h 0 is, e)
 
 same-method-called : (j k few count : ℕ) (z y : State Cell) → calls j few z ≡ calls k count y → j ≡ k
 same-method-called j k few count z y e = cc
@@ -178,14 +166,14 @@ module _ (w : Linked) (world : IsWorld w) where
           let eq = same-method-called n k (args_of w n) count now y e in
           record { may = sym eq; code = subst (HasCode w) eq (has-code n m method chosen.body) }
       chosen-run n receiver choices.Special m is method chosen k count y e =
-          let rest = not-null (word_of (slice_index_or f.stack (args_of w n) cells.Empty))
+          let rest = null-calls (word_of (slice_index_or f.stack (args_of w n) cells.Empty))
           (λ h. calls n (args_of w n + 1) (with_ready tagged w.classes (record { method = n; receiver = receiver; choice = choices.Special }) (args_of w n) now)) k count y e in
           let eq : n ≡ k = same-method-called n k (args_of w n + 1) count
           (with_ready tagged w.classes (record { method = n; receiver = receiver; choice = choices.Special }) (args_of w n) now) y rest.1 in
           record { may = sym eq; code = subst (HasCode w) eq (has-code n m method chosen.body) }
       chosen-run n receiver (choices.Virtual c token) m is method chosen k count y e =
           let few : args_of w n ≡ length m.sig.args = ap (of_method 0 (λ (x : MethodRec). length x.sig.args)) method in
-          let rest = not-null (word_of (slice_index_or f.stack (args_of w n) cells.Empty))
+          let rest = null-calls (word_of (slice_index_or f.stack (args_of w n) cells.Empty))
           (λ h. calls (unwrap_or (dispatched w.classes c token (class_with_methods w.classes (kind_of_handle (kinds_of heap) h))) n) (args_of w n + 1) now)
           k count y e in
           virtual-run n receiver (choices.Virtual c token) m is method c chosen.receiver_is k count (args_of w n + 1) y token chosen
@@ -198,7 +186,7 @@ module _ (w : Linked) (world : IsWorld w) where
           ≡ calls k count y) few rest.1)
       chosen-run n receiver (choices.Interface c token words) m is method chosen k count y e =
           let few : args_of w n ≡ length m.sig.args = ap (of_method 0 (λ (x : MethodRec). length x.sig.args)) method in
-          let rest = not-null (word_of (slice_index_or f.stack (args_of w n) cells.Empty))
+          let rest = null-calls (word_of (slice_index_or f.stack (args_of w n) cells.Empty))
           (λ h. interface_act w.classes c token (args_of w n + 1) (kind_of_handle (kinds_of heap) h) now) k count y e in
           interface-run n receiver (choices.Interface c token words) m is method (object w.classes) chosen.receiver_is k count (args_of w n + 1) y c token words
           chosen.class chosen.token_is

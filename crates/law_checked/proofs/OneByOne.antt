@@ -6,7 +6,6 @@ use Rattle.cap_files.specs.Folder.{Folders}
 use Rattle.cap_package.specs.PackageRecord.{PackageRecord}
 use Rattle.cap_package.specs.Parts.{Lent}
 use Rattle.cap_package.specs.StandsFor.{StandsFor}
-use Rattle.cap_package.proofs.OneRecord.{stands_only}
 use Rattle.jc_base.specs.World.{Linked}
 use Rattle.jc_resolve.specs.Named.{IsAgreed}
 use Rattle.jc_link.specs.World.{IsLinked}
@@ -18,6 +17,7 @@ use Rattle.capcheck_core.specs.Packages.{AreRoleBytes}
 use Rattle.capcheck_core.specs.Place.{Place, places}
 use Rattle.capcheck_core.specs.Headline.{HoldWorld}
 use Rattle.capcheck_core.proofs.InComponents.{components_zip}
+use Rattle.capcheck_core.proofs.WorldComplete.{one_package}
 use Rattle.law_checked.specs.CheckedFolders.{IsCheckedTo, AreCheckedFolders, CheckedFoldersNeverFault}
 use Rattle.law_checked.proofs.OneFolder.{parts_one, roles_one}
 
@@ -43,9 +43,6 @@ zip_long R (x ∷ xs) [] h = absurd h
 zip_long R (x ∷ xs) (y ∷ ys) h = ap suc (zip_long R xs ys h.1)
 
 -- ---- packages
-
-one_record : (parts : List Lent) (p q : PackageRecord) → StandsFor parts p → StandsFor parts q → p ≡ q
-one_record parts p q a b = let e = sym (stands_only parts p a) ∙ stands_only parts q b in cc
 
 agreed : (ps : List (List Lent)) (qs : List PackageRecord) → AllZip StandsFor ps qs → All IsAgreed qs
 agreed [] [] h i d lt = absurd (omega (arith, lt))
@@ -73,7 +70,7 @@ module _ (before : Folders) (dirs : List (List ℕ)) (w : Linked) (told : IsSome
       let parts = zip_taken (AreParts before) (AreParts x.then_held) (λ dir ys zs a b. parts_one before x.then_held x.same told dir ys zs a b) k dirs
       held.parts then.parts (components_zip before dirs held.parts held.given.parts_are)
       (components_zip x.then_held (take k dirs) then.parts then.given.parts_are) in
-      let packages = zip_taken StandsFor StandsFor one_record k held.parts held.packages then.packages held.stand
+      let packages = zip_taken StandsFor StandsFor one_package k held.parts held.packages then.packages held.stand
       (subst (λ ps. AllZip StandsFor ps then.packages) parts then.stand) in
       let roles = same_roles x.then_held x.same k dirs held.roles then.roles le held.given.roles_are then.given.roles_are in
       record {

@@ -9,7 +9,7 @@ use Rattle.cap_files.specs.Folder.{Folders, Parts, IsThere, IsAbsent}
 use Rattle.cap_package.specs.Parts.{Lent, held, is_of, bytes_of}
 use Rattle.capcheck_core.specs.Loads.{is_asked, Has, Rise, AreParts}
 use Rattle.capcheck_core.specs.Roles.{AreRolesIn, roles_key}
-use Rattle.capcheck_core.proofs.Loads.{asked_by}
+use Rattle.capcheck_core.proofs.Loads.{asked_by, below_none}
 
 -- ---- what a folder has
 
@@ -62,16 +62,6 @@ module _ (before now : Folders) (same : now.held ≡ before.held) (told : IsSome
 
 -- ---- lists of parts whose tags rise
 
--- no part stands below the least tag
-none_below : (low top tag : ℕ) (xs : List Lent) → Rise low top xs → tag < low → held xs tag ≡ None
-none_below low top tag [] h lt = refl
-none_below low top tag (x ∷ xs) h lt =
-    ap (λ b. option_map bytes_of (cond b (Some x) (find (is_of tag) xs))) (other x.part tag (omega (arith, lt, h.0)))
-    ∙ none_below (suc x.part) top tag xs h.2 (omega (arith, lt, h.0))
-  where
-    other : (a c : ℕ) → c < a → (a == c) ≡ false
-    other a c less = grind (arith, less)
-
 held_here : (x : Lent) (xs : List Lent) → held (x ∷ xs) x.part ≡ Some x.bytes
 held_here x xs = ap (λ b. option_map bytes_of (cond b (Some x) (find (is_of x.part) xs))) (eq-eqb x.part x.part refl)
 
@@ -89,7 +79,7 @@ compare a b = by (nat_lt a b) refl (nat_lt b a) refl
 -- a tag that only one of two lists may have
 only_one : (low top : ℕ) (x y : Lent) (xs ys : List Lent) → Rise low top (y ∷ ys) → x.part < y.part → held (x ∷ xs) x.part ≡ held (y ∷ ys) x.part → ⊥
 only_one low top x y xs ys rise lt e =
-    let none = none_below y.part top x.part (y ∷ ys) (omega arith, rise.1, rise.2) lt in
+    let none = below_none y.part top x.part (y ∷ ys) (omega arith, rise.1, rise.2) lt in
     let some : Some x.bytes ≡ None = sym (held_here x xs) ∙ e ∙ none in
     absurd cc
 
@@ -105,7 +95,7 @@ rising_one low top (x ∷ xs) (y ∷ ys) a b same =
     tails e tag lt = at (compare x.part tag)
       where
         at : (x.part ≡ tag) ⊎ ((x.part < tag) ⊎ (tag < x.part)) → held xs tag ≡ held ys tag
-        at (inl s) = none_below (suc x.part) top tag xs a.2 (omega (arith, s)) ∙ sym (none_below (suc y.part) top tag ys b.2 (omega (arith, s, e)))
+        at (inl s) = below_none (suc x.part) top tag xs a.2 (omega (arith, s)) ∙ sym (below_none (suc y.part) top tag ys b.2 (omega (arith, s, e)))
         at (inr (inl s)) =
             sym (held_on x xs tag (grind (arith, s))) ∙ same tag lt ∙ held_on y ys tag (grind (arith, s, e))
         at (inr (inr s)) =

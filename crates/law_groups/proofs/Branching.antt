@@ -36,6 +36,7 @@ use Rattle.law_alike.specs.Alike.{AreAlike, StayAlike, renamed_cell, renamed_new
 use Rattle.law_alike.specs.Likeness.{StepsAreAlike}
 use Rattle.law_alike.specs.Running.{ComeAlike, Executes, HaveKeys, call_alike, end_alike, exception_alike, keys_at, next_alike, return_alike, target_alike}
 use Rattle.law_alike.specs.Running.{throw_alike, top_code}
+use Rattle.law_alike.proofs.Views.{falls-new}
 use Rattle.xf_homes.specs.declared.home.Home.{Home}
 use Rattle.xf_homes.specs.Walk.{operands_of}
 use Rattle.law_laid.specs.Apart.{apart_from_code}
@@ -56,7 +57,6 @@ use Rattle.law_groups.specs.Laws.{RenamesOneToOne}
 use Rattle.law_groups.proofs.Context.{source-code, source-room, steps-are, target-at, target-room}
 use Rattle.law_groups.proofs.ForkSteps.{JumpStep}
 use Rattle.law_groups.proofs.BareForks.{jump_insn}
-use Rattle.law_groups.proofs.Plain.{falls-renamed}
 
 -- ---- what such operations come to
 
@@ -211,7 +211,7 @@ module _
         (all-contained (IsTargetPlace (top_code w u)) (map (λ (k : ℕ). pos (place k)) j.step.targets) is-target);
     next = λ falls.
         subst (IsPlace (top_code w u)) (sym there.ends)
-        (subst (λ q. IsPlace (code_at w q) (place (m + 1))) (sym of.target) (next_inside (sym (falls-renamed f op) ∙ falls)));
+        (subst (λ q. IsPlace (code_at w q) (place (m + 1))) (sym of.target) (next_inside (sym (falls-new f op) ∙ falls)));
     room =
         let one = ap (max_stack_of v) of.source in
         let two = ap (max_stack_of w) of.target in
@@ -278,7 +278,7 @@ module _
       let same : y0 ≡ y = same-state y0 y e in
       fork_falls
       (after x (subst (λ k. StayAlike (renamed_cell (rename s place)) (footprint v op) (footprint v (renamed_new f op)) z k u x) same stays))
-      (sym (falls-renamed f op) ∙ falls)
+      (sym (falls-new f op) ∙ falls)
       (subst (λ (k : State Cell). (top k).place ≡ i.place + i.insn.len) same at_y) (at_x ∙ there.ends)
   comes _ _ e (target_alike k {z = y0} {y = x} stays at_y at_x) =
       let same : y0 ≡ y = same-state y0 y e in

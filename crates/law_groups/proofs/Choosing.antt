@@ -43,6 +43,7 @@ use Rattle.law_alike.specs.Alike.{renamed_cell}
 use Rattle.law_alike.specs.Likeness.{StepsAreAlike}
 use Rattle.law_alike.specs.Running.{Executes}
 use Rattle.law_alike.proofs.Settling.{unless-none}
+use Rattle.law_alike.proofs.Simulation.{one-step}
 use Rattle.xf_homes.specs.declared.home.Home.{Home}
 use Rattle.xf_homes.specs.Order.{register_sum}
 use Rattle.xf_homes.specs.Walk.{operands_of}
@@ -77,7 +78,6 @@ use Rattle.law_groups.proofs.BareForks.{body-branch, branch-alone, labels_of, un
 use Rattle.law_groups.proofs.Going.{group-inside}
 use Rattle.law_groups.proofs.OneGroup.{no-fault, same-method, turn-by}
 use Rattle.law_groups.proofs.Placing.{count-append}
-use Rattle.law_groups.proofs.Plain.{one-step}
 use Rattle.law_groups.proofs.Standing.{stand-as, stand-inside}
 use Rattle.law_groups.proofs.Taking.{led-arrives}
 

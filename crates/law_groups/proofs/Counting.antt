@@ -35,6 +35,7 @@ use Rattle.vm_step.specs.Step.{Steps}
 use Rattle.law_erasure.specs.Erasure.{IsNoFault}
 use Rattle.law_alike.specs.Alike.{StayAlike, renamed_cell}
 use Rattle.law_alike.specs.Likeness.{StepsAreAlike}
+use Rattle.law_alike.proofs.Simulation.{one-step}
 use Rattle.xf_homes.specs.declared.home.Home.{Home}
 use Rattle.xf_homes.specs.Laws.{HasRegister, HomesServe, NeededAreKept, Serve}
 use Rattle.xf_homes.specs.Value.{value_in_cells, type_width}
@@ -65,7 +66,7 @@ use Rattle.law_groups.proofs.Arriving.{needed-local}
 use Rattle.law_groups.proofs.Called.{called}
 use Rattle.law_groups.proofs.Context.{some-reached}
 use Rattle.law_groups.proofs.Following.{next-place, steps-here}
-use Rattle.law_groups.proofs.Plain.{alike, codes, comes, ex, method-is, one-step}
+use Rattle.law_groups.proofs.Plain.{alike, codes, comes, ex, method-is}
 use Rattle.law_groups.proofs.Reading.{IsHomeOf, home-is, small-register}
 use Rattle.law_groups.proofs.Standing.{stand-as, step-at}
 

@@ -1,8 +1,8 @@
 -- A conditional branch or a switch rests on its operands alone: without the cells under them it leads to the same place.
-use Rattle.std.proofs.Common.{◌≡◌, ℕ, zero, suc, ◌+◌, Bool, true, false, if◌then◌else◌, List, []}
+use Rattle.std.proofs.Common.{◌≡◌, ℕ, zero, suc, ◌+◌, Bool, true, false, List, []}
 use Rattle.std.proofs.Common.{◌∷◌, length, map, take, drop, refl, sym, ap, ◌∙◌, subst, arith}
 use Rattle.std.specs.Prelude.{ℤ, Some, None, Ok, nat_lt}
-use Rattle.std.proofs.lemmas.Bool.Decides.{nat_tests}
+use Rattle.std.proofs.lemmas.Bool.{le-ltb}
 use Rattle.jc_base.specs.declared.ty.Ty.TheVariants.{Bottom}
 use Rattle.jc_base.specs.World.{Linked, IsWorld}
 use Rattle.jc_decode.specs.declared.insn.Placed.{Placed}
@@ -17,10 +17,10 @@ use Rattle.jc_rules.specs.Footprint.{footprint}
 use Rattle.jc_rules.specs.Rule.{demands}
 use Rattle.law_sound.specs.Frames.{types_of_frame}
 use Rattle.law_sound.proofs.Passing.{passes-before}
+use Rattle.law_sound.proofs.Finish.{pick, pick-yes}
 use Rattle.vm_store.specs.declared.cell.Cell.{Cell}
 use Rattle.vm_store.specs.Cells.{tagged}
 use Rattle.vm_store.specs.State.{State, Frame, Object, top, with_place, with_stack}
-use Rattle.vm_step.specs.declared.ending.Fault.{Fault}
 use Rattle.vm_step.specs.declared.ending.Fault.TheVariants.{JumpFault, StackFault}
 use Rattle.vm_step.specs.Act.{Act, goes, jumps}
 use Rattle.vm_step.specs.Branching.{is_taken, leads_if}
@@ -35,7 +35,7 @@ use Rattle.vm_step.proofs.Running.{steps-one}
 use Rattle.law_erasure.specs.Erasure.{IsNoFault}
 use Rattle.law_alike.specs.Running.{Executes}
 use Rattle.law_alike.proofs.Asked.{passed-asks}
-use Rattle.law_alike.proofs.Settling.{unless-none}
+use Rattle.law_alike.proofs.Settling.{unless-none, both-passed, picked-last}
 use Rattle.xf_homes.specs.Walk.{operands_of}
 
 -- the state with the operands alone on its stack
@@ -50,33 +50,10 @@ pub record IsForked (v : Linked) (z : State Cell) (n : ℕ) (o : Outcome Cell) :
 
 -- ---- the tests after
 
-no-past : (a b : Bool) (x y : Fault) → (if a then Some x else if b then Some y else None) ≡ None → b ≡ false
-no-past true b x y e = absurd (cc)
-no-past false true x y e = absurd (cc)
-no-past false false x y e = refl
-
-past-none : (a b : Bool) (x y : Fault) → a ≡ false → b ≡ false → (if a then Some x else if b then Some y else None) ≡ None
-past-none true b x y e f = absurd (cc)
-past-none false true x y e f = absurd (cc)
-past-none false false x y e f = refl
-
-some-target : (a b : Bool) (x y : Fault) → (if a then Some x else if b then None else Some y) ≡ None → b ≡ true
-some-target true b x y e = absurd (cc)
-some-target false true x y e = refl
-some-target false false x y e = absurd (cc)
-
-target-none : (a b : Bool) (x y : Fault) → a ≡ false → b ≡ true → (if a then Some x else if b then None else Some y) ≡ None
-target-none true b x y e f = absurd (cc)
-target-none false true x y e f = refl
-target-none false false x y e f = absurd (cc)
-
 pub none-left : {X : Type 0} (n : ℕ) (xs : List X) → drop n (take n xs) ≡ []
 none-left zero xs = refl
 none-left (suc n) [] = refl
 none-left (suc n) (x ∷ xs) = none-left n xs
-
-room-for-none : (n : ℕ) → nat_lt n 0 ≡ false
-room-for-none n = grind (arith, nat_tests)
 
 module _
     (v : Linked) (world : IsWorld v) (i : Placed)
@@ -181,7 +158,7 @@ module _
         ∙ (ap (settled tagged v next cut) does ∙ leads)))
 
     room-free : is_over v (dropped cut n) (length (drop n (take n f.stack))) ≡ false
-    room-free = ap (nat_lt (max_stack_of v f.method)) depth ∙ room-for-none (max_stack_of v f.method)
+    room-free = ap (nat_lt (max_stack_of v f.method)) depth ∙ le-ltb (max_stack_of v f.method) 0 (omega arith)
 
     forked : Both op n f.stack → IsForked v whole n o
     forked (both_go one two asks) =
@@ -189,9 +166,9 @@ module _
         let passed = unless-none whole (fault_next tagged v (dropped whole n) (length (drop n f.stack)) next)
         (running (with_place (dropped whole n) next)) (subst IsNoFault leads fine) in
         let calm : is_past v (dropped whole n) next ≡ false =
-        no-past (is_over v (dropped whole n) (length (drop n f.stack))) (is_past v (dropped whole n) next) StackFault JumpFault passed.0 in
+        (both-passed StackFault JumpFault (is_over v (dropped whole n) (length (drop n f.stack))) (is_past v (dropped whole n) next) passed.0).1 in
         let after : fault_next tagged v (dropped cut n) (length (drop n (take n f.stack))) next ≡ None =
-        past-none (is_over v (dropped cut n) (length (drop n (take n f.stack)))) (is_past v (dropped cut n) next) StackFault JumpFault
+        pick (Some StackFault) (Some JumpFault) (is_over v (dropped cut n) (length (drop n (take n f.stack)))) (is_past v (dropped cut n) next)
         room-free calm in
         record {
           place = next;
@@ -205,9 +182,9 @@ module _
         let passed = unless-none (dropped whole n) (fault_target tagged v (dropped whole n) to)
         (running (with_place (dropped whole n) (place_number to))) (subst IsNoFault leads fine) in
         let there : is_target_place (code_at v f.method) to ≡ true =
-        some-target (is_over v (dropped whole n) (length (drop n f.stack))) (is_target_place (code_at v f.method) to) StackFault JumpFault passed.0 in
+        (picked-last StackFault JumpFault (is_over v (dropped whole n) (length (drop n f.stack))) (is_target_place (code_at v f.method) to) passed.0).1 in
         let after : fault_target tagged v (dropped cut n) to ≡ None =
-        target-none (is_over v (dropped cut n) (length (drop n (take n f.stack)))) (is_target_place (code_at v f.method) to) StackFault JumpFault
+        pick-yes (Some StackFault) (Some JumpFault) (is_over v (dropped cut n) (length (drop n (take n f.stack)))) (is_target_place (code_at v f.method) to)
         room-free there in
         record {
           place = place_number to;

@@ -30,6 +30,7 @@ use Rattle.vm_step.specs.Step.{Steps}
 use Rattle.law_alike.specs.Alike.{renamed_cell}
 use Rattle.law_alike.specs.Likeness.{StepsAreAlike}
 use Rattle.law_alike.specs.Running.{Executes}
+use Rattle.law_alike.proofs.Simulation.{one-step}
 use Rattle.xf_homes.specs.declared.home.Home.{Home}
 use Rattle.xf_homes.specs.Home.{KeepsStack}
 use Rattle.xf_homes.specs.Laws.{HasRegister}
@@ -69,7 +70,7 @@ use Rattle.law_groups.proofs.BareForks.{body-branch, labels_of}
 use Rattle.law_groups.proofs.OneGroup.{no-fault, same-method}
 use Rattle.law_groups.proofs.Moving.{copies-move, count-moves, loads-move, moves-stand, spill-count, spill-moves}
 use Rattle.law_groups.proofs.Placing.{count-append}
-use Rattle.law_groups.proofs.Plain.{frames-are, one-step}
+use Rattle.law_groups.proofs.Plain.{frames-are}
 use Rattle.law_groups.proofs.Standing.{count-loads, stand-as, stand-at, stand-first, stand-inside, stand-last}
 use Rattle.law_groups.proofs.Taking.{led-arrives, taken-falls}
 

@@ -21,6 +21,8 @@ use Rattle.vm_step.specs.Methods.{code_at}
 use Rattle.law_alike.specs.Alike.{renamed_cell, renamed_new}
 use Rattle.law_alike.specs.Likeness.{StepsAreAlike}
 use Rattle.law_alike.specs.Running.{RunAlike}
+use Rattle.law_alike.proofs.Simulation.{one-step}
+use Rattle.law_alike.proofs.Views.{demands-new, falls-new}
 use Rattle.law_laid.specs.Apart.{apart_from_code}
 use Rattle.law_laid.specs.Laws.{DemandsAreKept, OperationsAreKept}
 use Rattle.xf_homes.specs.Source.{Source}
@@ -35,7 +37,7 @@ use Rattle.law_groups.specs.Body.{KeptRuns}
 use Rattle.law_groups.proofs.Called.{called}
 use Rattle.law_groups.proofs.Context.{rename-is}
 use Rattle.law_groups.proofs.Following.{next-place, steps-here}
-use Rattle.law_groups.proofs.Plain.{alike, codes, comes, ex, falls-renamed, method-is, one-step}
+use Rattle.law_groups.proofs.Plain.{alike, codes, comes, ex, method-is}
 use Rattle.law_groups.proofs.Standing.{stand-as, step-at}
 
 -- ---- what names no register
@@ -49,10 +51,6 @@ unstored v (ops.Store sorts.Reference y) e x = absurd (let z = none-above (y + 1
 unstored v (ops.Store sorts.Short y) e x = absurd (let z = none-above (y + 1) _ e in omega (arith, z))
 unstored v (ops.Store sorts.Int y) e x = absurd (let z = none-above (y + 2) _ e in omega (arith, z))
 unstored v _ e x = refl
-
-demands-renamed : (w : Linked) (f : ℕ → ℕ) (op : Operation) → demands w (renamed_new f op) ≡ demands w op
-demands-renamed w f (ops.New p c) = refl
-demands-renamed w f _ = refl
 
 -- a `new` is renamed alike by maps that agree on its place
 renamed-alike :
@@ -91,10 +89,10 @@ module _
       let there = ex v w s place laid (executed w laid.new) i op z t b g i.insn op count found resolves refl in
       let agree = codes v w s place laid (executed w laid.new) i op z t b g i.insn op count found resolves refl still
       (λ falls. subst (λ m. IsPlace (code_at w m) (place (own + 1))) (sym b.of.target)
-      (next-place v w s place laid stand follow i op b.stands b.reached b.does count (sym (falls-renamed f op) ∙ falls))) in
+      (next-place v w s place laid stand follow i op b.stands b.reached b.does count (sym (falls-new f op) ∙ falls))) in
       let also : registers_asked (demands w (renamed_new f op)) ≡ 0 =
-      ap registers_asked (demands-renamed w f op ∙ sym (asked v w op laid.code.same)) ∙ none in
-      let own_none : registers_asked (demands v (renamed_new f op)) ≡ 0 = ap registers_asked (demands-renamed v f op) ∙ none in
+      ap registers_asked (demands-new w f op ∙ sym (asked v w op laid.code.same)) ∙ none in
+      let own_none : registers_asked (demands v (renamed_new f op)) ≡ 0 = ap registers_asked (demands-new v f op) ∙ none in
       let are : IsAlike (renamed_new (rename s place) op) (renamed_new f op) =
       subst (λ k. IsAlike (renamed_new (rename s place) op) k) renamed equal in
       let run : RunAlike (renamed_cell (rename s place)) (rename s place) v w z t i there.instruction op (renamed_new f op) =

@@ -1,5 +1,5 @@
 -- A goto to a label leads to the step for which the label stands.
-use Rattle.std.proofs.Common.{◌≡◌, ℕ, ◌+◌, ◌<◌, ◌≤◌, Bool, true, false, if◌then◌else◌, List, [], ◌∷◌, length, map, refl, sym}
+use Rattle.std.proofs.Common.{◌≡◌, ℕ, ◌+◌, ◌<◌, ◌≤◌, true, if◌then◌else◌, List, [], ◌∷◌, length, map, refl, sym}
 use Rattle.std.proofs.Common.{ap, ◌∙◌, subst, arith}
 use Rattle.std.specs.Prelude.{ℤ, pos, Some, None, Ok, nat_lt, slice_get}
 use Rattle.std.proofs.lemmas.Bool.{le-ltb}
@@ -31,6 +31,7 @@ use Rattle.law_sound.proofs.Going.{jumps-on}
 use Rattle.law_sound.proofs.Places.{instruction-there}
 use Rattle.law_homes.specs.Moves.{IsExecutable}
 use Rattle.law_sound.proofs.Passing.{passes-before}
+use Rattle.law_sound.proofs.Finish.{pick-yes}
 use Rattle.law_homes.specs.Laws.{ExecutesStep, StepsExecute}
 use Rattle.law_homes.proofs.Standing.{steps-stand-at-places}
 use Rattle.xf_emission.specs.Mnemonics.{goto_w}
@@ -51,11 +52,6 @@ module _ (code : List ℕ) (j : Placed) (to : ℤ) where
 goto-resolves : (w : Linked) (m : MethodRec) (q : ℕ) → Resolves w m q (jump goto_w) (Ok (ops.Branch Always))
 unfolding row_at table by_sort by_width by_kind first_four by_register literals binaries orders_all branching unused
 goto-resolves w m q = refl
-
-pick : {X : Type 0} (x y : X) (a b : Bool) → a ≡ false → b ≡ true → (if a then Some x else if b then None else Some y) ≡ None
-pick x y true b h k = absurd (cc)
-pick x y false true h k = refl
-pick x y false false h k = absurd (cc)
 
 module _
     (w : Linked) (world : IsExecutable w) (executed : StepsExecute w) (place : ℕ → ℕ) (all : List Step)
@@ -89,7 +85,7 @@ module _
       let before : fault_before tagged w op t ≡ None = passes-before w world.chains f below heap statics op tt in
       let there : is_target_place code (pos (place k)) ≡ true = ap is_there stands.found in
       let after : fault_target tagged w t (pos (place k)) ≡ None =
-      pick StackFault JumpFault (nat_lt (max_stack_of w f.method) (length f.stack)) (is_target_place code (pos (place k)))
+      pick-yes (Some StackFault) (Some JumpFault) (nat_lt (max_stack_of w f.method) (length f.stack)) (is_target_place code (pos (place k)))
       (le-ltb (max_stack_of w f.method) (length f.stack) room) there in
       let does : act tagged w j.insn op t ≡ jumping (pos (place k)) t = ap (λ z. jumping z t) own in
       performs ex.executes.fetched op ex.executes.resolved

@@ -21,7 +21,7 @@ mod KeptOperations
 mod Reading
 mod Groups
 mod Turning
-mod BareForks
+pub mod BareForks
 mod ForkSteps
 pub mod Branching
 mod Taking

@@ -26,13 +26,14 @@ use Rattle.vm_store.specs.State.{State, Frame, IsRunning, first_frame, other_fra
 use Rattle.vm_step.specs.Act.{calls}
 use Rattle.vm_step.specs.Methods.{code_at, max_stack_of}
 use Rattle.vm_step.specs.Performed.{act}
-use Rattle.vm_step.specs.Raising.{Outcome, running, ended}
-use Rattle.vm_step.specs.Run.{Runs, stands, stops, steps as after_step}
-use Rattle.vm_step.specs.Step.{Steps}
-use Rattle.law_alike.specs.Alike.{AreAlike, KeepsPlain, StayAlike, renamed_cell, renamed_new}
+use Rattle.vm_step.specs.Raising.{Outcome}
+use Rattle.vm_step.specs.Run.{stands}
+use Rattle.law_alike.specs.Alike.{AreAlike, StayAlike, renamed_cell, renamed_new}
 use Rattle.law_alike.specs.Running.{ComeAlike, HaveKeys, call_alike, end_alike, exception_alike, keys_at, next_alike, return_alike}
 use Rattle.law_alike.specs.Running.{target_alike}
 use Rattle.law_alike.specs.Running.{throw_alike, top_code}
+use Rattle.law_alike.proofs.Cells.{renamed-keeps}
+use Rattle.law_alike.proofs.Views.{falls-new}
 use Rattle.xf_homes.specs.declared.home.Home.{Home}
 use Rattle.xf_homes.specs.Order.{register_sum}
 use Rattle.xf_homes.specs.Source.{Source}
@@ -69,9 +70,6 @@ each-over :
 each-over s values g k e [] held = tt
 each-over s values g k e (h ∷ hs) held = (holds-over s values g k e h held.0, each-over s values g k e hs held.1)
 
-pub renamed-keeps : (f : ℕ → ℕ) → KeepsPlain tagged (renamed_cell f)
-renamed-keeps f = record { empty = refl; short = λ n. refl; high = λ n. refl; low = λ n. refl; reference = λ h. refl }
-
 -- the frames of a state in which a method runs
 pub frames-are : (t : State Cell) → IsRunning t → t.frames ≡ top t ∷ other_frames t.frames
 frames-are t runs = by t.frames runs
@@ -82,10 +80,6 @@ frames-are t runs = by t.frames runs
 
 no-targets : (code : List ℕ) (j : Placed) → targets code j ≡ [] → All (IsTargetPlace code) (targets code j)
 no-targets code j e = subst (λ ts. All (IsTargetPlace code) ts) (sym e) (λ k d lt. absurd (omega (arith, lt)))
-
-pub falls-renamed : (f : ℕ → ℕ) (op : Operation) → falls_from (renamed_new f op) ≡ falls_from op
-falls-renamed f (ops.New p c) = refl
-falls-renamed f _ = refl
 
 -- keys are asked of switches alone
 no-keys : (op : Operation) (keys others : List ℤ) → jumps_from op ≡ false → HaveKeys op keys others
@@ -236,7 +230,7 @@ module _
             → ComeAlike tagged e v w z t i ex.instruction op own o p
             → BodyComes v w s place i op z t o p
         comes _ _ (next_alike {z = y} {y = u} stay falls here there) =
-            body_falls (after y u stay) (sym same_falls ∙ (sym (falls-renamed (λ q. place n) other) ∙ falls)) here
+            body_falls (after y u stay) (sym same_falls ∙ (sym (falls-new (λ q. place n) other) ∙ falls)) here
             (there ∙ (ex.ends ∙ ap (λ k. place (n + k)) (sym one)))
         comes _ _ (target_alike k stay here there) =
             let none : slice_get [] k ≡ Some _ = ap (λ ts. slice_get ts k) (sym ex.is.leads) ∙ there in
@@ -267,8 +261,3 @@ module _
         comes o p (throw_alike handle acts throws too) =
             body_done (group_throws handle t (record { moves = thrown-from.0; within = thrown-from.1 }) throws too)
         comes _ _ (end_alike ending y) = body_done (group_ends ending y)
-
--- a step is a run of one
-pub one-step : (w : Linked) (t : State Cell) (p : Outcome Cell) → Steps tagged w t p → Runs tagged w 1 t p
-one-step w t (running u) a = after_step a stands
-one-step w t (ended ending u) a = stops a

@@ -32,6 +32,7 @@ use Rattle.vm_step.specs.Step.{Steps}
 use Rattle.law_erasure.specs.Erasure.{IsNoFault}
 use Rattle.law_alike.specs.Alike.{renamed_cell}
 use Rattle.law_alike.specs.Likeness.{StepsAreAlike}
+use Rattle.law_alike.proofs.Simulation.{one-step}
 use Rattle.xf_homes.specs.declared.home.Home.{Home}
 use Rattle.xf_homes.specs.Home.{asked_here}
 use Rattle.xf_homes.specs.Value.{value_in_cells, type_width}
@@ -50,7 +51,7 @@ use Rattle.law_rewritten_typing.proofs.Running.{found-below, is-reference, local
 use Rattle.law_homes.specs.Held.{HoldsValue}
 use Rattle.law_homes.specs.Laws.{LoadsRunAlike, LoadsWriteNone, LocalsStay, StepsExecute}
 use Rattle.law_homes.specs.Moves.{IsExecutable, letter_of, size}
-use Rattle.law_homes.proofs.Beside.{among-each}
+use Rattle.law_homes.proofs.Beside.{among-each, some-width}
 use Rattle.law_homes.proofs.Copies.{wide}
 use Rattle.law_homes.proofs.Loading.{load-resolves}
 use Rattle.law_groups.specs.Laid.{IsLaidIn, body_at, count_of, rename}
@@ -61,7 +62,7 @@ use Rattle.law_groups.proofs.Arriving.{needed-local}
 use Rattle.law_groups.proofs.Called.{called}
 use Rattle.law_groups.proofs.Context.{method-of, some-reached, typing-of}
 use Rattle.law_groups.proofs.Following.{next-place, steps-here}
-use Rattle.law_groups.proofs.Plain.{alike, codes, comes, ex, one-step}
+use Rattle.law_groups.proofs.Plain.{alike, codes, comes, ex}
 use Rattle.law_groups.proofs.Standing.{stand-as, step-at}
 
 -- the home of a local that is read with a letter
@@ -224,10 +225,6 @@ module _
             (writes letter x) (writes letter r) b.held.locals)
             (λ k. refl) (called v i.insn op z) o p.0 p.2;
       }
-
-some-width : (ty : Ty) → 0 < type_width ty
-some-width IntHigh = omega arith
-some-width ty = omega arith
 
 -- the registers of homes have numbers of one byte
 pub small-register :

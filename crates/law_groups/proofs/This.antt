@@ -1,9 +1,9 @@
 -- Fields of `this`: the home of local 0, and instructions that stay where its register is 0.
-use Rattle.std.proofs.Common.{◌≡◌, ℕ, ◌+◌, ◌<◌, true, false, [], ◌∷◌, map, refl, sym, ap, ◌∙◌, subst}
+use Rattle.std.proofs.Common.{◌≡◌, ℕ, ◌+◌, true, false, [], ◌∷◌, map, refl, sym, ap, ◌∙◌, subst}
 use Rattle.std.proofs.Common.{arith}
 use Rattle.std.specs.Prelude.{Option, Some, None, Ok, IfSome, IsSomeAnd, is_some, slice_get}
 use Rattle.jc_base.specs.declared.ty.Ty.{Ty}
-use Rattle.jc_base.specs.declared.ty.Ty.TheVariants.{IntHigh, Class, Top}
+use Rattle.jc_base.specs.declared.ty.Ty.TheVariants.{Class, Top}
 use Rattle.jc_base.specs.Each.{IsAmong}
 use Rattle.jc_base.specs.Laws.{IsOrderOfTypes}
 use Rattle.jc_base.specs.Order.{Below}
@@ -33,10 +33,11 @@ use Rattle.law_erasure.specs.Erasure.{IsNoFault}
 use Rattle.law_alike.specs.Alike.{renamed_cell, renamed_new}
 use Rattle.law_alike.specs.Likeness.{StepsAreAlike}
 use Rattle.law_alike.specs.Running.{RunAlike}
+use Rattle.law_alike.proofs.Simulation.{one-step}
 use Rattle.xf_homes.specs.declared.home.Home.{Home}
 use Rattle.xf_homes.specs.Home.{asked_here}
 use Rattle.xf_homes.specs.Laws.{NeededAreKept}
-use Rattle.xf_homes.specs.Value.{value_in_cells, type_width}
+use Rattle.xf_homes.specs.Value.{value_in_cells}
 use Rattle.law_laid.specs.Apart.{apart_from_code}
 use Rattle.law_laid.specs.Laws.{DemandsAreKept, OperationsAreKept}
 use Rattle.xf_homes.specs.Source.{Source}
@@ -49,7 +50,7 @@ use Rattle.law_rewritten_typing.proofs.Running.{found-below, is-reference, local
 use Rattle.law_homes.specs.Held.{HoldsValue}
 use Rattle.law_homes.specs.Laws.{LocalsStay, StepsExecute}
 use Rattle.law_homes.specs.Moves.{IsExecutable}
-use Rattle.law_homes.proofs.Beside.{among-each}
+use Rattle.law_homes.proofs.Beside.{among-each, some-width}
 use Rattle.law_groups.specs.Laid.{IsLaidIn, body_at, count_of, rename}
 use Rattle.law_groups.specs.Laws.{RenamesOneToOne}
 use Rattle.law_groups.specs.Steps.{GroupsFollow, GroupsStandAtSteps}
@@ -57,7 +58,7 @@ use Rattle.law_groups.specs.Body.{AreAtBody, BodyRuns}
 use Rattle.law_groups.proofs.Called.{called}
 use Rattle.law_groups.proofs.Context.{method-of, some-reached, typing-of}
 use Rattle.law_groups.proofs.Following.{next-place, steps-here}
-use Rattle.law_groups.proofs.Plain.{alike, codes, comes, ex, method-is, one-step}
+use Rattle.law_groups.proofs.Plain.{alike, codes, comes, ex, method-is}
 use Rattle.law_groups.proofs.Reading.{IsHomeOf, reference-letter}
 use Rattle.law_groups.proofs.Standing.{stand-as, step-at}
 
@@ -105,10 +106,6 @@ this-home v w s place laid types whole kept i op c held stands reached does =
               ((kept s.method s.frames i.place 0).all (record { slot = 0; ty = k.ty })).1
               (refl, (0, asked_here (subst (λ o. IsSomeAnd o (λ (g : Types). value_in_cells g.regs 0 ≡ Some k.ty)) (sym e) value)));
         }
-
-some-width : (ty : Ty) → 0 < type_width ty
-some-width IntHigh = omega arith
-some-width ty = omega arith
 
 -- an operation that reads register 0 alone, and is the same in other code
 pub record ReadsThis (v : Linked) (op : Operation) : Type 0 where

@@ -54,6 +54,7 @@ use Rattle.law_alike.specs.Running.{Executes}
 use Rattle.law_alike.proofs.Asked.{passed-asks, register-same}
 use Rattle.law_alike.proofs.Cells.{in-stays, object-stays, replaced-renamed}
 use Rattle.law_alike.proofs.Settling.{unless-none}
+use Rattle.law_alike.proofs.Simulation.{one-step}
 use Rattle.xf_homes.specs.declared.home.Home.{Home}
 use Rattle.xf_homes.specs.Value.{type_width}
 use Rattle.law_laid.specs.Apart.{apart_from_code}
@@ -83,7 +84,7 @@ use Rattle.law_groups.proofs.Arriving.{at-step, beside, depth-fits, runs-then}
 use Rattle.law_groups.proofs.Context.{steps-are, target-at, target-room}
 use Rattle.law_groups.proofs.Following.{next-of, steps-here}
 use Rattle.law_groups.proofs.Moving.{moves-stand}
-use Rattle.law_groups.proofs.Plain.{frames-are, method-is, one-step}
+use Rattle.law_groups.proofs.Plain.{frames-are, method-is}
 use Rattle.law_groups.proofs.Reading.{IsHomeOf}
 use Rattle.law_groups.proofs.Standing.{GroupSteps, stand-as}
 

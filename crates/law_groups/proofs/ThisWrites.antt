@@ -62,6 +62,7 @@ use Rattle.xf_emission.specs.Move.{load, with_byte}
 use Rattle.xf_emission.specs.Mnemonics.{from_write, swap_x}
 use Rattle.law_rewritten_typing.proofs.Rows.{write-on-stack}
 use Rattle.law_alike.proofs.Storing.{object-written}
+use Rattle.law_alike.proofs.Simulation.{one-step}
 use Rattle.law_sound.proofs.Passing.{passes-before}
 use Rattle.law_homes.specs.Edges.{top_at, IsBeside}
 use Rattle.law_homes.specs.Held.{HoldsValue, HoldsLocals}
@@ -81,7 +82,7 @@ use Rattle.law_groups.proofs.Arriving.{at-step, beside, depth-fits, runs-then}
 use Rattle.law_groups.proofs.Context.{steps-are, target-at, target-room}
 use Rattle.law_groups.proofs.Following.{next-of, steps-here}
 use Rattle.law_groups.proofs.Moving.{moves-stand}
-use Rattle.law_groups.proofs.Plain.{frames-are, method-is, one-step}
+use Rattle.law_groups.proofs.Plain.{frames-are, method-is}
 use Rattle.law_groups.proofs.Reading.{IsHomeOf}
 use Rattle.law_groups.proofs.Standing.{GroupSteps, stand-as}
 use Rattle.law_groups.proofs.FieldCells.{Swaps, drop-shorter, last-held, swap-is, swaps, written}

@@ -47,7 +47,7 @@ pub record AreLaws (v w : Linked) : Type 0 where
   pub same_is : SameTypeDecides
   pub world : IsExecutable w
 
-some-width : (ty : Ty) → 0 < type_width ty
+pub some-width : (ty : Ty) → 0 < type_width ty
 some-width IntHigh = omega arith
 some-width ty = omega arith
 

@@ -4,7 +4,6 @@ use Rattle.std.proofs.Common.{List, [], ◌∷◌, ◌++◌, length, map, revers
 use Rattle.std.specs.Prelude.{Option, Some, None, IsSome, IsSomeAnd, flat_map, is_some, slice_get}
 use Rattle.std.proofs.lemmas.List.{map-append}
 use Rattle.std.proofs.lemmas.List.Concat.{flat_map-cons}
-use Rattle.std.proofs.lemmas.List.Sums.{sum_by-cons}
 use Rattle.jc_base.specs.declared.ty.Ty.{Ty}
 use Rattle.jc_base.specs.declared.ty.Ty.TheVariants.{Short, IntHigh, IntLow, Class, Fresh, Top}
 use Rattle.jc_base.specs.Class.{ClassTable, object}
@@ -29,17 +28,16 @@ use Rattle.vm_store.specs.State.{nth}
 use Rattle.law_alike.specs.Alike.{renamed_cell}
 use Rattle.xf_homes.specs.declared.home.Home.{Home}
 use Rattle.xf_homes.specs.Home.{register_count}
-use Rattle.xf_homes.specs.Laws.{AreNeeded, AreAskedInOrder, IsAskedBefore, NeededAreKept}
+use Rattle.xf_homes.specs.Laws.{AreNeeded, NeededAreKept}
 use Rattle.xf_homes.specs.Order.{SlotsFollow as Follow, register_sum}
-use Rattle.xf_homes.specs.Value.{type_width}
-use Rattle.xf_homes.specs.Walk.{has, register_from, same_home}
-use Rattle.xf_homes.proofs.Events.{homes-equal}
+use Rattle.xf_homes.specs.Walk.{has}
 use Rattle.xf_homes.specs.Source.{Source}
 use Rattle.xf_homes.specs.Plan.{stack_homes, needed, stack_of, cells_from}
 use Rattle.xf_emission.specs.declared.origin.Origin.{Origin}
 use Rattle.xf_emission.specs.Edge.{home_before, homes_held, copy_new, copies_from, local_copies, locals_copies, copies}
 use Rattle.xf_emission.specs.Move.{copy}
 use Rattle.xf_emission.proofs.Fewer.{Distinct, no-longer, distinct-append, either-among}
+use Rattle.xf_emission.proofs.PlainSizes.{homes-few, in-homes, in-order-distinct}
 use Rattle.law_rewritten_typing.specs.Planned.{IsPlanned}
 use Rattle.law_rewritten_typing.specs.Edges.{CellsFillStack, FillStack, NeededHaveHomes, LeadsTo, leads_start, leads_after, leads_entry}
 use Rattle.law_rewritten_typing.proofs.Below.{top-only}
@@ -51,7 +49,7 @@ use Rattle.law_homes.proofs.Valued.{asked_types, IsCellOf, CellsAt, at-nth}
 use Rattle.law_homes.proofs.StackStores.{piled, piled-stack}
 use Rattle.law_homes.proofs.Spilling.{reverse-among}
 use Rattle.law_homes.proofs.Carrying.{insns-append}
-use Rattle.law_homes.proofs.Beside.{AreLaws, each-among, among-each, typed, types, count-registers, count-stack, cells-valued}
+use Rattle.law_homes.proofs.Beside.{AreLaws, each-among, typed, types, count-registers, count-stack, cells-valued}
 
 -- ---- stacks that are kept
 
@@ -111,15 +109,6 @@ kept-stacks-stay v w l s q f t e is plan beside keeps =
     ap (map (renamed_cell e)) (sym pile) ∙ (same-pile w.classes (types v w l s is plan q f t beside) (kinds t) e (slots f) (reverse hs) all ∙ pile)
 
 -- ---- how many
-
-homes-few : (hs : List Home) → length hs ≤ register_sum hs
-unfolding register_sum
-homes-few [] = omega arith
-homes-few (h ∷ hs) = omega (arith, wide h.ty, homes-few hs, sum_by-cons (λ (k : Home). type_width k.ty) h hs)
-  where
-    wide : (t : Ty) → 1 ≤ type_width t
-    wide IntHigh = omega arith
-    wide t = omega arith
 
 module _ (v : Linked) (fill : CellsFillStack v) where
   pub cells-are-few : CellsAreFew v
@@ -189,23 +178,6 @@ locals-few s o q x (suc n) =
       locals-few s o q (suc x) n,
       length-append (needed s q x) (all_needed s q (suc x) n),
     )
-
-in-homes : (same_is : SameTypeDecides) (n : ℕ) (hs : List Home) (h : Home) (r : ℕ) → register_from n hs h ≡ Some r → IsAmong h hs
-in-homes same_is n [] h r e = absurd (cc)
-in-homes same_is n (k ∷ ks) h r e = by (same_home k h) refl e (λ f. in-homes same_is (n + type_width k.ty) ks h r f)
-  where
-    by :
-        (b : Bool) → same_home k h ≡ b → (if b then Some n else register_from (n + type_width k.ty) ks h) ≡ Some r
-        → (register_from (n + type_width k.ty) ks h ≡ Some r → IsAmong h ks) → IsAmong h (k ∷ ks)
-    by true q e rest = inl (homes-equal same_is k h q)
-    by false q e rest = inr (rest e)
-
-in-order-distinct : (s : Source) (q x : ℕ) (hs : List Home) → AreAskedInOrder s.method s.frames q x hs → Distinct hs
-in-order-distinct s q x [] o = tt
-in-order-distinct s q x (h ∷ hs) o = (
-  λ a. let b = among-each (IsAskedBefore s.method s.frames q x h) hs h o.0 a in absurd (omega (arith, b.2 b.0 b.1)),
-  in-order-distinct s q x hs o.1,
-)
 
 module _ (v : Linked) (same_is : SameTypeDecides) (kept : NeededAreKept) (have : NeededHaveHomes v) (s : Source) (is : s.world ≡ v) (plan : IsPlanned s)
     (q : ℕ) (g : Types) (e : s.frames q ≡ Some g) where

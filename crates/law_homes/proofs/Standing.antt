@@ -1,6 +1,6 @@
 -- The instruction at the place of a step, in code that stands for steps whose places rise.
 use Rattle.std.proofs.Common.{◌≡◌, ℕ, zero, suc, ◌+◌, ◌-◌, ◌<◌, ◌≤◌, ◌==◌, false, cond, List, [], ◌∷◌, length, sym, ap}
-use Rattle.std.proofs.Common.{◌∙◌, subst, arith, refl}
+use Rattle.std.proofs.Common.{◌∙◌, subst, arith}
 use Rattle.std.specs.Prelude.{Some, Ok, IfSome, find, slice_get}
 use Rattle.std.proofs.lemmas.Bool.{eq-eqb, ne_eqb}
 use Rattle.std.proofs.lemmas.List.Elements.{All-weaker}
@@ -12,8 +12,6 @@ use Rattle.jc_base.specs.World.{Linked, IsWorld}
 use Rattle.jc_base.proofs.Lists.{All-slice_get, slice_get-some}
 use Rattle.jc_decode.specs.declared.insn.Placed.{Placed}
 use Rattle.jc_decode.proofs.InstructionLists.{all-are-listed}
-use Rattle.jc_ops.specs.declared.operation.Operation.{Operation}
-use Rattle.jc_ops.specs.declared.operation.Operation.TheVariants as ops
 use Rattle.jc_ops.specs.Resolve.{Resolves}
 use Rattle.jc_ops.specs.Sound.{OperationsAreSound}
 use Rattle.vm_store.specs.State.{top}
@@ -21,6 +19,7 @@ use Rattle.law_laid.proofs.Forms.{resolves-renamed}
 use Rattle.law_laid.proofs.Operations.{operation_renamed}
 use Rattle.law_laid.proofs.Steps.{step-at}
 use Rattle.law_alike.specs.Alike.{renamed_new}
+use Rattle.law_alike.proofs.Views.{same-new}
 use Rattle.jc_decode.specs.Listing.{listing}
 use Rattle.jc_decode.specs.Standing.{StandsForStep, AreSteps}
 use Rattle.jc_decode.specs.Symbols.{Step}
@@ -119,10 +118,6 @@ steps-stand-at-places code place steps n step are e =
 
 -- ---- what the step at a place does
 
-renamed-alike : (f : ℕ → ℕ) (op : Operation) → operation_renamed f op ≡ renamed_new f op
-renamed-alike f (ops.New p class) = refl
-renamed-alike f _ = refl
-
 -- a world whose operations are sound can run code
 pub can-run : (w : Linked) → IsWorld w → OperationsAreSound w → IsExecutable w
 can-run w world sound = record {
@@ -142,7 +137,7 @@ steps-execute w world t m place steps n q step op runs method are e at resolves 
     let named : Resolves w m (place n) here.instruction.insn (Ok (operation_renamed (λ k. place n) op)) =
     resolves-renamed w m world.sound declared (λ k. place n) q here.instruction.insn step.insn op here.is.same resolves in
     let own : Resolves w m here.instruction.place here.instruction.insn (Ok (renamed_new (λ k. place n) op)) =
-    subst (λ o. Resolves w m here.instruction.place here.instruction.insn (Ok o)) (renamed-alike (λ k. place n) op)
+    subst (λ o. Resolves w m here.instruction.place here.instruction.insn (Ok o)) (same-new (λ k. place n) op)
     (subst (λ p. Resolves w m p here.instruction.insn (Ok (operation_renamed (λ k. place n) op))) (sym here.begins) named) in
     record {
       instruction = here.instruction;

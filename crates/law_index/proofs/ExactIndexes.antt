@@ -20,7 +20,7 @@ use Rattle.cap_write.specs.WrittenPackage.{IsWritten}
 use Rattle.jc_base.specs.declared.record.MethodRec.{MethodRec}
 use Rattle.jc_base.specs.Linked.{list_at}
 use Rattle.jc_base.specs.World.{Linked, code_of}
-use Rattle.jc_base.proofs.Lists.{slice_get-farther}
+use Rattle.jc_base.proofs.Lists.{slice_get-farther, slice_get-front, slice_get-some}
 use Rattle.jc_control.specs.Asked.{IsOfLast}
 use Rattle.jc_control.specs.ExactIndex.{IsExactIndex, HasExactIndex}
 use Rattle.jc_control.specs.Method.{Method}
@@ -35,7 +35,6 @@ use Rattle.law_package.proofs.Lists.{Each}
 use Rattle.law_package.proofs.Kept.{map_twice}
 use Rattle.law_relink.specs.Last.{and_last}
 use Rattle.law_relink.specs.Replaced.{AreMethodsOf}
-use Rattle.law_relink.proofs.Elements.{get_front}
 use Rattle.law_relink.proofs.Twins.{Twin, AreTwins, before_in, after_in, laid_in, are_twins}
 use Rattle.law_relink.proofs.Known.{IsKnownTwin, known_twins, twins_in}
 use Rattle.law_relink.proofs.Apart.{named_split}
@@ -53,10 +52,6 @@ mapped-at : {X Y : Type 0} (f : X → Y) (xs : List X) (k : ℕ) (y : Y) → sli
 mapped-at f [] k y e = absurd cc
 mapped-at f (x ∷ xs) zero y e = (x, refl, cc)
 mapped-at f (x ∷ xs) (suc k) y e = mapped-at f xs k y e
-
-last-at : {X : Type 0} (xs : List X) (x : X) → slice_get (xs ++ x ∷ []) (length xs) ≡ Some x
-last-at [] x = refl
-last-at (y ∷ ys) x = last-at ys x
 
 is-there : (o : Option Laid) → is_some o ≡ true → (l : Laid) × (o ≡ Some l)
 is-there None e = absurd cc
@@ -201,7 +196,8 @@ module _ (listed : InstructionsAreListed) (parts new_parts : List Lent) (ps : Li
           by : (m.number < length earlier) ⊎ (length earlier ≤ m.number) → length earlier ≤ m.number
           by (inr le) = le
           by (inl lt) =
-              let at : slice_get earlier m.number ≡ Some m.rec = sym (get_front earlier own_now m.number lt) ∙ there in
+              let x = slice_get-some earlier m.number lt in
+              let at : slice_get earlier m.number ≡ Some m.rec = x.1 ∙ (sym (slice_get-front earlier own_now m.number x.0 x.1) ∙ there) in
               let less = each-at (λ (x : MethodRec). x.package < last) earlier m.number m.rec homes at in
               let its = home in
               absurd (omega (arith, less, its))
@@ -249,7 +245,7 @@ module _ (listed : InstructionsAreListed) (parts new_parts : List Lent) (ps : Li
         index : HasIndex now new.methods m.rec.package back.lists
         index = record {
           record_of = q;
-          is = ap (slice_get now) home ∙ last-at ps q;
+          is = ap (slice_get now) home ∙ slice_get-farther ps (q ∷ []) 0 (length ps) (omega arith);
           info = info.info;
           named = info.named;
           formed =

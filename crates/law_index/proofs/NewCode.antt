@@ -1,7 +1,8 @@
 -- In the new world a method of the last package has code exactly where some is laid for it, and this is its code.
-use Rattle.std.proofs.Common.{◌≡◌, ◌≤◌, ◌<◌, ◌+◌, ℕ, List, [], ◌∷◌, ◌++◌, length, take, drop, map, min, Bool, true, false, Option}
+use Rattle.std.proofs.Common.{◌≡◌, ◌<◌, ◌+◌, ℕ, List, length, take, drop, Bool, true, false, Option}
 use Rattle.std.proofs.Common.{Some, None, refl, sym, ap, subst, ◌∙◌, arith}
 use Rattle.std.specs.Prelude.{is_some, nat_lt}
+use Rattle.std.proofs.Math.Nat.{min-eq_left}
 use Rattle.cap_bytes.specs.Number.{number_at}
 use Rattle.cap_components.specs.MethodPlaces.{size_by, code_start, code_end}
 use Rattle.cap_index.specs.Indexes.{has_code}
@@ -28,14 +29,8 @@ use Rattle.law_relink.specs.Last.{and_last}
 use Rattle.law_relink.proofs.Records.{headers_same, with_header, without_header}
 use Rattle.law_relink.proofs.Twins.{Twin, Told, before_in, after_in}
 use Rattle.law_relink.proofs.Known.{IsKnown, IsKnownTwin, of_class, twin_headers}
+use Rattle.law_relink.proofs.Standing.{list_last}
 use Rattle.law_index.specs.WrittenIndex.{IsNewCode}
-
-list-last : {X Y : Type 0} (g : X → List Y) (xs : List X) (q : X) → list_at (map g (xs ++ q ∷ [])) (length xs) ≡ g q
-list-last g [] q = refl
-list-last g (x ∷ xs) q = list-last g xs q
-
-small : (n : ℕ) → n ≤ 65535 → min n 65535 ≡ n
-small n h = grind arith
 
 -- a method of the last package, before and after
 abbrev pub before : List PackageRecord → PackageRecord → List ℕ → Twin → MethodRec
@@ -108,7 +103,7 @@ module _ (ps : List PackageRecord) (p q : PackageRecord) (laid : List (Option La
           let within = told.1.well.within in
           let short = info-short 7 t.said.methods.file q.methods.info t.said.methods.framed in
           ap (λ n. offset_in_info (x.new.method_offset + n)) size
-          ∙ small (x.new.method_offset + size_by (number_at 1 x.new.method_offset q.methods.info)) (omega (arith, within, short))
+          ∙ min-eq_left {n = x.new.method_offset + size_by (number_at 1 x.new.method_offset q.methods.info)} {m = 65535} (omega (arith, within, short))
 
       pub long : (after ps q roles x).code_len ≡ length l.code
       long =
@@ -123,7 +118,7 @@ module _ (ps : List PackageRecord) (p q : PackageRecord) (laid : List (Option La
           let home : (after ps q roles x).package ≡ last = ap (λ (m : MethodRec). m.package) rec in
           ap (λ infos. take (after ps q roles x).code_len (drop (after ps q roles x).code_at (list_at infos (after ps q roles x).package))) linked.lists.infos
           ∙ ap (λ k. take (after ps q roles x).code_len (drop (after ps q roles x).code_at (list_at (infos_of now) k))) home
-          ∙ ap (λ info. take (after ps q roles x).code_len (drop (after ps q roles x).code_at info)) (list-last (λ (y : PackageRecord). y.methods.info) ps q)
+          ∙ ap (λ info. take (after ps q roles x).code_len (drop (after ps q roles x).code_at info)) (list_last (λ (y : PackageRecord). y.methods.info) ps q)
           ∙ ap (λ n. take n (drop (after ps q roles x).code_at q.methods.info)) size
           ∙ ap (λ n. take x.new.bytecode_count (drop n q.methods.info)) at
           ∙ code.code

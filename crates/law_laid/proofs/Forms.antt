@@ -44,9 +44,9 @@ past-spans op lt (s ∷ ss) e =
     let rest = past-spans op lt ss (and_parts (nat_le s.last 255) (list_all (λ s. nat_le s.last 255) ss) e).1 in
     past-span op lt s (find (is_in_span op) ss) (nat_le s.last 255) (is_in_span op s) refl refl rest first
 
-no-layout : (op : ℕ) → 255 < op → is_switch op ≡ false
+pub past-switch : (op : ℕ) → 255 < op → is_switch op ≡ false
 unfolding layout_of opcode
-no-layout op lt =
+past-switch op lt =
     ap (λ o. has_cases (layout_from op (if is_out_of_scope op then Reserved else opcode_in_span o))) (past-spans op lt spans refl) ∙ by (is_out_of_scope op)
   where
     by : (b : Bool) → has_cases (layout_from op (if b then Reserved else Unused)) ≡ false
@@ -56,7 +56,7 @@ no-layout op lt =
 past-jumps : (op : ℕ) → 255 < op → jumps op ≡ false
 past-jumps op lt =
     let a : is_branch op ≡ false = grind (arith, nat_tests, lt) in
-    ap (λ b. b || is_switch op) a ∙ no-layout op lt
+    ap (λ b. b || is_switch op) a ∙ past-switch op lt
 
 neither : (c d : Bool) (x y i : Insn) → c ≡ false → d ≡ false → (if c then x else if d then y else i) ≡ i
 neither true d x y i a b = absurd (cc)
@@ -78,7 +78,7 @@ past-essence : (i : Insn) → 255 < i.op → essence i ≡ record i { len = 0 }
 past-essence i lt = plain-essence i (with_operand i) (jumps i.op) (past-jumps i.op lt) (past-form i lt)
 
 -- opcodes that are no byte have the row of what is unused
-past-row : (op : ℕ) → 255 < op → row_at op ≡ unused
+pub past-row : (op : ℕ) → 255 < op → row_at op ≡ unused
 unfolding row_at table by_sort by_width by_kind first_four by_register literals binaries orders_all branching unused
 past-row op lt = get_or_past table op unused lt
 
@@ -102,13 +102,13 @@ module _ (x y z : ℤ) (len : ℕ) where
   unfolding layout_of opcode row_at table by_sort by_width by_kind first_four by_register literals binaries orders_all branching unused
   table-forms w m place = refl
 
-at-op : {X : Type 0} (f g : ℕ → X) → map f (range_with_len 0 256) ≡ map g (range_with_len 0 256) → (op : ℕ) → op < 256 → X → f op ≡ g op
+pub at-op : {X : Type 0} (f g : ℕ → X) → map f (range_with_len 0 256) ≡ map g (range_with_len 0 256) → (op : ℕ) → op < 256 → X → f op ≡ g op
 at-op f g e op lt d =
     sym (get_or-map-range_with_len f 0 256 op op d lt (omega arith))
     ∙ ap (λ xs. get_or xs op d) e
     ∙ get_or-map-range_with_len g 0 256 op op d lt (omega arith)
 
-by-size : {X : Type 0} (op : ℕ) → (op < 256 → X) → (255 < op → X) → X
+pub by-size : {X : Type 0} (op : ℕ) → (op < 256 → X) → (255 < op → X) → X
 by-size {X = X} op small large = go (nat_le op 255) refl
   where
     go : (b : Bool) → nat_le op 255 ≡ b → X

@@ -5,3 +5,4 @@ pub mod Forms
 pub mod Steps
 pub mod LaidTyping
 pub mod Catching
+pub mod Methods

@@ -2,6 +2,7 @@
 use Rattle.std.proofs.Common.{◌≡◌, ◌≤◌, ◌+◌, ℕ, zero, suc, List, [], ◌∷◌, ◌++◌, length, take, drop, Some, refl, sym, ap, ◌∙◌}
 use Rattle.std.proofs.Common.{arith, length-take, length-drop}
 use Rattle.std.proofs.lemmas.List.{drop-drop}
+use Rattle.std.proofs.Math.Seq.{take-append_seam, drop-append_seam}
 use Rattle.cap_bytes.specs.Number.{number_at}
 use Rattle.cap_bytes.specs.Spelling.{info_of}
 use Rattle.cap_bytes.proofs.Laws.{spelled-read}
@@ -16,14 +17,6 @@ use Rattle.jc_decode.specs.declared.symbols.Laid.{Laid}
 use Rattle.cap_laying.proofs.HeaderLaws.{length_header}
 use Rattle.law_package.specs.Written.{lead_bytes}
 use Rattle.law_package.proofs.Headers.{header_sized, some_bytes, front_of, first_same, drop_take}
-
-pub take_front : {X : Type 0} (xs ys : List X) → take (length xs) (xs ++ ys) ≡ xs
-take_front [] ys = refl
-take_front (x ∷ xs) ys = ap (λ zs. x ∷ zs) (take_front xs ys)
-
-pub drop_front : {X : Type 0} (xs ys : List X) → drop (length xs) (xs ++ ys) ≡ ys
-drop_front [] ys = refl
-drop_front (x ∷ xs) ys = drop_front xs ys
 
 pub take_more : {X : Type 0} (k n : ℕ) (xs : List X) → take k (take (k + n) xs) ≡ take k xs
 take_more zero n xs = refl
@@ -49,7 +42,7 @@ code_at info at laid back small e =
     let long = length_header n in
     let lead : take (header_size n) (drop at info) ≡ hs =
     sym (take_more (header_size n) (length laid.code) (drop at info)) ∙ ap (take (header_size n)) e ∙ ap (λ k. take k (hs ++ laid.code)) (sym long)
-    ∙ take_front hs laid.code in
+    ∙ take-append_seam hs laid.code in
     let header = header_there info at (header_of n) (back n info at small lead) in
     let size : size_by (number_at 1 at info) ≡ header_size n = sym (header_sized info at (header_of n) header) in
     record {
@@ -60,7 +53,7 @@ code_at info at laid back small e =
           ∙ sym (drop_take (header_size n) (length laid.code) (drop at info))
           ∙ ap (drop (header_size n)) e
           ∙ ap (λ k. drop k (hs ++ laid.code)) (sym long)
-          ∙ drop_front hs laid.code;
+          ∙ drop-append_seam hs laid.code;
     }
 
 -- ---- a header

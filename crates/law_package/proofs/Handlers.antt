@@ -3,7 +3,7 @@ use Rattle.std.proofs.Common.{◌≡◌, ◌≤◌, ◌<◌, ◌+◌, ◌-◌, �
 use Rattle.std.proofs.Common.{filter, filter_map, slice_get, max, Bool, true, false, cond, not, ◌&&◌, Option, Some, None, inl, inr, refl, sym, ap, subst}
 use Rattle.std.proofs.Common.{◌∙◌, arith}
 use Rattle.std.specs.Prelude.{if◌then◌else◌, nat_lt, nat_le, ◌==◌}
-use Rattle.std.proofs.lemmas.Bool.{false≢true, leb-true, le-leb, lt-ltb}
+use Rattle.std.proofs.lemmas.Bool.{false≢true, leb-true, le-leb, lt-ltb, le-ltb}
 use Rattle.std.proofs.lemmas.Option.{slice_get_within}
 use Rattle.cap_method.specs.declared.handler.HandlerInfo.{HandlerInfo}
 use Rattle.cap_desc.specs.DescriptorFormat.{MethodDescriptor}
@@ -348,15 +348,12 @@ claim_none n m h = by (m.handler_count == 0) refl
     by true e = refl
     by false e = let le = h e in let f : nat_lt n (m.handler_index + m.handler_count) ≡ false = grind arith in rw f refl
 
-not_itself : (a : ℕ) → nat_lt a a ≡ false
-not_itself a = grind arith
-
 claims_now : (p q : PackageRecord) (all : List Change) (c : Change) → IsMethodWritten p q all c → Has all c
     → length q.methods.handlers ≡ sum_by handlers_in all → claim_fault (length q.methods.handlers) c.now ≡ None
 claims_now p q all c w h many = claim_none (length q.methods.handlers) c.now (λ e.
     let i : c.now.handler_index ≡ below handlers_in (block p) all (block p c) = index_is p q all c w
     ∙ ap (λ b. if b then 0 else below handlers_in (block p) all (block p c)) e in
-    let s = sum_beside handlers_in (is_below (block p) (block p c)) all c (not_itself (block p c)) h in
+    let s = sum_beside handlers_in (is_below (block p) (block p c)) all c (le-ltb (block p c) (block p c) (omega arith)) h in
     omega arith)
 
 pub all_home : (parts : List Lent) (p q : PackageRecord) (laid : List (Option Laid)) → Agrees parts p → AreLaidFor p laid → IsRewritten p laid q

@@ -3,8 +3,9 @@ use Rattle.std.proofs.Common.{◌≡◌, ◌≤◌, ◌<◌, ℕ, List, [], ◌�
 use Rattle.std.proofs.Common.{Some, None, option_map, ◌||◌, inl, inr, refl, sym, ap, ◌∙◌, arith}
 use Rattle.std.specs.Prelude.{if◌then◌else◌, ◌==◌}
 use Rattle.std.specs.List.{list_any}
-use Rattle.std.proofs.lemmas.Bool.{false≢true}
+use Rattle.std.proofs.lemmas.Bool.{false≢true, eq-eqb}
 use Rattle.std.proofs.lemmas.List.{map-append}
+use Rattle.std.proofs.Math.Bool.{or-true}
 use Rattle.cap_frame.specs.AppletFormat.{Applet}
 use Rattle.cap_pool.specs.ExportFormat.{Exported}
 use Rattle.cap_class.specs.ClassFormat.{Class}
@@ -50,17 +51,10 @@ pub find_none : {X : Type 0} (p : X → Bool) (xs : List X) → Each (λ x. p x 
 find_none p [] h = refl
 find_none p (x ∷ xs) h = ap (λ c. cond c (Some x) (find p xs)) h.0 ∙ find_none p xs h.1
 
-or_true : (b : Bool) → b || true ≡ true
-or_true true = refl
-or_true false = refl
-
 pub any_has : {X : Type 0} (p : X → Bool) (xs : List X) (x : X) → Has xs x → p x ≡ true → list_any p xs ≡ true
 any_has p [] x h e = absurd h
 any_has p (y ∷ ys) x (inl s) e = ap (λ b. b || list_any p ys) (ap p (sym s) ∙ e)
-any_has p (y ∷ ys) x (inr h) e = ap (λ b. p y || b) (any_has p ys x h e) ∙ or_true (p y)
-
-pub same_number : (n : ℕ) → (n == n) ≡ true
-same_number n = grind arith
+any_has p (y ∷ ys) x (inr h) e = ap (λ b. p y || b) (any_has p ys x h e) ∙ or-true (p y)
 
 -- ---- a method
 
@@ -71,7 +65,7 @@ names_now cs offset e =
     let to : offset_by offset (find (stood_at offset) cs) ≡ f.x.now.method_offset = ap (offset_by offset) f.is in
     ap (is_method_at (map now_of cs)) to
     ∙ any_map (λ (m : MethodDescriptor). m.method_offset == f.x.now.method_offset) now_of cs
-    ∙ any_has (λ (c : Change). c.now.method_offset == f.x.now.method_offset) cs f.x f.has (same_number f.x.now.method_offset)
+    ∙ any_has (λ (c : Change). c.now.method_offset == f.x.now.method_offset) cs f.x f.has (eq-eqb f.x.now.method_offset f.x.now.method_offset refl)
 
 pub is_told : (b : Bool) (f : PackFault) → (if b then None else Some f) ≡ None → b ≡ true
 is_told true f e = refl

@@ -5,6 +5,7 @@ use Rattle.std.proofs.Common.{append_assoc}
 use Rattle.std.specs.Prelude.{if◌then◌else◌, ◌==◌, slice_set, slice_index}
 use Rattle.std.proofs.lemmas.List.Sums.{sum_by-cons}
 use Rattle.std.proofs.lemmas.Option.{same_Some}
+use Rattle.std.proofs.Math.Seq.{take-append_seam, drop-append_seam}
 use Rattle.cap_method.specs.declared.handler.HandlerInfo.{HandlerInfo}
 use Rattle.cap_renewal.specs.declared.new_methods.NewMethod.{NewMethod}
 use Rattle.cap_renewal.specs.NewMethods.{to}
@@ -13,7 +14,6 @@ use Rattle.cap_laying.specs.Member.{handlers_of, lead_size}
 use Rattle.cap_laying.specs.Blocks.{blocks, firsts, had_none, first_entry, put_indexes, handler_indexes, block_entries, entries_of_blocks, total_handlers}
 use Rattle.cap_laying.proofs.Owned.{total_append, length_entries as length_at, length_table}
 use Rattle.law_package.proofs.Lists.{Each, Has, each_at}
-use Rattle.law_package.proofs.AsLaid.{take_front, drop_front}
 use Rattle.law_package.proofs.Slots.{slot, sum_slots, first_of}
 
 abbrev pub many_of : WrittenMember → ℕ
@@ -223,6 +223,6 @@ entries_among news bs m before a = by (many_of m == 0) refl
         ap (λ xs. drop before (entries_of_blocks news xs)) a.is
         ∙ ap (drop before) (entries_parts news a.lead (m ∷ a.rest))
         ∙ ap (λ n. drop n (entries_of_blocks news a.lead ++ entries_of_blocks news (m ∷ a.rest))) (sym (l ∙ t))
-        ∙ drop_front (entries_of_blocks news a.lead) (entries_of_blocks news (m ∷ a.rest)) in
+        ∙ drop-append_seam (entries_of_blocks news a.lead) (entries_of_blocks news (m ∷ a.rest)) in
         ap (take (many_of m)) d ∙ ap (λ n. take n (block_entries news m ++ entries_of_blocks news a.rest)) (sym long)
-        ∙ take_front (block_entries news m) (entries_of_blocks news a.rest)
+        ∙ take-append_seam (block_entries news m) (entries_of_blocks news a.rest)

@@ -3,7 +3,7 @@ use Rattle.std.proofs.Common.{◌≡◌, ◌≤◌, ◌<◌, ◌+◌, ℕ, zero,
 use Rattle.std.proofs.Common.{◌⊎◌, inl, inr, refl, sym, ap, subst, ◌∙◌, arith, ltb-true, ltb-false}
 use Rattle.std.specs.Prelude.{nat_lt, nat_le, ◌==◌}
 use Rattle.std.proofs.lemmas.List.Sums.{sum_by-cons}
-use Rattle.std.proofs.lemmas.Bool.{eqb-true, ne_eqb, lt-ltb}
+use Rattle.std.proofs.lemmas.Bool.{eqb-true, ne_eqb, lt-ltb, le-ltb}
 use Rattle.law_package.proofs.Lists.{Each, Has, each_of, filter_none, filter_alike, has_filter}
 use Rattle.law_package.proofs.Sums.{sum_le, sum_more, sum_each, sum_none, filter_every}
 
@@ -35,11 +35,8 @@ three a n = by (nat_lt a n) (nat_lt n a) refl refl
     by false true e f = inr (inr (ltb-true n a f))
     by false false e f = let x = ltb-false a n e in let y = ltb-false n a f in inr (inl (omega arith))
 
-none_below : (n : ℕ) → nat_lt n 0 ≡ false
-none_below n = grind arith
-
 nothing_below : {X : Type 0} (size key : X → ℕ) (xs : List X) → below size key xs 0 ≡ 0
-nothing_below size key xs = sum_none size (is_below key 0) xs (each_of (λ x. is_below key 0 x ≡ false) xs (λ x h. none_below (key x)))
+nothing_below size key xs = sum_none size (is_below key 0) xs (each_of (λ x. is_below key 0 x ≡ false) xs (λ x h. le-ltb (key x) 0 (omega arith)))
 
 pub record IsFound {X : Type 0} (size key : X → ℕ) (xs : List X) (k : ℕ) : Type 0 where
   pub at : ℕ

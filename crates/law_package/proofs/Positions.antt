@@ -1,6 +1,6 @@
 -- An offset that named a method names the one at the same position when it is renewed.
 use Rattle.std.proofs.Common.{◌≡◌, ℕ, zero, suc, List, [], ◌∷◌, map, find, slice_get, cond, Option, Some, inl, inr, refl, sym, ap, ◌∙◌}
-use Rattle.std.proofs.lemmas.Bool.{ne_eqb}
+use Rattle.std.proofs.lemmas.Bool.{ne_eqb, eq-eqb}
 use Rattle.cap_desc.specs.DescriptorFormat.{MethodDescriptor}
 use Rattle.cap_components.specs.Parts.{Lent}
 use Rattle.cap_components.specs.PackageRecord.{PackageRecord}
@@ -15,7 +15,6 @@ use Rattle.cap_package.proofs.Agreed.{agrees}
 use Rattle.law_package.proofs.Zipped.{now_of, old_of}
 use Rattle.law_package.proofs.Facts.{news, olds}
 use Rattle.law_package.proofs.Standing.{offset_of, apart}
-use Rattle.law_package.proofs.Names.{same_number}
 
 has_get : (cs : List Change) (k : ℕ) (c : Change) → slice_get cs k ≡ Some c → Has cs c
 has_get [] k c e = absurd cc
@@ -26,7 +25,7 @@ find_at : (cs : List Change) (k : ℕ) (c : Change) → slice_get cs k ≡ Some 
 find_at [] k c e d = absurd cc
 find_at (x ∷ cs) zero c e d =
     let s : x ≡ c = cc in
-    ap (λ b. cond b (Some x) (find (stood_at (offset_of c)) cs)) (ap (λ y. stood_at (offset_of c) y) s ∙ same_number (offset_of c)) ∙ ap Some s
+    ap (λ b. cond b (Some x) (find (stood_at (offset_of c)) cs)) (ap (λ y. stood_at (offset_of c) y) s ∙ eq-eqb (offset_of c) (offset_of c) refl) ∙ ap Some s
 find_at (x ∷ cs) (suc k) c e d =
     let h = each_at (λ (y : Change). offset_of y ≡ offset_of x → ⊥) cs c d.0 (has_get cs k c e) in
     ap (λ b. cond b (Some x) (find (stood_at (offset_of c)) cs)) (ne_eqb (offset_of x) (offset_of c) (λ s. h (sym s))) ∙ find_at cs k c e d.1

@@ -1,7 +1,8 @@
 -- Parts whose sizes the Directory tells, and which say what every package says.
 use Rattle.std.proofs.Common.{◌≡◌, ◌-◌, ℕ, List, [], ◌∷◌, ◌++◌, length, map, filter_map, find, Bool, true, false, cond, Option, Some}
-use Rattle.std.proofs.Common.{None, Ok, Err, option_map, inl, inr, refl, ap, subst, ◌∙◌, arith}
+use Rattle.std.proofs.Common.{None, Ok, Err, option_map, inl, inr, refl, ap, subst, ◌∙◌}
 use Rattle.std.specs.Prelude.{if◌then◌else◌, ◌==◌, nat_le, ◌&&◌, slice_get, unwrap_or}
+use Rattle.std.proofs.lemmas.Bool.{eq-eqb}
 use Rattle.cap_bytes.specs.Spelling.{Stands, file_of}
 use Rattle.cap_bytes.proofs.Laws.{reading_where}
 use Rattle.cap_frame.specs.Frame.{component}
@@ -96,11 +97,8 @@ nothing_missing parts p s h =
 
 -- ---- sizes
 
-same_size : (n : ℕ) → (n == n) ≡ true
-same_size n = grind arith
-
 told_size : (tag size : ℕ) (info : List ℕ) → length info ≡ size → size_by tag (Some size) (Ok info) ≡ None
-told_size tag size info e = subst (λ n. size_by tag (Some n) (Ok info) ≡ None) e (rw (same_size (length info)) refl)
+told_size tag size info e = subst (λ n. size_by tag (Some n) (Ok info) ≡ None) e (rw (eq-eqb (length info) (length info) refl) refl)
 
 size_none_by : (parts : List Lent) (tag : ℕ) (o : Option (List ℕ)) (s : Option ℕ) → held parts tag ≡ o
     → ((size : ℕ) → s ≡ Some size → IsSizeOf tag size o) → size_by tag s (info_in parts tag) ≡ None
@@ -121,7 +119,7 @@ sizes_told parts d tags h =
 found : (cs : List Custom) (n : ℕ) → Has (map (λ (c : Custom). c.tag) cs) n → (x : Custom) × (find (λ (c : Custom). c.tag == n) cs ≡ Some x)
 found [] n h = absurd h
 found (c ∷ cs) n (inl s) =
-    let e : (c.tag == n) ≡ true = ap (λ k. c.tag == k) s ∙ same_size c.tag in
+    let e : (c.tag == n) ≡ true = ap (λ k. c.tag == k) s ∙ eq-eqb c.tag c.tag refl in
     (c, ap (λ b. cond b (Some c) (find (λ (x : Custom). x.tag == n) cs)) e)
 found (c ∷ cs) n (inr h) = by (c.tag == n) (found cs n h)
   where

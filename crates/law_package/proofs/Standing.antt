@@ -2,6 +2,7 @@
 use Rattle.std.proofs.Common.{◌≡◌, ◌≤◌, ◌<◌, ◌+◌, ◌*◌, ℕ, List, [], ◌∷◌, ◌++◌, length, map, sum_by, filter_map, min, max}
 use Rattle.std.proofs.Common.{Bool, true, false, Option, None, ◌⊎◌, inl, inr, refl, sym, ap, subst, ◌∙◌, arith, ltb-true, ltb-false}
 use Rattle.std.specs.Prelude.{nat_lt}
+use Rattle.std.proofs.lemmas.Bool.{le-ltb}
 use Rattle.cap_bytes.specs.Number.{number_at}
 use Rattle.cap_desc.specs.DescriptorFormat.{MethodDescriptor}
 use Rattle.cap_components.specs.MethodPlaces.{size_by}
@@ -148,15 +149,12 @@ lies_inside info n m low high =
     let b : nat_lt (length info) (code_end info m) ≡ false = grind arith in
     rw (a, b) refl
 
-itself : (a : ℕ) → nat_lt a a ≡ false
-itself a = grind arith
-
 pub ends_inside : (p q : PackageRecord) (all : List Change) (c : Change) → IsMethodWritten p q all c → Has all c
     → length q.methods.info ≡ methods_begin q + sum_by (size_written q) all → code_end q.methods.info c.now ≤ length q.methods.info
 ends_inside p q all c w h long =
     let a = place_of p q all c w in
     let e = sizes_end q.methods.info c.now in
-    let k = sum_beside (size_written q) (is_below offset_of (offset_of c)) all c (itself (offset_of c)) h in
+    let k = sum_beside (size_written q) (is_below offset_of (offset_of c)) all c (le-ltb (offset_of c) (offset_of c) (omega arith)) h in
     omega arith
 
 pub lie_inside : (p q : PackageRecord) (laid : List (Option Laid)) → IsRewritten p laid q

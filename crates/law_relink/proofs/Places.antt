@@ -3,7 +3,7 @@ use Rattle.std.proofs.Common.{◌≡◌, ◌<◌, ◌+◌, ℕ, suc, List, [], �
 use Rattle.std.proofs.Common.{Some, None, ◌⊎◌, inl, inr, refl, sym, ap, subst, ◌∙◌, arith}
 use Rattle.std.specs.Prelude.{if◌then◌else◌, ◌==◌, ◌&&◌}
 use Rattle.std.proofs.lemmas.List.{map-append, length-map}
-use Rattle.std.proofs.lemmas.Bool.{eqb-true, eqb-false, ne_eqb}
+use Rattle.std.proofs.lemmas.Bool.{eqb-true, eqb-false, ne_eqb, eq-eqb}
 use Rattle.cap_desc.specs.DescriptorFormat.{MethodDescriptor, ClassDescriptor}
 use Rattle.cap_desc.specs.Members.{methods_but}
 use Rattle.cap_package.specs.PackageRecord.{PackageRecord, names_interface}
@@ -22,7 +22,6 @@ use Rattle.law_package.proofs.Zipped.{now_of, old_of}
 use Rattle.law_package.proofs.Bare.{but_same, same_interfaces}
 use Rattle.law_package.proofs.Facts.{news, olds, all_written}
 use Rattle.law_package.proofs.Standing.{offset_of, apart, compare, one_ends, sizes_end, sizes_some}
-use Rattle.law_package.proofs.Names.{same_number}
 use Rattle.law_package.proofs.Kept.{map_twice}
 use Rattle.law_relink.specs.Last.{and_last}
 use Rattle.law_relink.proofs.Lists.{position_alike}
@@ -155,7 +154,7 @@ find_has : (cs : List Change) (c : Change) → Has cs c → Distinct offset_of c
 find_has [] c h d = absurd h
 find_has (x ∷ cs) c (inl s) d =
     ap (λ b. cond b (Some x) (find (stood_at (offset_of c)) cs)) (ap (λ y. stood_at (offset_of c) y) (sym s)
-    ∙ same_number (offset_of c)) ∙ ap Some (sym s)
+    ∙ eq-eqb (offset_of c) (offset_of c) refl) ∙ ap Some (sym s)
 find_has (x ∷ cs) c (inr h) d =
     let ne = each_at (λ (y : Change). offset_of y ≡ offset_of x → ⊥) cs c d.0 h in
     ap (λ b. cond b (Some x) (find (stood_at (offset_of c)) cs)) (ne_eqb (offset_of x) (offset_of c) (λ s. ne (sym s)))

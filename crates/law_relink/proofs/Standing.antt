@@ -13,6 +13,7 @@ use Rattle.cap_pool.specs.PoolFormat.{Entry}
 use Rattle.cap_renewal.proofs.RenewedEntries.{asked-same}
 use Rattle.cap_package.specs.HandlerChecks.{claims, owners, is_within, has_home, handler_fault, numbered_fault}
 use Rattle.std.specs.List.{enumerate_from}
+use Rattle.std.proofs.Math.Nat.{min-eq_left}
 use Rattle.cap_package.specs.PackageRecord.{PackageRecord, names_interface, described_methods, handlers_of}
 use Rattle.cap_package.specs.Parts.{Lent}
 use Rattle.cap_package.specs.StandsFor.{StandsFor}
@@ -27,7 +28,7 @@ use Rattle.jc_base.specs.declared.record.MethodRec.{MethodRec}
 use Rattle.jc_base.specs.Linked.{list_at}
 use Rattle.jc_base.specs.World.{Linked}
 use Rattle.jc_base.specs.World as world
-use Rattle.jc_base.proofs.Lists.{slice_get-farther}
+use Rattle.jc_base.proofs.Lists.{slice_get-farther, slice_get-front, slice_get-some}
 use Rattle.jc_base.proofs.Eaching.{Each-from_All}
 use Rattle.jc_control.specs.Method.{method_with}
 use Rattle.jc_decode.specs.declared.symbols.LaidHandler.{LaidHandler as Laying}
@@ -53,7 +54,7 @@ use Rattle.law_package.proofs.Kept.{map_twice}
 use Rattle.law_package.proofs.FromWriting.{map_same}
 use Rattle.law_relink.specs.Last.{and_last}
 use Rattle.law_relink.specs.Replaced.{HasPoolOf, EachMayReplace, AreMethodsOf, MethodsAreReplaced}
-use Rattle.law_relink.proofs.Elements.{get_front, taken_below}
+use Rattle.law_relink.proofs.Elements.{taken_below}
 use Rattle.law_relink.proofs.Lists.{get_each}
 use Rattle.law_relink.proofs.Records.{caught_same, headers_same, named_method_same, with_header, without_header}
 use Rattle.law_relink.proofs.Twins.{Twin, before_in, after_in, laid_in, are_twins}
@@ -69,7 +70,7 @@ list_earlier g [] p q j lt = absurd (omega arith)
 list_earlier g (x ∷ xs) p q zero lt = refl
 list_earlier g (x ∷ xs) p q (suc j) lt = list_earlier g xs p q j (omega arith)
 
-list_last : {X Y : Type 0} (g : X → List Y) (xs : List X) (q : X) → list_at (map g (xs ++ q ∷ [])) (length xs) ≡ g q
+pub list_last : {X Y : Type 0} (g : X → List Y) (xs : List X) (q : X) → list_at (map g (xs ++ q ∷ [])) (length xs) ≡ g q
 list_last g [] q = refl
 list_last g (x ∷ xs) q = list_last g xs q
 
@@ -169,9 +170,6 @@ class_by_named ps throwable k pool code_at (h ∷ hs) n c i e s =
         ap (λ b. if b then caught_class ps throwable k pool h.index else class_by (map (handler_named ps throwable k pool code_at) hs) i)
         f ∙ more m e
 
-small : (n : ℕ) → n ≤ 65535 → min n 65535 ≡ n
-small n h = grind arith
-
 module _ (parts new_parts : List Lent) (ps : List PackageRecord) (p q : PackageRecord) (laid : List (Option Laid)) (roles : List ℕ)
     (s : StandsFor parts p) (t : StandsFor new_parts q) (r : IsRewritten p laid q) where
   abbrev now : List PackageRecord
@@ -222,7 +220,7 @@ module _ (parts new_parts : List Lent) (ps : List PackageRecord) (p q : PackageR
 
       places : (start a b c : ℕ) → start + a + b ≤ 65535 → (start + a - start ≡ a) × (min (start + a + b) 65535 - start ≡ a + b)
           × (start + c - start ≡ c)
-      places start a b c le = let m = small (start + a + b) le in (omega arith, omega (arith, m), omega arith)
+      places start a b c le = let m = min-eq_left le in (omega arith, omega (arith, m), omega arith)
 
       one : (stop : Bool) → handler_named now throwable last q.pool start (handler_entry start stop x) ≡ catching hs x
       one stop =
@@ -239,7 +237,7 @@ module _ (parts new_parts : List Lent) (ps : List PackageRecord) (p q : PackageR
   unfolding code_end code_start
   begins m h size within =
       ap (λ n. offset_in_info (m.method_offset + n)) size
-      ∙ small (m.method_offset + size_by (number_at 1 m.method_offset q.methods.info)) (omega (arith, within, short))
+      ∙ min-eq_left {n = m.method_offset + size_by (number_at 1 m.method_offset q.methods.info)} {m = 65535} (omega (arith, within, short))
 
   -- the record and the code of a method that code is laid for
   pub laid_stands : (new : Linked) (number : ℕ) (x : Twin) (l : Laid) → IsLinked now roles new → IsKnownTwin p q laid x
@@ -342,10 +340,11 @@ module _ (parts new_parts : List Lent) (ps : List PackageRecord) (p q : PackageR
       ∙ ap (option_map (λ y. named_now (after_in last q y))) e in
       record {
         earlier = λ k lt.
+            let x = slice_get-some before k lt in
             ap (λ ms. option_map (method_with new k) (slice_get ms k)) methods_now
-            ∙ ap (option_map (method_with new k)) (get_front before (map (λ x. named_now (after_in last q x)) ts) k lt)
+            ∙ ap (option_map (method_with new k)) (slice_get-front before (map (λ y. named_now (after_in last q y)) ts) k x.0 x.1 ∙ sym x.1)
             ∙ as_were w new l n before homes k (slice_get before k) refl
-            ∙ sym (ap (option_map (method_with w k)) (get_front before own k lt))
+            ∙ sym (ap (option_map (method_with w k)) (slice_get-front before own k x.0 x.1 ∙ sym x.1))
             ∙ sym (ap (λ ms. option_map (method_with w k) (slice_get ms k)) parted.parts);
         replaced = λ k m c e g pools.
             let a = twin_at (λ x. named_old (before_in last p x)) ts k m (Some c) (ap (λ ms. slice_get ms k) (sym own_is)

@@ -1,6 +1,7 @@
 -- An instruction of the laid code is the method's with its register renumbered.
-use Rattle.std.proofs.Common.{◌≡◌, ℕ, ◌+◌, ◌<◌, ◌≤◌, ◌%◌, map, refl, sym, ap, ◌∙◌, subst, arith}
+use Rattle.std.proofs.Common.{◌≡◌, ℕ, ◌+◌, ◌<◌, ◌≤◌, map, refl, sym, ap, ◌∙◌, subst, arith}
 use Rattle.std.specs.Prelude.{pos, IfSome, Ok}
+use Rattle.std.proofs.Math.Nat.{mod-eq_of_lt}
 use Rattle.jc_base.specs.Cell.{IsDeclared}
 use Rattle.jc_base.specs.World.{Linked}
 use Rattle.jc_decode.specs.declared.insn.Insn.{Insn}
@@ -21,6 +22,7 @@ use Rattle.jc_rules.specs.Footprint.{Footprint, footprint, registers_asked, regi
 use Rattle.jc_rules.specs.Rule.{demands}
 use Rattle.vm_step.specs.Settled.{place_number}
 use Rattle.law_alike.specs.Alike.{renamed_new}
+use Rattle.law_alike.proofs.Views.{same-new, demands-new}
 use Rattle.law_laid.specs.Apart.{apart_from_code, IsSameBut}
 use Rattle.law_laid.specs.Laws.{OperationsAreKept, DemandsAreKept}
 use Rattle.law_laid.proofs.Forms.{falls-form, jumps-form, resolves-renamed}
@@ -34,14 +36,6 @@ use Rattle.law_renumbered.proofs.Registers.{stated, in_byte, renumbered_result, 
 
 -- ---- operations of new objects
 
-same-new : (f : ℕ → ℕ) (op : Operation) → operation_renamed f op ≡ renamed_new f op
-same-new f (ops.New p class) = refl
-same-new f _ = refl
-
-demands-new : (v : Linked) (f : ℕ → ℕ) (op : Operation) → demands v (renamed_new f op) ≡ demands v op
-demands-new v f (ops.New p class) = refl
-demands-new v f _ = refl
-
 alike-new : (f reg : ℕ → ℕ) (op : Operation) → IsAlike op (renumbered reg op) → IsAlike (renamed_new f op) (renamed_new f (renumbered reg op))
 alike-new f reg (ops.New p class) alike = equal
 alike-new f reg _ alike = alike
@@ -54,18 +48,15 @@ writes-same v a b x e writes = record {
 
 -- ---- numbers that a byte tells
 
-in-byte : (x : ℕ) → x < 256 → x % 256 ≡ x
-in-byte x lt = omega (arith, lt)
-
 told : (v : Linked) (reg : ℕ → ℕ) (op : Operation) → registers_asked (demands v (renumbered reg op)) ≤ 255 → renumbered (in_byte reg) op ≡ renumbered reg op
-told v reg (ops.Load sorts.Reference x) le = ap (λ n. ops.Load sorts.Reference n) (in-byte (reg x) (omega (arith, le)))
-told v reg (ops.Load sorts.Short x) le = ap (λ n. ops.Load sorts.Short n) (in-byte (reg x) (omega (arith, le)))
-told v reg (ops.Load sorts.Int x) le = ap (λ n. ops.Load sorts.Int n) (in-byte (reg x) (omega (arith, le)))
-told v reg (ops.Store sorts.Reference x) le = ap (λ n. ops.Store sorts.Reference n) (in-byte (reg x) (omega (arith, le)))
-told v reg (ops.Store sorts.Short x) le = ap (λ n. ops.Store sorts.Short n) (in-byte (reg x) (omega (arith, le)))
-told v reg (ops.Store sorts.Int x) le = ap (λ n. ops.Store sorts.Int n) (in-byte (reg x) (omega (arith, le)))
-told v reg (ops.Increment widths.Short x amount) le = ap (λ n. ops.Increment widths.Short n amount) (in-byte (reg x) (omega (arith, le)))
-told v reg (ops.Increment widths.Int x amount) le = ap (λ n. ops.Increment widths.Int n amount) (in-byte (reg x) (omega (arith, le)))
+told v reg (ops.Load sorts.Reference x) le = ap (λ n. ops.Load sorts.Reference n) (mod-eq_of_lt {n = reg x} {m = 256} (omega (arith, le)))
+told v reg (ops.Load sorts.Short x) le = ap (λ n. ops.Load sorts.Short n) (mod-eq_of_lt {n = reg x} {m = 256} (omega (arith, le)))
+told v reg (ops.Load sorts.Int x) le = ap (λ n. ops.Load sorts.Int n) (mod-eq_of_lt {n = reg x} {m = 256} (omega (arith, le)))
+told v reg (ops.Store sorts.Reference x) le = ap (λ n. ops.Store sorts.Reference n) (mod-eq_of_lt {n = reg x} {m = 256} (omega (arith, le)))
+told v reg (ops.Store sorts.Short x) le = ap (λ n. ops.Store sorts.Short n) (mod-eq_of_lt {n = reg x} {m = 256} (omega (arith, le)))
+told v reg (ops.Store sorts.Int x) le = ap (λ n. ops.Store sorts.Int n) (mod-eq_of_lt {n = reg x} {m = 256} (omega (arith, le)))
+told v reg (ops.Increment widths.Short x amount) le = ap (λ n. ops.Increment widths.Short n amount) (mod-eq_of_lt {n = reg x} {m = 256} (omega (arith, le)))
+told v reg (ops.Increment widths.Int x amount) le = ap (λ n. ops.Increment widths.Int n amount) (mod-eq_of_lt {n = reg x} {m = 256} (omega (arith, le)))
 told v reg _ le = refl
 
 -- ---- an instruction and the one that is laid for it

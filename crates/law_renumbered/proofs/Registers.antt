@@ -1,21 +1,17 @@
 -- An instruction whose register has another number has the operation with that number.
-use Rattle.std.proofs.Common.{◌≡◌, ℕ, ◌<◌, ◌%◌, ◌∙◌, Bool, true, false, if◌then◌else◌, List, [], ◌∷◌, ◌++◌, map, get_or, cond, refl, sym, ap, arith}
-use Rattle.std.specs.Prelude.{ℤ, pos, nat_le, find, Option, Some, None, Result, Ok, Err}
-use Rattle.std.specs.List.{list_all, range_with_len}
-use Rattle.std.proofs.lemmas.Bool.{and_parts}
+use Rattle.std.proofs.Common.{◌≡◌, ℕ, ◌<◌, ◌%◌, ◌∙◌, Bool, true, false, if◌then◌else◌, List, [], ◌∷◌, ◌++◌, map, refl, sym, ap, arith}
+use Rattle.std.specs.Prelude.{ℤ, pos, Option, Some, Result, Ok, Err}
+use Rattle.std.specs.List.{range_with_len}
 use Rattle.std.proofs.lemmas.Bool.Decides.{nat_tests}
-use Rattle.std.proofs.lemmas.List.{get_or_past}
-use Rattle.std.proofs.lemmas.List.FromFn.{get_or-map-range_with_len}
 use Rattle.jc_base.specs.declared.record.Member.{Member}
 use Rattle.jc_base.specs.declared.record.Member.TheVariants.{ClassOf}
 use Rattle.jc_base.specs.declared.record.MethodRec.{MethodRec}
 use Rattle.jc_base.specs.Dispatch.{is_concrete}
 use Rattle.jc_base.specs.World.{Linked}
 use Rattle.jc_decode.specs.declared.insn.Insn.{Insn}
-use Rattle.jc_decode.specs.Cases.{is_switch, has_cases}
+use Rattle.jc_decode.specs.Cases.{is_switch}
 use Rattle.jc_decode.specs.Forms.{with_operand, wide}
-use Rattle.jc_decode.specs.Layout.{Span, spans, is_in_span, is_out_of_scope, opcode_in_span, layout_from, layout_of, opcode}
-use Rattle.jc_decode.specs.declared.layout.Opcode.TheVariants.{Reserved, Unused}
+use Rattle.jc_decode.specs.Layout.{layout_of, opcode}
 use Rattle.jc_decode.specs.Listing.{falls, jumps, is_branch}
 use Rattle.jc_decode.specs.Symbols.{jump}
 use Rattle.jc_ops.specs.declared.fault.RuleFault.{RuleFault}
@@ -27,6 +23,7 @@ use Rattle.jc_ops.specs.Resolve.{byte_of, resolved, on, new_object}
 use Rattle.jc_ops.specs.declared.operation.Holder.TheVariants as holders
 use Rattle.jc_ops.specs.declared.operation.TypeTest.TheVariants as tests
 use Rattle.law_share.specs.Renumbered.{renumbered}
+use Rattle.law_laid.proofs.Forms.{at-op, by-size, past-switch, past-row}
 use Rattle.law_renumbered.specs.Instruction.{uses_register, renumbered_instruction}
 
 -- the instruction that stands for another in symbols
@@ -171,35 +168,7 @@ module _ (reg : ℕ → ℕ) (x y z : ℤ) (len : ℕ) where
     both-ways true r s g p q = p
     both-ways false r s g p q = p ∙ sym q
 
-at-op : {X : Type 0} (f g : ℕ → X) → map f (range_with_len 0 256) ≡ map g (range_with_len 0 256) → (op : ℕ) → op < 256 → X → f op ≡ g op
-at-op f g e op lt d =
-    sym (get_or-map-range_with_len f 0 256 op op d lt (omega arith))
-    ∙ ap (λ xs. get_or xs op d) e
-    ∙ get_or-map-range_with_len g 0 256 op op d lt (omega arith)
-
--- ---- opcodes that are no byte
-
-past-span : (op : ℕ) → 255 < op → (s : Span) (rest : Option Span) (a b : Bool) → nat_le s.last 255 ≡ a → is_in_span op s ≡ b → rest ≡ None
-    → a ≡ true → cond b (Some s) rest ≡ None
-past-span op lt s rest true false x y r e = r
-past-span op lt s rest false b x y r e = absurd (cc)
-past-span op lt s rest true true x y r e = absurd (grind (arith, nat_tests, lt, x, y))
-
-past-spans : (op : ℕ) → 255 < op → (ss : List Span) → list_all (λ s. nat_le s.last 255) ss ≡ true → find (is_in_span op) ss ≡ None
-past-spans op lt [] e = refl
-past-spans op lt (s ∷ ss) e =
-    let first = (and_parts (nat_le s.last 255) (list_all (λ s. nat_le s.last 255) ss) e).0 in
-    let rest = past-spans op lt ss (and_parts (nat_le s.last 255) (list_all (λ s. nat_le s.last 255) ss) e).1 in
-    past-span op lt s (find (is_in_span op) ss) (nat_le s.last 255) (is_in_span op s) refl refl rest first
-
-past-switch : (op : ℕ) → 255 < op → is_switch op ≡ false
-unfolding layout_of opcode
-past-switch op lt =
-    ap (λ o. has_cases (layout_from op (if is_out_of_scope op then Reserved else opcode_in_span o))) (past-spans op lt spans refl) ∙ by (is_out_of_scope op)
-  where
-    by : (b : Bool) → has_cases (layout_from op (if b then Reserved else Unused)) ≡ false
-    by true = refl
-    by false = refl
+-- ---- instructions whose opcode is no byte
 
 neither : {X : Type 0} (a b c : Bool) (x y z i : X) → a ≡ false → b ≡ false → c ≡ false → (if a then x else if b then y else if c then z else i) ≡ i
 neither true b c x y z i p q r = absurd (cc)
@@ -213,17 +182,6 @@ past-stated reg i lt =
     let c : uses_register i.op ≡ false = grind (arith, nat_tests, lt) in
     neither (is_switch i.op) (is_branch i.op) (uses_register i.op) i (jump (wide i.op))
     (record (with_operand i) { x = pos (reg (byte_of (with_operand i).x)) }) i (past-switch i.op lt) b c
-
-past-row : (op : ℕ) → 255 < op → row_at op ≡ unused
-unfolding row_at table by_sort by_width by_kind first_four by_register literals binaries orders_all branching unused
-past-row op lt = get_or_past table op unused lt
-
-by-size : {X : Type 0} (op : ℕ) → (op < 256 → X) → (255 < op → X) → X
-by-size {X = X} op small large = go (nat_le op 255) refl
-  where
-    go : (b : Bool) → nat_le op 255 ≡ b → X
-    go true e = small (grind (arith, nat_tests, e))
-    go false e = large (grind (arith, nat_tests, e))
 
 -- ---- instructions
 

@@ -2,7 +2,7 @@
 use Rattle.std.proofs.Common.{◌≡◌, ◌≢◌, ◌⊎◌, ℕ, zero, suc, ◌+◌, ◌<◌, ◌≤◌, ◌==◌, Bool, true, false, if◌then◌else◌}
 use Rattle.std.proofs.Common.{inl, inr, List, [], ◌∷◌, slice_get, Option, Some, None, refl, sym, ◌∙◌, ap, subst, arith, ne_of_gt}
 use Rattle.std.proofs.lemmas.Bool.Decides.{nat_tests}
-use Rattle.std.proofs.lemmas.Bool.{ne_eqb}
+use Rattle.std.proofs.lemmas.Bool.{ne_eqb, eq-eqb}
 use Rattle.jc_base.specs.Each.{IsAmong}
 use Rattle.jc_base.specs.declared.ty.Ty.{Ty}
 use Rattle.jc_base.specs.declared.record.MethodRec.{MethodRec}
@@ -46,9 +46,6 @@ later-step : (source : List ℕ) (all : List Item) (x : Item) (xs : List Item) (
 later-step source all (Label l) xs k is = absurd (cc)
 later-step source all x xs k is = refl
 
-itself : (n : ℕ) → (n == n) ≡ true
-itself n = grind (arith, nat_tests)
-
 pub among-above : (low high l : ℕ) (xs : List ℕ) → Rises low high xs → IsAmong l xs → low ≤ l
 among-above low high l [] r a = absurd a
 among-above low high l (y ∷ ys) r (inl e) = omega (arith, r.0, e)
@@ -90,7 +87,7 @@ module _ (w : Linked) (r : MethodRec) (regs : List Ty) (asks : ℕ → Asked) wh
               → 0 < (if y then 0 else place_of m xs)
           past m c is_catching among true q = let own : l ≡ m = grind (arith, nat_tests, q) in absurd (other c (sym is ∙ ap asks own ∙ is_catching))
           past m c is_catching (inl own) false q =
-              let same : (l == m) ≡ true = ap (λ (k : ℕ). l == k) (sym own) ∙ itself l in absurd (differ (l == m) same q)
+              let same : (l == m) ≡ true = ap (λ (k : ℕ). l == k) (sym own) ∙ eq-eqb l l refl in absurd (differ (l == m) same q)
             where
               differ : (z : Bool) → z ≡ true → z ≡ false → ⊥
               differ z e f = absurd (cc)
@@ -107,7 +104,7 @@ module _ (w : Linked) (r : MethodRec) (regs : List Ty) (asks : ℕ → Asked) wh
       by (catching c) is p rest = absurd (never s (sym e ∙ p.0))
   comes-next (flow_step {n = n} {a = a} {b = b} {x = x} {xs = xs} is t f) s e g = record {
     inside = omega (arith, count-step x xs is);
-    stack = ap (λ (y : Bool). if y then t.stack else stack_at f n) (itself n) ∙ same-stack t.stack s (sym t.here ∙ e);
+    stack = ap (λ (y : Bool). if y then t.stack else stack_at f n) (eq-eqb n n refl) ∙ same-stack t.stack s (sym t.here ∙ e);
     free = λ l c is_catching among. omega (arith, place-step l x xs is);
   }
 
@@ -141,7 +138,7 @@ module _ (w : Linked) (r : MethodRec) (regs : List Ty) (asks : ℕ → Asked) wh
       → IsAmong m (labels rest) × ((if y then 0 else place_of m xs) ≡ suc k + place_of m rest)
   past-label l k xs rest m among true q lt h = absurd (omega (arith, lt))
   past-label l k xs rest m (inl own) false q lt h =
-      let same : (l == m) ≡ true = ap (λ (j : ℕ). l == j) (sym own) ∙ itself l in absurd (differ (l == m) same q)
+      let same : (l == m) ≡ true = ap (λ (j : ℕ). l == j) (sym own) ∙ eq-eqb l l refl in absurd (differ (l == m) same q)
   past-label l k xs rest m (inr among) false q lt h = h m among lt
 
   pub turned-at :
@@ -177,7 +174,7 @@ module _ (w : Linked) (r : MethodRec) (regs : List Ty) (asks : ℕ → Asked) wh
         before = a;
         after = b;
         turn = subst (λ (i : Insn). Turn w r regs asks n i a b) (sym own) t;
-        stack = t.here ∙ ap (λ (y : Bool). holding (if y then t.stack else stack_at f n)) (sym (itself n));
+        stack = t.here ∙ ap (λ (y : Bool). holding (if y then t.stack else stack_at f n)) (sym (eq-eqb n n refl));
         rest = xs;
         flow = f;
         later = λ q lt. ap (λ (y : Bool). if y then t.stack else stack_at f q) (ne_eqb q n (ne_of_gt lt));
@@ -231,7 +228,7 @@ module _ (w : Linked) (r : MethodRec) (regs : List Ty) (asks : ℕ → Asked) wh
       by emptied is p rest = (comes-next f [] p.1 g).stack
       by (catching c) is p rest =
           let first = free l c is (inl refl) in let zero_place : (if l == l then 0 else place_of l xs)
-          ≡ 0 = ap (λ (y : Bool). if y then 0 else place_of l xs) (itself l) in absurd (omega (arith, first, zero_place))
+          ≡ 0 = ap (λ (y : Bool). if y then 0 else place_of l xs) (eq-eqb l l refl) in absurd (omega (arith, first, zero_place))
   left-empty (flow_step is t f) e g free = absurd (never t.stack (sym t.here ∙ e))
 
   -- ---- what a label asks is there
@@ -257,7 +254,7 @@ module _ (w : Linked) (r : MethodRec) (regs : List Ty) (asks : ℕ → Asked) wh
           let zero_place : (if m == l then 0 else place_of l xs) ≡ 0 = ap (λ (y : Bool). if y then 0 else place_of l xs) q in
           let same : n + (if m == l then 0 else place_of l xs) ≡ n = omega (arith, zero_place) in
           record { inside = omega (arith, zero_place, h.inside); stack = ap (stack_at f) same ∙ h.stack }
-      by false q (inl own) rest = let same : (m == l) ≡ true = ap (λ (j : ℕ). m == j) (sym own) ∙ itself m in absurd (differ (m == l) same q)
+      by false q (inl own) rest = let same : (m == l) ≡ true = ap (λ (j : ℕ). m == j) (sym own) ∙ eq-eqb m m refl in absurd (differ (m == l) same q)
       by false q (inr among) rest =
           let r = rest among in
           let own : (if m == l then 0 else place_of l xs) ≡ place_of l xs = ap (λ (y : Bool). if y then 0 else place_of l xs) q in

@@ -1,8 +1,9 @@
 -- Loads, stores and copies of homes, over the registers of a card typing.
-use Rattle.std.proofs.Common.{◌≡◌, ◌⊎◌, ℕ, zero, suc, ◌+◌, ◌%◌, ◌<◌, ◌≤◌, true, false, if◌then◌else◌, inl, inr, List, []}
+use Rattle.std.proofs.Common.{◌≡◌, ◌⊎◌, ℕ, zero, suc, ◌+◌, ◌<◌, ◌≤◌, true, false, if◌then◌else◌, inl, inr, List, []}
 use Rattle.std.proofs.Common.{◌∷◌, ◌++◌, length, set, slice_get, Option, Some, Ok, IsSomeAnd, refl, sym, ◌∙◌, ap, subst, arith}
 use Rattle.std.specs.Prelude.{⊤}
 use Rattle.std.proofs.lemmas.Bool.{both_ways}
+use Rattle.std.proofs.Math.Nat.{mod-eq_of_lt}
 use Rattle.jc_base.specs.declared.ty.Ty.{Ty}
 use Rattle.jc_base.specs.declared.ty.Ty.TheVariants.{Bottom, Short, IntHigh, IntLow, Null, Class, ArrBool, ArrByte, ArrShort, ArrInt, ArrRef, Fresh, Top}
 use Rattle.jc_base.specs.declared.record.MethodRec.{MethodRec}
@@ -75,9 +76,6 @@ applies-by w limit op before after asked stores stack room = (
   },
   record { asked = asked; regs = stores; stack = stack; room = room; falls = refl; ends = refl; depth = refl; wrote_is = refl; rose_is = refl },
 )
-
-byte-small : (x : ℕ) → x < 256 → x % 256 ≡ x
-byte-small x lt = omega (arith, lt)
 
 -- loads and stores do not jump
 quiet : (op : ℕ) → (op ≡ 21) ⊎ (op ≡ 22) ⊎ (op ≡ 23) ⊎ (op ≡ 40) ⊎ (op ≡ 41) ⊎ (op ≡ 42) → jumps op ≡ false
@@ -159,15 +157,15 @@ module _ (w : Linked) (objects : ClassesAreObjects w.classes) (r : MethodRec) (r
 
   loads-reference : (n x : ℕ) → x < 256 → resolved w r n (with_byte 21 x) (row_at 21) ≡ Ok (ops.Load sorts.Reference x)
   unfolding row_at table by_sort by_width by_kind first_four by_register literals binaries orders_all branching unused
-  loads-reference n x lt = ap (λ k. Ok (ops.Load sorts.Reference k)) (byte-small x lt)
+  loads-reference n x lt = ap (λ k. Ok (ops.Load sorts.Reference k)) (mod-eq_of_lt {n = x} {m = 256} lt)
 
   loads-short : (n x : ℕ) → x < 256 → resolved w r n (with_byte 22 x) (row_at 22) ≡ Ok (ops.Load sorts.Short x)
   unfolding row_at table by_sort by_width by_kind first_four by_register literals binaries orders_all branching unused
-  loads-short n x lt = ap (λ k. Ok (ops.Load sorts.Short k)) (byte-small x lt)
+  loads-short n x lt = ap (λ k. Ok (ops.Load sorts.Short k)) (mod-eq_of_lt {n = x} {m = 256} lt)
 
   loads-int : (n x : ℕ) → x < 256 → resolved w r n (with_byte 23 x) (row_at 23) ≡ Ok (ops.Load sorts.Int x)
   unfolding row_at table by_sort by_width by_kind first_four by_register literals binaries orders_all branching unused
-  loads-int n x lt = ap (λ k. Ok (ops.Load sorts.Int k)) (byte-small x lt)
+  loads-int n x lt = ap (λ k. Ok (ops.Load sorts.Int k)) (mod-eq_of_lt {n = x} {m = 256} lt)
 
   pub held : (x : ℕ) (a b : Ty) → slice_get regs x ≡ Some a → Below w.classes a b → IsSomeAnd (slice_get regs x) (λ found. Below w.classes found b)
   held x a b e le = subst (λ (o : Option Ty). IsSomeAnd o (λ found. Below w.classes found b)) (sym e) le
@@ -228,15 +226,15 @@ module _ (w : Linked) (objects : ClassesAreObjects w.classes) (r : MethodRec) (r
 
   stores-reference : (n x : ℕ) → x < 256 → resolved w r n (with_byte 40 x) (row_at 40) ≡ Ok (ops.Store sorts.Reference x)
   unfolding row_at table by_sort by_width by_kind first_four by_register literals binaries orders_all branching unused
-  stores-reference n x lt = ap (λ k. Ok (ops.Store sorts.Reference k)) (byte-small x lt)
+  stores-reference n x lt = ap (λ k. Ok (ops.Store sorts.Reference k)) (mod-eq_of_lt {n = x} {m = 256} lt)
 
   stores-short : (n x : ℕ) → x < 256 → resolved w r n (with_byte 41 x) (row_at 41) ≡ Ok (ops.Store sorts.Short x)
   unfolding row_at table by_sort by_width by_kind first_four by_register literals binaries orders_all branching unused
-  stores-short n x lt = ap (λ k. Ok (ops.Store sorts.Short k)) (byte-small x lt)
+  stores-short n x lt = ap (λ k. Ok (ops.Store sorts.Short k)) (mod-eq_of_lt {n = x} {m = 256} lt)
 
   stores-int : (n x : ℕ) → x < 256 → resolved w r n (with_byte 42 x) (row_at 42) ≡ Ok (ops.Store sorts.Int x)
   unfolding row_at table by_sort by_width by_kind first_four by_register literals binaries orders_all branching unused
-  stores-int n x lt = ap (λ k. Ok (ops.Store sorts.Int k)) (byte-small x lt)
+  stores-int n x lt = ap (λ k. Ok (ops.Store sorts.Int k)) (mod-eq_of_lt {n = x} {m = 256} lt)
 
   pub store-turn : (n : ℕ) (ty : Ty) (x : ℕ) (vs stack : List Ty) → Holds ty x → CellsBelow w.classes vs (cells_on ty)
       → length (vs ++ stack) ≤ r.max_stack → length stack ≤ r.max_stack

@@ -4,6 +4,7 @@ use Rattle.std.proofs.Common.{[], ◌∷◌, map, replicate, Result, Ok, Err, re
 use Rattle.std.specs.Prelude.{pos, ℤ}
 use Rattle.std.specs.List.{range_with_len}
 use Rattle.std.proofs.lemmas.Bool.Decides.{nat_tests}
+use Rattle.std.proofs.Math.Nat.{mod-eq_of_lt}
 use Rattle.jc_base.specs.Each.{Each}
 use Rattle.jc_base.specs.declared.ty.Kind.{Kind}
 use Rattle.jc_base.specs.declared.ty.Kind.TheVariants as cells
@@ -89,9 +90,6 @@ when false x e f = absurd (cc)
 
 -- ---- increments
 
-byte-small : (x : ℕ) → x < 256 → x % 256 ≡ x
-byte-small x lt = omega (arith, lt)
-
 at-register : ℕ → Operation → Operation
 at-register k (ops.Increment width x amount) = ops.Increment width k amount
 at-register k op = op
@@ -119,7 +117,7 @@ increased-at w m r place n i width x k amount lt small e =
     moved a f = ap (λ o. Ok (at-register k o)) (ok-same f)
 
     byte : (v : Width) → ◌≡◌ {A = Result Operation RuleFault} (Ok (ops.Increment v (k % 256) i.y)) (Ok (ops.Increment v k i.y))
-    byte v = ap (λ (j : ℕ). Ok (ops.Increment v j i.y)) (byte-small k small)
+    byte v = ap (λ (j : ℕ). Ok (ops.Increment v j i.y)) (mod-eq_of_lt {n = k} {m = 256} small)
 
     by : (i.op ≡ 89) ⊎ (i.op ≡ 90) ⊎ (i.op ≡ 150) ⊎ (i.op ≡ 151) → resolved w r n (record i { x = pos k }) (row_at i.op)
         ≡ Ok (ops.Increment width k amount)

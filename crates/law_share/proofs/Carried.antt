@@ -20,7 +20,6 @@ use Rattle.jc_control.specs.WellFormed.{HasInstruction, IsPlace, IsTargetPlace, 
 use Rattle.jc_control.proofs.Closing.{instructions-are-placed}
 use Rattle.jc_control.proofs.PlacesWithin.{place-inside}
 use Rattle.jc_ops.specs.declared.operation.Operation.{Operation}
-use Rattle.jc_ops.specs.declared.operation.Operation.TheVariants as ops
 use Rattle.jc_ops.specs.Sound.{OperationsAreSound}
 use Rattle.jc_rules.specs.declared.effect.Mode.TheVariants.{Flow}
 use Rattle.jc_rules.specs.declared.rule.Outcome.{Outcome}
@@ -38,21 +37,14 @@ use Rattle.card_typing.specs.Typing.{frame_at, IsTypedIn, IsEnteredBy, CardTypin
 use Rattle.law_laid.specs.Apart.{IsSameBut}
 use Rattle.law_laid.specs.Laid.{renamed}
 use Rattle.law_laid.specs.Laws.{OperationsAreKept, DemandsAreKept, CardTypingsAreKept}
-use Rattle.law_laid.proofs.Operations.{operation_renamed, operation-renamed}
+use Rattle.law_laid.proofs.Operations.{operation-renamed}
 use Rattle.law_laid.proofs.Renaming.{frame_renamed, cells-renamed, regs-stay}
 use Rattle.law_laid.proofs.Steps.{Preimage, preimage, contains-map, number_of, number-is}
 use Rattle.law_alike.specs.Alike.{renamed_new}
+use Rattle.law_alike.proofs.Views.{same-new, demands-new}
 use Rattle.law_share.specs.Renamed.{AreMatched, IsRenamed, register_total}
 use Rattle.law_share.specs.Retyped.{IsRenumbered, AppliesToo, AreRegistersOf, RenamedAreTyped, RenumberedApply}
 use Rattle.law_share.proofs.Knowing.{next-is-place, footprint-new}
-
-same-new : (f : ℕ → ℕ) (op : Operation) → operation_renamed f op ≡ renamed_new f op
-same-new f (ops.New p class) = refl
-same-new f _ = refl
-
-demands-new : (v : Linked) (f : ℕ → ℕ) (op : Operation) → demands v (renamed_new f op) ≡ demands v op
-demands-new v f (ops.New p class) = refl
-demands-new v f _ = refl
 
 module _ (v w : Linked) (links : IsWorld v) (sound : OperationsAreSound v) (operations : OperationsAreKept) (kept : DemandsAreKept)
     (renumbered : RenumberedApply v) (same : IsSameBut v w)

@@ -5,24 +5,19 @@ use Rattle.vm_store.specs.declared.cell.Cell.{Cell}
 use Rattle.vm_store.specs.Cells.{tagged}
 use Rattle.vm_store.specs.State.{State, entered}
 use Rattle.vm_step.specs.Arguments.{Argument}
-use Rattle.vm_step.specs.Raising.{Outcome, running, ended}
-use Rattle.vm_step.specs.Run.{Runs, stands, stops, steps}
+use Rattle.vm_step.specs.Raising.{running}
+use Rattle.vm_step.specs.Run.{stands}
 use Rattle.vm_step.specs.Start.{Starts, entry_state}
-use Rattle.vm_step.specs.Step.{Steps}
 use Rattle.law_sound.specs.Frames.{Typings}
 use Rattle.law_sound.specs.State.{IsTypedState}
 use Rattle.law_alike.specs.Ends.{EndsAlikeBy}
 use Rattle.law_alike.specs.Simulation.{AreBoth, ComesBeside, StepsMatch, StartsMatch}
 use Rattle.law_alike.proofs.Entering.{handed_in, made_in, made-same, handed-same}
-use Rattle.law_alike.proofs.Simulation.{simulation-ends-alike}
+use Rattle.law_alike.proofs.Simulation.{simulation-ends-alike, one-step}
 use Rattle.law_share.specs.Beside.{Renaming, AreRenamed, no_frames, AreBeside}
 use Rattle.law_share.proofs.Knowing.{AreLaws}
 use Rattle.law_share.proofs.Settling.{Settles, enters}
 use Rattle.law_share.proofs.Stepping.{step-settles}
-
-one-step : (w : Linked) (t : State Cell) (p : Outcome Cell) → Steps tagged w t p → Runs tagged w 1 t p
-one-step w t (running s) step = steps step stands
-one-step w t (ended ending s) step = stops step
 
 module _ (v w : Linked) (typings : Typings) (r : Renaming) (laws : AreLaws v) (pair : AreRenamed v w typings r) where
   steps-match : StepsMatch v w (AreBeside v w typings r) 1 0

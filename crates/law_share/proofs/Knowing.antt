@@ -1,5 +1,5 @@
 -- What is known of frames beside one another, and the laws that the simulation rests on.
-use Rattle.std.proofs.Common.{◌≡◌, ℕ, suc, ◌+◌, ◌<◌, ◌≤◌, ◌⊎◌, inl, inr, ⊎_elim, List, [], ◌∷◌, length, map, refl, sym, ap, ◌∙◌}
+use Rattle.std.proofs.Common.{◌≡◌, ℕ, suc, ◌+◌, ◌<◌, ◌≤◌, ◌⊎◌, inl, inr, ⊎_elim, List, [], length, map, refl, sym, ap, ◌∙◌}
 use Rattle.std.proofs.Common.{subst, arith}
 use Rattle.std.specs.Prelude.{Some, slice_get}
 use Rattle.std.proofs.lemmas.Bool.{cases_lt}
@@ -12,21 +12,17 @@ use Rattle.jc_control.specs.WellFormed.{IsPlace, IsWellFormed, HasInstruction}
 use Rattle.jc_control.proofs.Closing.{instructions-are-placed}
 use Rattle.jc_ops.specs.declared.operation.Operation.{Operation}
 use Rattle.jc_ops.specs.declared.operation.Operation.TheVariants as ops
-use Rattle.jc_ops.specs.Next.{falls_from}
 use Rattle.jc_rules.specs.Footprint.{footprint, AlikeLeaveAlike}
 use Rattle.vm_store.specs.declared.cell.Cell.{Cell}
 use Rattle.vm_store.specs.Cells.{tagged}
-use Rattle.vm_store.specs.Objects.{kinds}
-use Rattle.vm_store.specs.State.{Frame, State, IsRunning, top, other_frames}
+use Rattle.vm_store.specs.State.{Frame, State}
 use Rattle.vm_step.specs.declared.exception.Exception.{Exception}
 use Rattle.vm_step.specs.Act.{raises, throws}
-use Rattle.vm_step.specs.Methods.{of_method, code_at, handlers_of, instruction_at, max_stack_of}
+use Rattle.vm_step.specs.Methods.{of_method, code_at, handlers_of, max_stack_of}
 use Rattle.vm_step.specs.Performed.{act}
-use Rattle.law_sound.specs.Frames.{Typings, AreTypedFrames}
+use Rattle.law_sound.specs.Frames.{Typings}
 use Rattle.law_sound.specs.Handed.{OnlyCallsCall, CallsHandAll, StartsHandAll}
 use Rattle.law_sound.specs.Soundness.{StepsAreSafe, StartsAreTyped}
-use Rattle.law_sound.specs.State.{IsTypedState}
-use Rattle.law_sound.proofs.Places.{instruction-there, place-instruction}
 use Rattle.law_alike.specs.Alike.{renamed_new}
 use Rattle.law_alike.specs.Likeness.{StepsAreAlike, TypedStatesStay}
 use Rattle.law_alike.specs.Starting.{StartsRefuseAlike}
@@ -48,28 +44,9 @@ pub record AreLaws (v : Linked) : Type 0 where
 
 -- ---- frames of a state
 
-pub first-runs : (z : State Cell) → z.frames ≡ top z ∷ other_frames z.frames → IsRunning z
-first-runs z first =
-    let long : length z.frames ≡ suc (length (other_frames z.frames)) = ap length first in
-    omega (arith, long)
-
-pub frames-typed :
-    (v : Linked) (typings : Typings) (z : State Cell) → z.frames ≡ top z ∷ other_frames z.frames → IsTypedState v typings z
-    → AreTypedFrames v typings (kinds z) (top z ∷ other_frames z.frames)
-frames-typed v typings z first typed = subst (AreTypedFrames v typings (kinds z)) first typed.frames
-
 pub under-length : (v w : Linked) (r : Renaming) {fs gs : List (Frame Cell)} → AreUnder v w r fs gs → length gs ≡ length fs
 under-length v w r no_frames = refl
 under-length v w r (more_frames first rest) = ap suc (under-length v w r rest)
-
--- ---- instructions
-
-pub stands-at : (code : List ℕ) (place : ℕ) (i : Placed) → HasInstruction code i → i.place ≡ place → instruction_at code place ≡ Some i
-stands-at code place i stands at =
-    let found = place-instruction code place (i, stands, at) in
-    let there = instruction-there code place found.0 found.1 in
-    let same : found.0 ≡ i = (all-are-listed code).one found.0 i there.stands stands (there.at ∙ sym at) in
-    found.1 ∙ ap Some same
 
 -- the place after an instruction is one where it is not the end
 pub next-is-place : (m : Method) (i : Placed) (q : ℕ) → IsWellFormed m → HasInstruction m.code i → q ≡ i.place + i.insn.len → q < length m.code
@@ -79,10 +56,6 @@ next-is-place m i q formed stands at lt =
     (⊎_elim (λ end. absurd (omega (arith, end, at, lt))) (λ there. there) ((instructions-are-placed all-are-listed m formed).next i stands))
 
 -- ---- operations that are alike
-
-pub falls-alike : (place : ℕ → ℕ) (a : Operation) → falls_from (renamed_new place a) ≡ falls_from a
-falls-alike place (ops.New p class) = refl
-falls-alike place _ = refl
 
 pub footprint-new : (v : Linked) (place : ℕ → ℕ) (a : Operation) → footprint v (renamed_new place a) ≡ footprint v a
 footprint-new v place (ops.New p class) = refl

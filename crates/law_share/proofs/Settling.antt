@@ -1,12 +1,13 @@
 -- What follows the step of another method in both worlds: a method that is called begins, and one that waits goes on.
-use Rattle.std.proofs.Common.{◌≡◌, ℕ, zero, suc, ◌+◌, ◌-◌, ◌<◌, ◌≤◌, inl, inr, ⊎_elim, Bool, true, false, if◌then◌else◌, List, [], ◌∷◌}
+use Rattle.std.proofs.Common.{◌≡◌, ℕ, zero, suc, ◌+◌, ◌-◌, ◌<◌, ◌≤◌, inl, inr, ⊎_elim, false, List, [], ◌∷◌}
 use Rattle.std.proofs.Common.{◌++◌, length, map, reverse, replicate, refl, sym, ap, ◌∙◌, subst, arith, length-append}
-use Rattle.std.specs.Prelude.{Some, None, nat_lt, nat_le, slice_get}
-use Rattle.std.proofs.lemmas.Bool.{cases_lt, le-ltb, lt-leb, leb-false, ltb-false, false≢true}
-use Rattle.std.proofs.lemmas.Bool.Decides.{nat_tests}
+use Rattle.std.specs.Prelude.{Some, None, nat_le, slice_get}
+use Rattle.std.proofs.lemmas.Bool.{cases_lt, lt-leb, leb-false}
 use Rattle.std.proofs.lemmas.List.{length-map, length-replicate, map-append}
+use Rattle.std.proofs.lemmas.Option.{slice_get_past}
 use Rattle.jc_base.specs.declared.record.MethodRec.{MethodRec}
 use Rattle.jc_base.specs.World.{Linked, code_of}
+use Rattle.jc_base.proofs.Lists.{slice_get-front, slice_get-farther, slice_get-some}
 use Rattle.jc_decode.specs.declared.insn.Placed.{Placed}
 use Rattle.jc_decode.proofs.InstructionLists.{all-are-listed}
 use Rattle.jc_control.specs.Control.{falls_through}
@@ -21,49 +22,33 @@ use Rattle.vm_store.specs.State.{Frame, Object, State, top, entered, register_co
 use Rattle.vm_store.specs.Value.{with_value}
 use Rattle.vm_store.proofs.Stacks.{reverse-map}
 use Rattle.vm_step.specs.declared.ending.Ending.TheVariants as endings
-use Rattle.vm_step.specs.declared.ending.Fault.TheVariants.{StackFault, JumpFault}
 use Rattle.vm_step.specs.declared.ending.Plain.TheVariants.{Returned}
 use Rattle.vm_step.specs.declared.ending.Value.{Value}
 use Rattle.vm_step.specs.Methods.{of_method, code_at, instruction_at, max_stack_of}
-use Rattle.vm_step.specs.Raising.{Outcome, running, ends}
-use Rattle.vm_step.specs.Settled.{fault_next, goes_to, given_to, return_place, unless_fault}
+use Rattle.vm_step.specs.Raising.{Outcome, running}
+use Rattle.vm_step.specs.Settled.{given_to, return_place}
 use Rattle.law_sound.specs.Frames.{Typings}
 use Rattle.law_sound.specs.Handed.{nargs_of}
 use Rattle.law_sound.specs.Soundness.{IsTypedOutcome}
 use Rattle.law_sound.specs.State.{IsTypedState}
 use Rattle.law_sound.proofs.Finish.{has-room}
 use Rattle.law_sound.proofs.Going.{goes-on}
-use Rattle.law_erasure.proofs.Together.{safe-free}
 use Rattle.law_alike.specs.Alike.{renamed_cell}
 use Rattle.law_alike.specs.Simulation.{AreBoth, both_run, both_end}
-use Rattle.law_alike.proofs.Settling.{unless-none}
+use Rattle.law_alike.proofs.Settling.{after_call, given_frame}
+use Rattle.law_alike.proofs.Standing.{stands-at}
+use Rattle.law_alike.proofs.Giving.{IsGiven, is-given, goes-given}
 use Rattle.law_share.specs.Live.{IsLiveAt, leads_on}
 use Rattle.law_share.specs.Renamed.{IsMatched, IsRenamed, BeginsAlike, register_total}
 use Rattle.law_share.specs.Beside.{Renaming, AreRenamed, FrameBeside, WaitBeside, AreUnder, no_frames, more_frames, AreBeside}
-use Rattle.law_share.proofs.Knowing.{AreLaws, stands-at, next-is-place, its, its-code, other-code, same-room, held-after}
+use Rattle.law_share.proofs.Knowing.{AreLaws, next-is-place, its, its-code, other-code, same-room, held-after}
 
 -- ---- registers at the start of a method
-
-get-before : {X : Type 0} (xs ys : List X) (n : ℕ) → n < length xs → slice_get (xs ++ ys) n ≡ slice_get xs n
-get-before [] ys n lt = absurd (omega (arith, lt))
-get-before (x ∷ xs) ys zero lt = refl
-get-before (x ∷ xs) ys (suc n) lt = get-before xs ys n (omega (arith, lt))
-
-get-behind : {X : Type 0} (xs ys : List X) (n : ℕ) → slice_get (xs ++ ys) (length xs + n) ≡ slice_get ys n
-get-behind {X} [] ys n = let same : length {A = X} [] + n ≡ n = omega arith in ap (slice_get ys) same
-get-behind (x ∷ xs) ys n =
-    let more : length (x ∷ xs) + n ≡ suc (length xs + n) = omega arith in
-    subst (λ k. slice_get (x ∷ (xs ++ ys)) k ≡ slice_get ys n) (sym more) (get-behind xs ys n)
 
 get-replicate : {X : Type 0} (count n : ℕ) (x : X) → n < count → slice_get (replicate count x) n ≡ Some x
 get-replicate zero n x lt = absurd (omega (arith, lt))
 get-replicate (suc count) zero x lt = refl
 get-replicate (suc count) (suc n) x lt = get-replicate count n x (omega (arith, lt))
-
-get-past : {X : Type 0} (xs : List X) (n : ℕ) → length xs ≤ n → slice_get xs n ≡ None
-get-past [] n le = refl
-get-past (x ∷ xs) zero le = absurd (omega (arith, le))
-get-past (x ∷ xs) (suc n) le = get-past xs n (omega (arith, le))
 
 -- behind the arguments a register is empty, or is none
 empty-there :
@@ -72,7 +57,7 @@ empty-there :
 empty-there args count n from lt =
     let behind : length args + (n - length args) ≡ n = omega (arith, from) in
     subst (λ k. slice_get (args ++ replicate (count - length args) tagged.empty) k ≡ Some tagged.empty) behind
-    (get-behind args (replicate (count - length args) tagged.empty) (n - length args)
+    (slice_get-farther args (replicate (count - length args) tagged.empty) (n - length args) (length args + (n - length args)) refl
     ∙ get-replicate (count - length args) (n - length args) tagged.empty (omega (arith, from, lt)))
 
 long-as : (args : List Cell) (count : ℕ) → length args ≤ count → length (args ++ replicate (count - length args) tagged.empty) ≡ count
@@ -84,38 +69,8 @@ none-there :
     (args : List Cell) (count n : ℕ) → length args ≤ count → count ≤ n
     → slice_get (args ++ replicate (count - length args) tagged.empty) n ≡ None
 none-there args count n le past =
-    get-past (args ++ replicate (count - length args) tagged.empty) n
+    slice_get_past (args ++ replicate (count - length args) tagged.empty) n
     (let e = long-as args count le in omega (arith, e, past))
-
--- ---- tests
-
-both-passed : (a b : Bool) → (if a then Some StackFault else if b then Some JumpFault else None) ≡ None → (a ≡ false) × (b ≡ false)
-both-passed true b h = absurd (cc)
-both-passed false true h = absurd (cc)
-both-passed false false h = (refl, refl)
-
-passed-both : (a b : Bool) → a ≡ false → b ≡ false → (if a then Some StackFault else if b then Some JumpFault else None) ≡ None
-passed-both true b h k = absurd (false≢true (sym h))
-passed-both false true h k = absurd (false≢true (sym k))
-passed-both false false h k = refl
-
--- what a caller is given, where nothing is at fault
-abbrev after_call : Linked → Frame Cell → ℕ
-after_call x f = return_place (instruction_at (code_at x f.method) f.place)
-
-abbrev given_frame : Linked → List Cell → Frame Cell → Frame Cell
-given_frame x cells f = record { method = f.method; place = after_call x f; registers = f.registers; stack = with_value cells f.stack }
-
-given-goes :
-    (x : Linked) (value : Value) (cells : List Cell) (f : Frame Cell) (fs : List (Frame Cell)) (heap : List (Object Cell)) (statics : List Cell)
-    → given_to tagged x value cells (record { frames = f ∷ fs; heap = heap; statics = statics })
-    ≡ goes_to tagged x (after_call x f) (record { frames = f ∷ fs; heap = heap; statics = statics })
-    (record { frames = record f { stack = with_value cells f.stack } ∷ fs; heap = heap; statics = statics })
-given-goes x value cells f fs heap statics =
-    let z : State Cell = record { frames = f ∷ fs; heap = heap; statics = statics } in
-    let back : State Cell = record { frames = record f { stack = with_value cells f.stack } ∷ fs; heap = heap; statics = statics } in
-    let some : nat_lt 0 (length (f ∷ fs)) ≡ true = grind (arith, nat_tests) in
-    ap (λ b. if b then goes_to tagged x (after_call x f) z back else ends (endings.Plain (Returned value)) z) some
 
 module _ (v w : Linked) (typings : Typings) (r : Renaming) where
   abbrev pub Settles : Outcome Cell → Outcome Cell → Type 0
@@ -147,9 +102,10 @@ module _ (v w : Linked) (typings : Typings) (r : Renaming) where
       held x b = elim (cases_lt x m.rec.nargs) [
         | inl lt ↦
             let same : r.reg m.number x ≡ x = b.argument lt in
+            let arg = slice_get-some args x (omega (arith, lt, many)) in
             ap (slice_get there) same
-            ∙ (get-before args (replicate (register_total k.target - length args) tagged.empty) x (omega (arith, lt, many))
-            ∙ sym (get-before args (replicate (register_total m - length args) tagged.empty) x (omega (arith, lt, many))))
+            ∙ (slice_get-front args (replicate (register_total k.target - length args) tagged.empty) x arg.0 arg.1
+            ∙ sym (slice_get-front args (replicate (register_total m - length args) tagged.empty) x arg.0 arg.1))
         | inr ge ↦
             let more = b.variable ge in
             ⊎_elim
@@ -215,39 +171,6 @@ module _ (v w : Linked) (typings : Typings) (r : Renaming) where
 
         abbrev also_given : State Cell
         also_given = record { frames = given_frame w cells g ∷ gs; heap = other; statics = others }
-
-        record IsGiven : Type 0 where
-          goes : given_to tagged v value cells waiting ≡ running given
-          fits : length (with_value cells f.stack) ≤ max_stack_of v f.method
-          inside : nat_le (length (code_at v f.method)) (after_call v f) ≡ false
-          typed : IsTypedState v typings given
-
-        is-given : IsTypedOutcome v typings (given_to tagged v value cells waiting) → IsGiven
-        is-given safe =
-            let depth : ℕ = length (with_value cells f.stack) in
-            let back : State Cell = record { frames = record f { stack = with_value cells f.stack } ∷ fs; heap = heap; statics = statics } in
-            let goes = given-goes v value cells f fs heap statics in
-            let here : IsTypedOutcome v typings (goes_to tagged v (after_call v f) waiting back) = subst (IsTypedOutcome v typings) goes safe in
-            let passed = unless-none waiting (fault_next tagged v back depth (after_call v f)) (running given)
-            (safe-free v typings (goes_to tagged v (after_call v f) waiting back) here) in
-            let tests = both-passed (nat_lt (max_stack_of v f.method) depth) (nat_le (length (code_at v f.method)) (after_call v f)) passed.0 in
-            record {
-              goes = goes ∙ passed.1;
-              fits = ltb-false (max_stack_of v f.method) depth tests.0;
-              inside = tests.1;
-              typed = subst (IsTypedOutcome v typings) passed.1 here;
-            }
-
-        also-goes :
-            length (with_value cells g.stack) ≤ max_stack_of w g.method → nat_le (length (code_at w g.method)) (after_call w g) ≡ false
-            → given_to tagged w value cells also_waiting ≡ running also_given
-        also-goes fits inside =
-            let depth : ℕ = length (with_value cells g.stack) in
-            let back : State Cell = record { frames = record g { stack = with_value cells g.stack } ∷ gs; heap = other; statics = others } in
-            let none : fault_next tagged w back depth (after_call w g) ≡ None =
-            passed-both (nat_lt (max_stack_of w g.method) depth) (nat_le (length (code_at w g.method)) (after_call w g))
-            (le-ltb (max_stack_of w g.method) depth fits) inside in
-            given-goes w value cells g gs other others ∙ ap (λ o. unless_fault also_waiting o (running also_given)) none
 
         -- ---- the place after the call
 
@@ -317,7 +240,9 @@ module _ (v w : Linked) (typings : Typings) (r : Renaming) where
             leb-false (length at.source.code) (after_call v f) (ap (λ (c : List ℕ). nat_le (length c) (after_call v f)) (sym code) ∙ inside) in
             next-is-place at.source call (after_call v f) (pair.typed at.source at.is_source).formed b.operates.stands after-here lt
 
-        wait-given : IsGiven → Settles (given_to tagged v value cells waiting) (given_to tagged w value cells also_waiting)
+        wait-given :
+            IsGiven value cells f fs heap statics v typings
+            → Settles (given_to tagged v value cells waiting) (given_to tagged w value cells also_waiting)
         wait-given is =
             let target = (its v w typings laws r pair f g at).target in
             let fits : length (with_value cells g.stack) ≤ max_stack_of w g.method =
@@ -329,7 +254,7 @@ module _ (v w : Linked) (typings : Typings) (r : Renaming) where
             ap (λ (c : List ℕ). nat_le (length c) (after_call w g)) (other-code v w typings laws r pair f g at)
             ∙ (ap (nat_le (length target.code)) after-there ∙ lt-leb (length target.code) (rename (after_call v f)) lt) in
             settles-as (given_to tagged v value cells waiting) (given_to tagged w value cells also_waiting) (running given) (running also_given)
-            is.goes (also-goes fits inside)
+            is.goes (goes-given value cells g gs other others w fits inside)
             (both_run (record {
               first = refl;
               second = refl;
@@ -346,4 +271,4 @@ module _ (v w : Linked) (typings : Typings) (r : Renaming) where
           → Settles (given_to tagged v value cells (record { frames = fs; heap = heap; statics = statics }))
           (given_to tagged w value cells (record { frames = gs; heap = other; statics = others }))
       gives no_frames safe = both_end (endings.Plain (Returned value)) same_heap same_statics
-      gives (more_frames {f = f} {g = g} {fs = fs} {gs = gs} b rest) safe = wait-given f g fs gs rest b (is-given f g fs gs rest b safe)
+      gives (more_frames {f = f} {g = g} {fs = fs} {gs = gs} b rest) safe = wait-given f g fs gs rest b (is-given value cells f fs heap statics v typings safe)

@@ -1,7 +1,7 @@
 -- A step of the first world, and the step of the second that comes to the same.
-use Rattle.std.proofs.Common.{◌≡◌, ℕ, suc, ◌+◌, ◌-◌, ◌<◌, ◌≤◌, ◌⊎◌, inl, inr, ⊎_elim, Bool, true, false, if◌then◌else◌, List, [], ◌∷◌}
+use Rattle.std.proofs.Common.{◌≡◌, ℕ, suc, ◌+◌, ◌-◌, ◌<◌, ◌≤◌, ◌⊎◌, inl, inr, ⊎_elim, true, List, [], ◌∷◌}
 use Rattle.std.proofs.Common.{length, map, drop, refl, sym, ap, ◌∙◌, subst, arith}
-use Rattle.std.specs.Prelude.{ℤ, pos, nat_lt, Some, None, option_map, Ok, All, Contains, slice_get}
+use Rattle.std.specs.Prelude.{pos, nat_lt, Some, None, option_map, Ok, All, Contains, slice_get}
 use Rattle.std.specs.List.{list_all}
 use Rattle.std.proofs.lemmas.Bool.{ltb-false, cases_lt}
 use Rattle.std.proofs.lemmas.Option.{same_Some, slice_get-map}
@@ -17,7 +17,6 @@ use Rattle.jc_control.specs.Control.{IsReached, falls_through, jumped}
 use Rattle.jc_control.specs.Method.{Method, method_with}
 use Rattle.jc_control.specs.WellFormed.{IsPlace, IsTargetPlace, HasInstruction}
 use Rattle.jc_ops.specs.declared.operation.Operation.{Operation}
-use Rattle.jc_ops.specs.declared.operation.Operation.TheVariants as ops
 use Rattle.jc_ops.specs.Next.{falls_from}
 use Rattle.jc_ops.specs.Resolve.{Resolves}
 use Rattle.jc_rules.specs.Demand.{satisfies}
@@ -27,7 +26,6 @@ use Rattle.vm_store.specs.declared.cell.Cell.{Cell}
 use Rattle.vm_store.specs.Cells.{tagged}
 use Rattle.vm_store.specs.State.{Frame, State, arguments, entered, top, other_frames, register_count, register_count_of, with_call, without_top}
 use Rattle.vm_step.specs.declared.ending.Ending.TheVariants as endings
-use Rattle.vm_step.specs.declared.ending.Fault.{Fault}
 use Rattle.vm_step.specs.declared.ending.Fault.TheVariants.{LocalFault, StackFault, TypeFault}
 use Rattle.vm_step.specs.Act.{calls}
 use Rattle.vm_step.specs.Methods.{code_at, instruction_at}
@@ -43,29 +41,22 @@ use Rattle.law_sound.proofs.Going.{goes-on}
 use Rattle.law_sound.proofs.Places.{IsThere, instruction-there}
 use Rattle.law_erasure.specs.Erasure.{IsNoFault}
 use Rattle.law_erasure.proofs.Together.{safe-free}
-use Rattle.law_alike.specs.Alike.{renamed_cell, renamed_new, KeepsPlain, StayAlike}
-use Rattle.law_alike.specs.Running.{HaveKeys, keys_at, Executes, RunAlike, ComeAlike, next_alike, target_alike, call_alike, return_alike, exception_alike}
+use Rattle.law_alike.specs.Alike.{renamed_cell, renamed_new, StayAlike}
+use Rattle.law_alike.specs.Running.{keys_at, Executes, RunAlike, ComeAlike, next_alike, target_alike, call_alike, return_alike, exception_alike}
 use Rattle.law_alike.specs.Running.{throw_alike, end_alike}
 use Rattle.law_alike.specs.Simulation.{both_run, both_end}
 use Rattle.law_alike.proofs.Settling.{unless-none}
+use Rattle.law_alike.proofs.Asked.{first-passed}
+use Rattle.law_alike.proofs.Cells.{renamed-keeps}
+use Rattle.law_alike.proofs.Views.{have-keys, falls-new}
+use Rattle.law_alike.proofs.Standing.{first-runs, frames-typed, stands-at}
 use Rattle.law_share.specs.Live.{Operates, Writes, MayLeadTo, leads_on, IsLiveAt, live_read, live_on}
 use Rattle.law_share.specs.Renamed.{AreMatched, IsRenamed, register_total}
 use Rattle.law_share.specs.Beside.{Renaming, AreRenamed, FrameBeside, WaitBeside, AreUnder, more_frames, AreBeside}
-use Rattle.law_share.proofs.Knowing.{AreLaws, first-runs, frames-typed, under-length, stands-at, next-is-place, falls-alike, footprint-new, raising-is-quiet, throwing-is-quiet}
+use Rattle.law_share.proofs.Knowing.{AreLaws, under-length, next-is-place, footprint-new, raising-is-quiet, throwing-is-quiet}
 use Rattle.law_share.proofs.Knowing.{outside, none-written, its, its-record, other-record, its-code, other-code, same-room}
 use Rattle.law_share.proofs.Settling.{Settles, settles-as, enters, gives}
 use Rattle.law_share.proofs.Throwing.{CatchBeside, throws-settle, raises-settle}
-
-have-keys : (op : Operation) (xs ys : List ℤ) → xs ≡ ys → HaveKeys op xs ys
-have-keys (ops.Switch width) xs ys e = e
-have-keys _ xs ys e = tt
-
-first-passed : (x y z : Fault) (a b c : Bool) → (if a then Some x else if b then Some y else if c then None else Some z) ≡ None → a ≡ false
-first-passed x y z true b c h = absurd (cc)
-first-passed x y z false b c h = refl
-
-renamed-keeps : (e : ℕ → ℕ) → KeepsPlain tagged (renamed_cell e)
-renamed-keeps e = record { empty = refl; short = λ n. refl; high = λ n. refl; low = λ n. refl; reference = λ h. refl }
 
 -- lists are mapped element by element
 maps-agree : {X Y : Type 0} (f : X → X) (a b : X → Y) (xs : List X) → ((x : X) → Contains xs x → a (f x) ≡ b x) → map a (map f xs) ≡ map b xs
@@ -123,7 +114,7 @@ module _ (v w : Linked) (typings : Typings) (r : Renaming) (laws : AreLaws v) (p
     j-at = are.at ∙ (ap place there-is.at ∙ sym b.tops.at)
 
     falls-same : falls_from new ≡ falls_from op
-    falls-same = sym (sym (falls-alike place op) ∙ (laws.leave (renamed_new place op) new are.alike).falls)
+    falls-same = sym (sym (falls-new place op) ∙ (laws.leave (renamed_new place op) new are.alike).falls)
 
     quiet-too : (footprint v op).written ≡ 0 → (footprint v new).written ≡ 0
     quiet-too none =

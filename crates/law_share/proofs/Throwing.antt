@@ -24,17 +24,16 @@ use Rattle.vm_store.specs.Kind.{kind_of_handle}
 use Rattle.vm_store.specs.Objects.{kinds, has_room, new_instance_cells, with_object}
 use Rattle.vm_store.specs.State.{Frame, Object, State}
 use Rattle.vm_step.specs.declared.ending.Ending.TheVariants as endings
-use Rattle.vm_step.specs.declared.ending.Fault.TheVariants.{StackFault}
 use Rattle.vm_step.specs.declared.ending.Plain.TheVariants.{Threw, HeapFull}
 use Rattle.vm_step.specs.declared.exception.Exception.{Exception}
 use Rattle.vm_step.specs.Act.{role_of}
 use Rattle.vm_step.specs.Calls.{class_with_methods, class_of}
 use Rattle.vm_step.specs.Methods.{handlers_of, max_stack_of}
-use Rattle.vm_step.specs.Raising.{Outcome, running, ends, catches, handler_for, caught, caught_by, caught_or, unwound, thrown, raised}
+use Rattle.vm_step.specs.Raising.{running, ends, catches, handler_for, caught, caught_by, caught_or, unwound, thrown, raised}
 use Rattle.law_sound.specs.Frames.{Typings}
 use Rattle.law_sound.specs.Soundness.{IsTypedOutcome}
-use Rattle.law_sound.specs.State.{IsTypedState}
 use Rattle.law_alike.specs.Simulation.{both_run, both_end}
+use Rattle.law_alike.proofs.Catching.{caught-in, also-caught, raised_by}
 use Rattle.law_share.specs.Live.{Operates, leads_off}
 use Rattle.law_share.specs.Beside.{Renaming, AreRenamed, FrameBeside, WaitBeside, AreUnder, no_frames, more_frames}
 use Rattle.law_share.proofs.Knowing.{AreLaws, its, same-room, its-handlers, other-handlers, held-after}
@@ -139,28 +138,6 @@ module _ (v w : Linked) (typings : Typings) (laws : AreLaws v) (r : Renaming) (p
     abbrev there : Handler → Frame Cell → List (Frame Cell) → State Cell
     there h g gs = record sw { frames = caught tagged h handle g ∷ gs }
 
-    record IsCaughtIn (h : Handler) (f : Frame Cell) (fs : List (Frame Cell)) : Type 0 where
-      room : nat_lt (max_stack_of v f.method) 1 ≡ false
-      goes : caught_by tagged v h handle sv f fs ≡ running (here h f fs)
-      typed : IsTypedState v typings (here h f fs)
-
-    caught-in : (h : Handler) (f : Frame Cell) (fs : List (Frame Cell)) → IsTypedOutcome v typings (caught_by tagged v h handle sv f fs) → IsCaughtIn h f fs
-    caught-in h f fs safe = go (nat_lt (max_stack_of v f.method) 1) refl safe
-      where
-        go : (b : Bool) → nat_lt (max_stack_of v f.method) 1 ≡ b
-            → IsTypedOutcome v typings (if true && b then ends (endings.Faulted StackFault) sv else running (here h f fs)) → IsCaughtIn h f fs
-        go true e h = absurd h
-        go false e typed =
-            record {
-              room = e;
-              goes = ap (λ b. if true && b then ends (endings.Faulted StackFault) sv else running (here h f fs)) e;
-              typed = typed;
-            }
-
-    also-caught : (h : Handler) (g : Frame Cell) (gs : List (Frame Cell)) → nat_lt (max_stack_of w g.method) 1 ≡ false
-        → caught_by tagged w h handle sw g gs ≡ running (there h g gs)
-    also-caught h g gs e = ap (λ b. if true && b then ends (endings.Faulted StackFault) sw else running (there h g gs)) e
-
     abbrev Unwinds : List (Frame Cell) → List (Frame Cell) → Type 0
     Unwinds fs gs =
         IsTypedOutcome v typings (unwound tagged v class handle sv fs)
@@ -180,11 +157,11 @@ module _ (v w : Linked) (typings : Typings) (laws : AreLaws v) (r : Renaming) (p
         by None e safe = rest safe
         by (Some h) e safe =
             let k = (its v w typings laws r pair f g c.beside).handler h in
-            let is = caught-in h f fs safe in
+            let is = caught-in v handle sv h f fs typings safe in
             let room : nat_lt (max_stack_of w g.method) 1 ≡ false =
             ap (λ n. nat_lt n 1) (same-room v w typings laws r pair f g c.beside) ∙ is.room in
             settles-as v w typings r (caught_by tagged v h handle sv f fs) (caught_by tagged w k handle sw g gs) (running (here h f fs)) (running (there k g gs))
-            is.goes (also-caught k g gs room)
+            is.goes (also-caught w handle sw k g gs room)
             (both_run (record {
               first = refl;
               second = refl;
@@ -219,13 +196,6 @@ module _ (v w : Linked) (typings : Typings) (laws : AreLaws v) (r : Renaming) (p
         here there
         (unwinds-one class handle z u heap statics f g fs gs under catch (unwinds class handle z u heap statics under)
         (subst (IsTypedOutcome v typings) here safe))
-
-    abbrev raised_by : Linked → ClassTable → Exception → State Cell → Outcome Cell
-    raised_by x t e s =
-        if has_room s (length (cells_of t (slice_index t.roles (role_of e))))
-        then thrown tagged x (length s.heap + 1)
-        (with_object s (Instance (slice_index t.roles (role_of e))) (new_instance_cells tagged t (slice_index t.roles (role_of e))))
-        else ends (endings.Plain HeapFull) s
 
     module _ (exception : Exception) (z u : State Cell) (first : z.frames ≡ f ∷ fs) (second : u.frames ≡ g ∷ gs) (heap : u.heap ≡ z.heap)
         (statics : u.statics ≡ z.statics) where

@@ -19,6 +19,7 @@ use Rattle.card_typing.specs.Laws.{CardIsFlow}
 use Rattle.card_typing.specs.Typing.{HasCardTyping}
 use Rattle.law_sound.specs.Soundness.{TypedMethodsHaveTypings}
 use Rattle.law_laid.specs.Apart.{apart_from_code, IsSameBut}
+use Rattle.law_laid.proofs.Methods.{in-world, of-world, known}
 use Rattle.law_relink.specs.Last.{and_last}
 use Rattle.law_relink.specs.Replaced.{MethodsAreReplaced}
 use Rattle.law_relink.specs.WorldAgain.{LinkAgain, LaidMethodsStand}
@@ -26,7 +27,7 @@ use Rattle.law_share.specs.Laws.{RegistersAreNoMore, RenamedEndInStep}
 use Rattle.law_shared_world.specs.Laws.{SharedWorldEndsInStep}
 use Rattle.law_shared_world.specs.SharedCode.{AreSharedOf}
 use Rattle.law_shared_world.proofs.Fewer.{all-counted, no-more}
-use Rattle.law_shared_world.proofs.Elements.{element-there, in-world, known, of-world, same-method}
+use Rattle.law_shared_world.proofs.Elements.{element-there, same-method}
 use Rattle.law_shared_world.proofs.Numbered.{are-renamed, by_number}
 use Rattle.law_shared_world.proofs.Own.{AreLaws, card, first, is-target, may-replace, parted, pools, target}
 

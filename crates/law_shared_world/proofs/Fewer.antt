@@ -17,11 +17,12 @@ use Rattle.jc_rules.proofs.CellLists.{cells-length}
 use Rattle.card_typing.proofs.Own.{start-length}
 use Rattle.law_laid.specs.Apart.{apart_from_code, IsSameBut}
 use Rattle.law_laid.specs.Laid.{HasLaid}
+use Rattle.law_laid.proofs.Methods.{method-there, known}
 use Rattle.law_relink.specs.Replaced.{MethodsAreReplaced}
 use Rattle.law_renumbered.specs.Numbers.{AreNumbersOf, numbers_shared, numbers_kept}
 use Rattle.law_share.specs.Laws.{RegistersAreNoMore}
 use Rattle.law_shared_world.specs.SharedCode.{AreSharedElements, AreSharedOf, locals_of, locals_of_last, laid_of, laid_locals}
-use Rattle.law_shared_world.proofs.Elements.{element-there, known, method-there, same-method}
+use Rattle.law_shared_world.proofs.Elements.{element-there, same-method}
 use Rattle.law_shared_world.proofs.Own.{AreLaws, first, found, is, is-method, is-target, own-there, pools, source, target}
 
 -- ---- the number of a method's registers

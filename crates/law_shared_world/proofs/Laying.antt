@@ -12,9 +12,9 @@ use Rattle.jc_decode.specs.declared.symbols.Laid.{Laid}
 use Rattle.jc_decode.specs.Cases.{is_switch}
 use Rattle.jc_decode.specs.Forms.{wide}
 use Rattle.jc_decode.specs.Listing.{is_branch, listing}
-use Rattle.jc_decode.specs.Standing.{AreSteps, StandsAt}
-use Rattle.jc_decode.specs.Symbols.{Step, handler, is_instruction, steps, steps_in}
-use Rattle.jc_decode.proofs.Elements.{Contains-first, nothing-in}
+use Rattle.jc_decode.specs.Standing.{StandsAt}
+use Rattle.jc_decode.specs.Symbols.{handler, is_instruction, steps, steps_in}
+use Rattle.jc_decode.proofs.Elements.{nothing-in}
 use Rattle.jc_decode.proofs.InstructionLists.{all-are-listed}
 use Rattle.jc_control.specs.Method.{Method}
 use Rattle.jc_control.specs.WellFormed.{IsWellFormed}
@@ -22,6 +22,7 @@ use Rattle.jc_control.proofs.Closing.{instructions-are-placed}
 use Rattle.law_relink.specs.Replaced.{HasPoolOf}
 use Rattle.law_renumbered.specs.Instruction.{renumbered_instruction}
 use Rattle.law_renumbered.specs.Symbols.{item_of, items_from, labels_of, range_of, renumbered_method}
+use Rattle.xf_layout.proofs.Stood.{first-listed}
 
 -- ---- pool numbers
 
@@ -67,16 +68,6 @@ some-step : (code : List ℕ) (reg : ℕ → ℕ) (all : List Item) (is : List P
     → 0 < length (steps_in code all (items_from code reg is))
 some-step code reg all [] i c = absurd (nothing-in i c)
 some-step code reg all (j ∷ js) i c = step-more code all (item_of code reg j) (items_from code reg js) (item-steps code reg j)
-
--- so has the code that stands for them
-first-listed : (code : List ℕ) (place : ℕ → ℕ) (ss : List Step) (ps : List Placed) → AreSteps code place 0 ss ps → 0 < length ss
-    → ((p : Placed) → Contains ps p → p.place < length code)
-    → 0 < length code
-first-listed code place [] ps are lt inside = absurd (omega (arith, lt))
-first-listed code place (s ∷ ss) [] are lt inside = absurd are
-first-listed code place (s ∷ ss) (p ∷ ps) are lt inside =
-    let there = inside p (Contains-first p ps) in
-    omega (arith, there)
 
 pub laid-filled :
     (place : ℕ → ℕ) (m : Method) (reg : ℕ → ℕ) (locals : ℕ) (laid : Laid)

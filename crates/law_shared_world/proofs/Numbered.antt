@@ -9,6 +9,7 @@ use Rattle.jc_base.specs.World.{Linked, code_of}
 use Rattle.jc_decode.specs.declared.symbols.Laid.{Laid}
 use Rattle.jc_control.specs.Method.{Method, IsMethodOf, method_in}
 use Rattle.law_laid.specs.Apart.{IsSameBut}
+use Rattle.law_laid.proofs.Methods.{in-world, method-there, method-is}
 use Rattle.law_relink.specs.Replaced.{MethodsAreReplaced}
 use Rattle.law_sound.specs.Frames.{Typings}
 use Rattle.law_sound.specs.Soundness.{AreTypings}
@@ -16,7 +17,7 @@ use Rattle.law_share.specs.Beside.{Renaming, AreRenamed}
 use Rattle.law_share.specs.Laws.{IsKeptIn}
 use Rattle.law_share.specs.Renamed.{IsRenamed}
 use Rattle.law_shared_world.specs.SharedCode.{AreSharedOf}
-use Rattle.law_shared_world.proofs.Elements.{element-at, element-there, in-world, method-is, method-there}
+use Rattle.law_shared_world.proofs.Elements.{element-at, element-there}
 use Rattle.law_shared_world.proofs.Own.{AreLaws, first, is, own-there, pools, renamed}
 
 -- the places of the method of a number in the other world, and its registers there

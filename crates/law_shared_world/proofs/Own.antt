@@ -17,6 +17,7 @@ use Rattle.card_typing.specs.Typing.{HasCardTyping}
 use Rattle.law_laid.specs.Apart.{IsSameBut}
 use Rattle.law_laid.specs.Laid.{HasLaid}
 use Rattle.law_laid.specs.Laws.{CardTypingsAreKept}
+use Rattle.law_laid.proofs.Methods.{method-there}
 use Rattle.law_relink.specs.Replaced.{AreMethodsOf, HasPoolOf, EachMayReplace}
 use Rattle.law_share.specs.Laws.{KeptAreRenamed}
 use Rattle.law_share.specs.Retyped.{RenamedAreTyped, SharedHaveTypes}
@@ -25,7 +26,7 @@ use Rattle.law_renumbered.specs.Numbers.{HasRegisters}
 use Rattle.law_renumbered.specs.Symbols.{renumbered_method}
 use Rattle.xf_layout.specs.Form.{instruction_place}
 use Rattle.law_shared_world.specs.SharedCode.{IsSharedFor, AreSharedOf}
-use Rattle.law_shared_world.proofs.Elements.{element-at, method-there, same-method}
+use Rattle.law_shared_world.proofs.Elements.{element-at, same-method}
 use Rattle.law_shared_world.proofs.Laying.{pools-laid, laid-filled}
 use Rattle.law_shared_world.proofs.Registers.{types-for}
 

@@ -183,7 +183,7 @@ called-state : State Cell → Act Cell → State Cell
 called-state none (calls method count s) = s
 called-state none _ = none
 
-null-calls :
+pub null-calls :
     (h : ℕ) (rest : ℕ → Act Cell) (k count : ℕ) (y : State Cell) → unless_null h rest ≡ calls k count y → (h ≡ 0 → ⊥)
     × (rest h ≡ calls k count y)
 null-calls h rest k count y e = go (h == 0) refl e

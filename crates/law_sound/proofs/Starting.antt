@@ -35,6 +35,7 @@ use Rattle.vm_store.specs.State.{Object, State}
 use Rattle.vm_store.specs.Objects.{repeated}
 use Rattle.vm_store.specs.Value.{byte_of_word}
 use Rattle.vm_store.specs.Laws.{CellsHave, IsTypedObject, cell_types}
+use Rattle.vm_store.proofs.NewObjects.{have-both}
 use Rattle.vm_step.specs.declared.start_fault.StartFault.{StartFault}
 use Rattle.vm_step.specs.Arguments.{Argument, number, null as no_object, bytes}
 use Rattle.vm_step.specs.Objects.{kind_of_type}
@@ -54,13 +55,6 @@ use Rattle.law_sound.proofs.Finish.{IsTypedStore}
 -- ---- cells of initial words
 
 module _ (t : ClassTable) (ks : List ObjectKind) where
-  have-both : (cs ds : List Cell) (types others : List Ty) → CellsHave t ks cs types → CellsHave t ks ds others
-      → CellsHave t ks (cs ++ ds) (types ++ others)
-  have-both [] ds [] others h g = g
-  have-both [] ds (ty ∷ types) others h g = absurd h
-  have-both (c ∷ cs) ds [] others h g = absurd h
-  have-both (c ∷ cs) ds (ty ∷ types) others h g = (h.0, h.1, have-both cs ds types others h.2 g)
-
   shorts-have : (g : ℕ → ℤ) (ws : List ℕ)
       → CellsHave t ks (map (λ w. cells.Short (g w)) ws) (repeated (length (map (λ w. cells.Short (g w)) ws)) (Short ∷ []))
   shorts-have g [] = tt {0}

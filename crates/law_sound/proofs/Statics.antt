@@ -1,15 +1,13 @@
 -- Static fields at a frame's turn.
 use Rattle.std.proofs.Common.{◌≡◌, ℕ, zero, suc, ◌+◌, ◌<◌, List, [], ◌∷◌, ◌++◌, length, set, drop, get_or, refl, sym, ap, ◌∙◌}
 use Rattle.std.proofs.Common.{subst, arith}
-use Rattle.std.specs.Prelude.{Some, IsSomeAnd, Any, slice_get, slice_index_or}
-use Rattle.std.proofs.lemmas.Option.{none-some, same_Some}
+use Rattle.std.specs.Prelude.{Some, Any, slice_get, slice_index_or}
 use Rattle.std.proofs.lemmas.List.Elements.{All-nil}
 use Rattle.jc_base.specs.declared.ty.Ty.{Ty}
 use Rattle.jc_base.specs.declared.ty.Ty.TheVariants.{IntHigh, IntLow}
 use Rattle.jc_base.specs.declared.ty.Kind.{Kind}
 use Rattle.jc_base.specs.declared.ty.Kind.TheVariants as fields
 use Rattle.jc_base.specs.declared.record.StaticRec.{StaticRec}
-use Rattle.jc_base.specs.Class.{ClassTable}
 use Rattle.jc_base.specs.Order.{Below}
 use Rattle.jc_base.specs.Cell.{width}
 use Rattle.jc_base.specs.Linked.{AreSlots, IsSlotOf}
@@ -25,12 +23,12 @@ use Rattle.jc_rules.specs.Flow.{IsNotTop, IsNotFresh, no_cells, more_cells}
 use Rattle.jc_rules.proofs.Types.{declared-not_top, declared-not_fresh}
 use Rattle.vm_store.specs.declared.cell.Cell.{Cell}
 use Rattle.vm_store.specs.declared.cell.Cell.TheVariants as cells
-use Rattle.vm_store.specs.declared.kind.ObjectKind.{ObjectKind}
 use Rattle.vm_store.specs.Typing.{HasType, least_type, short}
 use Rattle.vm_store.specs.Cells.{tagged, word_of}
 use Rattle.vm_store.specs.State.{Frame, Object}
 use Rattle.vm_store.specs.Value.{byte_of_word}
 use Rattle.vm_store.specs.Laws.{HasContent, CellsHave}
+use Rattle.vm_store.proofs.TypedHeaps.{have-read, have-write}
 use Rattle.vm_step.specs.Fields.{with_static_read, with_static_write}
 use Rattle.vm_step.specs.Settled.{goes_to}
 use Rattle.law_sound.specs.Frames.{Typings, types_of_frame, IsStacked}
@@ -46,27 +44,6 @@ use Rattle.law_sound.proofs.Writes.{some-nth}
 use Rattle.law_sound.proofs.ArrayWrites.{held-at}
 use Rattle.law_sound.proofs.Fields.{one-cell, value-held}
 use Rattle.law_sound.proofs.SafeTurns.{Here, replace-safe}
-
--- ---- cells that have types
-
-module _ (t : ClassTable) (ks : List ObjectKind) where
-  have-read :
-      (cs : List Cell) (types : List Ty) (i : ℕ) (ty : Ty)
-      → CellsHave t ks cs types → slice_get types i ≡ Some ty → IsSomeAnd (slice_get cs i) (λ c. HasType t ks c ty × HasContent c)
-  have-read [] [] i ty h e = absurd (none-some ty e)
-  have-read [] (u ∷ types) i ty h e = absurd h
-  have-read (c ∷ cs) [] i ty h e = absurd h
-  have-read (c ∷ cs) (u ∷ types) zero ty h e = subst (λ v. HasType t ks c v × HasContent c) (same_Some u ty e) (h.0, h.1)
-  have-read (c ∷ cs) (u ∷ types) (suc i) ty h e = have-read cs types i ty h.2 e
-
-  have-write :
-      (cs : List Cell) (types : List Ty) (i : ℕ) (ty : Ty) (c : Cell)
-      → CellsHave t ks cs types → slice_get types i ≡ Some ty → HasType t ks c ty → HasContent c → CellsHave t ks (set cs i c) types
-  have-write [] [] i ty c h e has filled = absurd (none-some ty e)
-  have-write [] (u ∷ types) i ty c h e has filled = absurd h
-  have-write (d ∷ cs) [] i ty c h e has filled = absurd h
-  have-write (d ∷ cs) (u ∷ types) zero ty c h e has filled = (subst (HasType t ks c) (sym (same_Some u ty e)) has, filled, h.2)
-  have-write (d ∷ cs) (u ∷ types) (suc i) ty c h e has filled = (h.0, h.1, have-write cs types i ty c h.2 e has filled)
 
 -- ---- the types at a slot
 

@@ -1,7 +1,7 @@
 -- A package that is written with the code that is laid for its methods makes a world in which each method with code has a card
 -- typing.
 use Rattle.std.proofs.Common.{◌≡◌, ◌⊎◌, inr, ⊎_elim, ℕ, ◌+◌, ◌-◌, ◌<◌, ◌≤◌, List, [], length, get_or, All, Option, Some, None}
-use Rattle.std.proofs.Common.{option_map, IsSomeAnd, slice_get, refl, sym, ◌∙◌, ap, subst, arith}
+use Rattle.std.proofs.Common.{slice_get, refl, sym, ◌∙◌, ap, subst, arith}
 use Rattle.std.proofs.lemmas.Bool.{cases_lt}
 use Rattle.std.proofs.lemmas.List.{length-map, length-append}
 use Rattle.std.proofs.lemmas.List.Elements.{All-weaker}
@@ -11,42 +11,17 @@ use Rattle.jc_base.specs.World.{Linked}
 use Rattle.jc_base.proofs.Lists.{slice_get-front, slice_get-farther}
 use Rattle.jc_decode.specs.declared.symbols.Laid.{Laid}
 use Rattle.jc_control.specs.Asked.{AllHave, IsOfLibrary}
-use Rattle.jc_control.specs.Method.{Method, IsMethodOf, method_in, method_with}
+use Rattle.jc_control.specs.Method.{Method, IsMethodOf, method_with}
 use Rattle.card_typing.specs.Typing.{HasCardTyping}
 use Rattle.law_relink.specs.WorldAgain.{LinkAgain, LaidMethodsStand}
 use Rattle.law_relink.specs.Replaced.{AreMethodsOf, HasPoolOf, EachMayReplace, MethodsAreReplaced}
 use Rattle.law_laid.specs.Apart.{apart_from_code, IsSameBut}
 use Rattle.law_laid.specs.Laid.{HasLaid}
+use Rattle.law_laid.proofs.Methods.{in-world, of-world, known}
 use Rattle.law_transform.specs.Laid.{IsLaidFor, AreLaidOf}
 use Rattle.law_transform.specs.AcceptedWorld.{LaidIsAccepted}
 use Rattle.law_transform.proofs.Own.{AreLaws, keeps-live, laid-typed}
 use Rattle.law_transform.proofs.Catching.{element-at, element-there, pools-laid}
-
--- ---- the method of a number
-
-pub in-world : (w : Linked) (m : Method) → IsMethodOf w m → method_in w m.number ≡ Some m
-in-world w m mo =
-    ap (option_map (method_with w m.number)) mo.rec
-    ∙ ap (λ code. Some (record { number = m.number; rec = m.rec; code = code })) (sym mo.code)
-
-of-world : (w : Linked) (m : Method) → method_in w m.number ≡ Some m → 0 < length m.code → IsMethodOf w m
-of-world w m e filled = by (slice_get w.methods m.number) refl e
-  where
-    by : (o : Option MethodRec) → slice_get w.methods m.number ≡ o → option_map (method_with w m.number) o ≡ Some m → IsMethodOf w m
-    by None here e = absurd (cc)
-    by (Some r) here e =
-        let same : method_with w m.number r ≡ m = same_Some _ _ e in
-        let code = subst (λ (k : Method). 0 < length k.code) (sym same) filled in
-        subst (IsMethodOf w) same (record { rec = here; code = refl; filled = code })
-
-known :
-    (w : Linked) (n : ℕ) (P : Method → Type 0)
-    → IsSomeAnd (method_in w n) P
-    → (m : Method)
-    → IsMethodOf w m
-    → m.number ≡ n
-    → P m
-known w n P h m mo e = subst (λ o. IsSomeAnd o P) (ap (method_in w) (sym e) ∙ in-world w m mo) h
 
 -- ---- the methods of the last package
 

@@ -1,27 +1,20 @@
 -- Runs begin alike, and end alike.
-use Rattle.std.proofs.Common.{◌≡◌, ℕ, zero, suc, ◌+◌, ◌*◌, ◌-◌, ◌≤◌, List, [], ◌∷◌, length, map, refl, sym, ap, ◌∙◌}
+use Rattle.std.proofs.Common.{◌≡◌, ℕ, zero, suc, ◌+◌, ◌*◌, ◌-◌, ◌≤◌, List, [], ◌∷◌, refl, sym, ap, ◌∙◌}
 use Rattle.std.proofs.Common.{subst, arith}
-use Rattle.std.specs.Prelude.{Option, Some, None, option_map, slice_get, flat_map}
-use Rattle.std.proofs.lemmas.Option.{slice_get-map}
-use Rattle.jc_base.specs.declared.ty.Ty.{Ty}
-use Rattle.jc_base.specs.declared.record.ArrayRec.{ArrayRec}
-use Rattle.jc_base.specs.declared.record.MethodRec.{MethodRec}
-use Rattle.jc_base.specs.declared.record.StaticRec.{StaticRec}
 use Rattle.jc_base.specs.World.{Linked}
 use Rattle.vm_store.specs.declared.cell.Cell.{Cell}
 use Rattle.vm_store.specs.Cells.{tagged}
 use Rattle.vm_store.specs.State.{State, entered}
 use Rattle.vm_step.specs.declared.ending.Ending.{Ending}
 use Rattle.vm_step.specs.Arguments.{Argument}
-use Rattle.vm_step.specs.Methods.{of_method}
 use Rattle.vm_step.specs.Raising.{Outcome, running, ended}
 use Rattle.vm_step.specs.Run.{Runs, Continues, stands, steps}
-use Rattle.vm_step.specs.Start.{Starts, cells_handed, entry_state, field_cells, initial, initial_object, parameters, with_arrays}
+use Rattle.vm_step.specs.Start.{Starts, entry_state}
 use Rattle.vm_step.proofs.Running.{continues-on}
 use Rattle.law_sound.specs.Frames.{Typings}
 use Rattle.law_sound.specs.State.{IsTypedState}
 use Rattle.law_alike.specs.Ends.{Left, EndsWithin, GoesOnFor, EndsAlike}
-use Rattle.law_laid.specs.Apart.{apart_from_code}
+use Rattle.law_alike.proofs.Entering.{handed_in, made_in, made-same, handed-same}
 use Rattle.law_transform.specs.Counterparts.{AreCounterparts}
 use Rattle.law_groups.specs.Comes.{ComesWithin}
 use Rattle.law_transform.specs.Beside.{no_frames, OutcomesBeside}
@@ -37,42 +30,12 @@ shorter w zero {t = t} runs le = (t, stands)
 shorter w (suc n) stands le = absurd (omega (arith, le))
 shorter w (suc n) (steps step more) le = let rest = shorter w n more (omega (arith, le)) in (rest.0, steps step rest.1)
 
-parameters-apart : (o : Option MethodRec) → of_method [] parameters (option_map apart_from_code o) ≡ of_method [] parameters o
-parameters-apart None = refl
-parameters-apart (Some m) = refl
-
 module _ (v w : Linked) (typings : Typings) (laws : AreLaws v) (pair : AreCounterparts v w typings) (entry : ℕ) (args : List Argument) where
-  abbrev types_in_first : List Ty
-  types_in_first = of_method [] parameters (slice_get v.methods entry)
+  abbrev made : Linked → State Cell
+  made = made_in v w pair.same entry args
 
   abbrev handed : List Cell
-  handed = cells_handed tagged (length v.arrays) args types_in_first
-
-  abbrev made : Linked → State Cell
-  made x = with_arrays tagged args (initial tagged x)
-
-  types-same : of_method [] parameters (slice_get w.methods entry) ≡ types_in_first
-  types-same =
-      let methods : option_map apart_from_code (slice_get v.methods entry) ≡ option_map apart_from_code (slice_get w.methods entry) =
-      sym (slice_get-map apart_from_code v.methods entry)
-      ∙ (ap (λ ms. slice_get ms entry) pair.same.methods ∙ slice_get-map apart_from_code w.methods entry) in
-      sym (parameters-apart (slice_get w.methods entry)) ∙ (ap (of_method [] parameters) (sym methods) ∙ parameters-apart (slice_get v.methods entry))
-
-  initial-same : initial tagged w ≡ initial tagged v
-  initial-same =
-      ap (λ (rs : List ArrayRec). record { frames = []; heap = map (initial_object tagged) rs; statics = (initial tagged w).statics }) (sym pair.same.arrays)
-      ∙ ap
-      (λ (fs : List StaticRec). record
-      { frames = []; heap = map (initial_object tagged) v.arrays; statics = flat_map (λ (f : StaticRec). field_cells tagged f.kind f.initial) fs })
-      (sym pair.same.statics)
-
-  made-same : made w ≡ made v
-  made-same = ap (with_arrays tagged args) initial-same
-
-  handed-same : cells_handed tagged (length w.arrays) args (of_method [] parameters (slice_get w.methods entry)) ≡ handed
-  handed-same =
-      ap (λ (rs : List ArrayRec). cells_handed tagged (length rs) args (of_method [] parameters (slice_get w.methods entry))) (sym pair.same.arrays)
-      ∙ ap (cells_handed tagged (length v.arrays) args) types-same
+  handed = handed_in v w pair.same entry args v
 
   module _ (s : State Cell) (starts : Starts tagged v entry args s) where
     abbrev first : State Cell
@@ -89,9 +52,11 @@ module _ (v w : Linked) (typings : Typings) (laws : AreLaws v) (pair : AreCounte
 
     settles : Settles v w typings (running first) (running second)
     settles =
-        subst (λ cs. Settles v w typings (running first) (running (record (made w) { frames = entered tagged w.methods entry cs ∷ [] }))) (sym handed-same)
+        subst (λ cs. Settles v w typings (running first) (running (record (made w) { frames = entered tagged w.methods entry cs ∷ [] })))
+        (sym (handed-same v w pair.same entry args))
         (enters v w typings laws pair entry handed [] [] (made v).heap (made w).heap (made v).statics (made w).statics
-        (ap (λ (x : State Cell). x.heap) made-same) (ap (λ (x : State Cell). x.statics) made-same) no_frames typed (laws.begun entry args starts.begins))
+        (ap (λ (x : State Cell). x.heap) (made-same v w pair.same entry args)) (ap (λ (x : State Cell). x.statics) (made-same v w pair.same entry args))
+        no_frames typed (laws.begun entry args starts.begins))
 
     ends : (n : ℕ) (ending : Ending) (z : State Cell) → Runs tagged v n first (ended ending z)
         → (u : State Cell) × Runs tagged w (2000 * n) second (ended ending u) × (u.heap ≡ z.heap) × (u.statics ≡ z.statics)

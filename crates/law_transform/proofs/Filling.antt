@@ -1,13 +1,11 @@
 -- What is laid for a method is not empty.
-use Rattle.std.proofs.Common.{◌≡◌, ℕ, true, inl, ◌<◌, List, [], ◌∷◌, length, refl, sym, subst, arith}
-use Rattle.std.specs.Prelude.{Contains, is_some}
-use Rattle.jc_base.proofs.Eaching.{Contains-from_IsAmong}
+use Rattle.std.proofs.Common.{◌≡◌, ℕ, true, ◌<◌, length, sym, subst, arith}
+use Rattle.std.specs.Prelude.{is_some}
 use Rattle.jc_base.proofs.Lists.{IsSomeAnd-some}
 use Rattle.jc_decode.specs.declared.insn.Placed.{Placed}
 use Rattle.jc_decode.specs.declared.symbols.Laid.{Laid}
 use Rattle.jc_decode.specs.Listing.{listing}
-use Rattle.jc_decode.specs.Standing.{AreSteps, StandsAt}
-use Rattle.jc_decode.specs.Symbols.{Step}
+use Rattle.jc_decode.specs.Standing.{StandsAt}
 use Rattle.jc_decode.proofs.InstructionLists.{all-are-listed}
 use Rattle.jc_control.specs.Control.{IsReached, begins}
 use Rattle.jc_control.proofs.Closing.{instructions-are-placed}
@@ -21,6 +19,7 @@ use Rattle.law_groups.specs.Laid.{body_at, steps_of}
 use Rattle.law_groups.specs.Steps.{GroupsStandAtSteps}
 use Rattle.law_groups.proofs.Following.{some-body}
 use Rattle.law_groups.proofs.Standing.{group-steps, stand-inside}
+use Rattle.xf_layout.proofs.Stood.{first-listed}
 
 -- the rewritten code has a step
 some-step : (s : Source) → IsPlanned s → GroupsStandAtSteps → 0 < length (steps_of s)
@@ -35,17 +34,6 @@ some-step s planned stand =
     let most = stand-inside s (body_at s i.place) (body s i applies.operation) g.body_steps in
     let some = some-body s i applies.operation in
     omega (arith, most, some)
-
--- so has the code that stands for it
-first-listed :
-    (code : List ℕ) (place : ℕ → ℕ) (ss : List Step) (ps : List Placed) → AreSteps code place 0 ss ps → 0 < length ss
-    → ((p : Placed) → Contains ps p → p.place < length code)
-    → 0 < length code
-first-listed code place [] ps are lt inside = absurd (omega (arith, lt))
-first-listed code place (s ∷ ss) [] are lt inside = absurd are
-first-listed code place (s ∷ ss) (p ∷ ps) are lt inside =
-    let there = inside p (Contains-from_IsAmong p (p ∷ ps) (inl refl)) in
-    omega (arith, there)
 
 pub laid-filled : (s : Source) (places : ℕ → ℕ) (l : Laid) → IsPlanned s → GroupsStandAtSteps → StandsAt places s.method.code (rewritten s) l
     → 0 < length l.code

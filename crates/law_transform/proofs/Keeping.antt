@@ -1,7 +1,7 @@
 -- A step of a method that is kept comes to the same in both worlds.
-use Rattle.std.proofs.Common.{◌≡◌, ℕ, suc, ◌+◌, ◌-◌, ◌<◌, ◌≤◌, ◌⊎◌, inl, inr, ⊎_elim, Bool, true, false}
-use Rattle.std.proofs.Common.{if◌then◌else◌, List, [], ◌∷◌, length, map, drop, refl, sym, ap, ◌∙◌, subst, arith}
-use Rattle.std.specs.Prelude.{ℤ, pos, nat_lt, Some, None, Ok, All, slice_get}
+use Rattle.std.proofs.Common.{◌≡◌, ℕ, suc, ◌+◌, ◌-◌, ◌<◌, ◌≤◌, ◌⊎◌, inl, inr, ⊎_elim, true}
+use Rattle.std.proofs.Common.{List, [], ◌∷◌, length, map, drop, refl, sym, ap, ◌∙◌, subst, arith}
+use Rattle.std.specs.Prelude.{pos, nat_lt, Some, None, Ok, All, slice_get}
 use Rattle.std.specs.List.{list_all}
 use Rattle.std.proofs.lemmas.Bool.{ltb-false, cases_lt}
 use Rattle.std.proofs.lemmas.Option.{same_Some}
@@ -29,7 +29,6 @@ use Rattle.vm_store.specs.declared.cell.Cell.TheVariants as cells
 use Rattle.vm_store.specs.Cells.{tagged}
 use Rattle.vm_store.specs.State.{Frame, State, arguments, entered, top, other_frames, with_call, without_top}
 use Rattle.vm_step.specs.declared.ending.Ending.TheVariants as endings
-use Rattle.vm_step.specs.declared.ending.Fault.{Fault}
 use Rattle.vm_step.specs.declared.ending.Fault.TheVariants.{LocalFault, StackFault, TypeFault}
 use Rattle.vm_step.specs.Act.{calls}
 use Rattle.vm_step.specs.Methods.{of_method, code_at, instruction_at, max_stack_of}
@@ -46,15 +45,18 @@ use Rattle.law_sound.proofs.Places.{IsThere, instruction-there}
 use Rattle.law_erasure.specs.Erasure.{IsNoFault}
 use Rattle.law_erasure.proofs.Together.{safe-free}
 use Rattle.law_alike.specs.Alike.{renamed_cell, renamed_new, StayAlike}
-use Rattle.law_alike.specs.Running.{HaveKeys, keys_at, Executes, RunAlike, ComeAlike, next_alike, target_alike, call_alike, return_alike, exception_alike}
+use Rattle.law_alike.specs.Running.{keys_at, Executes, RunAlike, ComeAlike, next_alike, target_alike, call_alike, return_alike, exception_alike}
 use Rattle.law_alike.specs.Running.{throw_alike, end_alike}
 use Rattle.law_alike.proofs.Settling.{unless-none}
+use Rattle.law_alike.proofs.Asked.{first-passed}
+use Rattle.law_alike.proofs.Cells.{renamed-keeps}
+use Rattle.law_alike.proofs.Views.{have-keys}
+use Rattle.law_alike.proofs.Standing.{first-runs, frames-typed}
 use Rattle.law_transform.specs.Counterparts.{IsSameMethod, AreCounterparts}
 use Rattle.law_transform.specs.Beside.{AreTop, top_kept, WaitBeside, wait_kept, AreUnder, more_frames, both_run, both_end}
-use Rattle.law_transform.proofs.Typed.{AreLaws, first-runs, frames-typed}
+use Rattle.law_transform.proofs.Typed.{AreLaws}
 use Rattle.law_transform.proofs.Settling.{Settles, settled-now, settles-as, under-length, beside, enters, gives, kept-code, kept-room}
 use Rattle.law_transform.proofs.Throwing.{CatchBeside, catch_kept, throws-settle, raises-settle}
-use Rattle.law_groups.proofs.Plain.{renamed-keeps}
 
 -- ---- the same places
 
@@ -73,10 +75,6 @@ own-cells (c ∷ cs) = ap (λ d. d ∷ map (renamed_cell own) cs) (own-cell c) �
 own-new : (op : Operation) → renamed_new own op ≡ op
 own-new (ops.New p class) = refl
 own-new _ = refl
-
-have-keys : (op : Operation) (xs ys : List ℤ) → xs ≡ ys → HaveKeys op xs ys
-have-keys (ops.Switch width) xs ys e = e
-have-keys _ xs ys e = tt
 
 -- ---- the same registers
 
@@ -97,10 +95,6 @@ same-frames f g a b c d =
     (λ rs. record g { registers = rs; stack = f.stack }) c in
     let fourth : record g { stack = f.stack } ≡ g = ap (λ cs. record g { stack = cs }) d in
     first ∙ (second ∙ (third ∙ fourth))
-
-first-passed : (x y z : Fault) (a b c : Bool) → (if a then Some x else if b then Some y else if c then None else Some z) ≡ None → a ≡ false
-first-passed x y z true b c h = absurd (cc)
-first-passed x y z false b c h = refl
 
 module _ (v w : Linked) (typings : Typings) (laws : AreLaws v) (pair : AreCounterparts v w typings)
     (z t : State Cell) (first : z.frames ≡ top z ∷ other_frames z.frames) (second : t.frames ≡ top t ∷ other_frames t.frames)

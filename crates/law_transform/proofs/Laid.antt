@@ -26,6 +26,7 @@ use Rattle.law_sound.specs.Frames.{Typings}
 use Rattle.law_laid.specs.Apart.{IsSameBut}
 use Rattle.law_laid.specs.Laid.{HasLaid}
 use Rattle.law_laid.specs.Laws.{CatchesByPool, MethodsAreKept, OperationsAreKept}
+use Rattle.law_laid.proofs.Methods.{method-there, method-is}
 use Rattle.xf_homes.specs.Source.{Source}
 use Rattle.xf_emission.specs.Emission.{rewritten as rewritten_code}
 use Rattle.law_rewritten_typing.specs.Planned.{IsPlanned}
@@ -41,16 +42,6 @@ use Rattle.law_transform.specs.Counterparts.{IsSameMethod, IsKeptOrRewritten, ke
 use Rattle.law_transform.specs.LikeEndings.{LaidAreCounterparts, CounterpartsEndAlike, LaidEndAlike}
 use Rattle.law_transform.proofs.Filling.{laid-filled}
 use Rattle.law_groups.proofs.Sounding.{can-run}
-use Rattle.law_transform.proofs.Typed.{method-is}
-
-method-there : (w : Linked) (n : ℕ) (P : Method → Type 0) → IsSomeAnd (method_in w n) P → (r : MethodRec) × (slice_get w.methods n ≡ Some r)
-    × P (method_with w n r)
-method-there w n P h = by (slice_get w.methods n) refl h
-  where
-    by : (o : Option MethodRec) → slice_get w.methods n ≡ o → IsSomeAnd (option_map (method_with w n) o) P → (r : MethodRec)
-        × (slice_get w.methods n ≡ Some r) × P (method_with w n r)
-    by None e h = absurd h
-    by (Some r) e h = (r, e, h)
 
 -- what is known of the method of a number: the type of its unset registers and its typing, and that it is kept or rewritten by that
 data Goes (v w : Linked) (n : ℕ) : Ty → (ℕ → Option Types) → Type 0 where
@@ -102,7 +93,7 @@ module _ (v : Linked) (laws : AreLaws v) (catches : CatchesByPool) (card : CardI
       record {
         unset = Bottom;
         frames = has.frames;
-        typed = λ m mo number. subst (λ (x : Method). FlowTyping v x Bottom has.frames) (method-is v m n r mo (sym number) here) has.typing;
+        typed = λ m mo number. subst (λ (x : Method). FlowTyping v x Bottom has.frames) (method-is v m n r mo number here) has.typing;
         goes = λ m mo number. goes_kept (library-kept n r here lt);
       }
 
@@ -183,7 +174,7 @@ module _ (v : Linked) (laws : AreLaws v) (catches : CatchesByPool) (card : CardI
           unset = Top;
           frames = state_at is.typing;
           typed =
-              λ m mo number. subst (λ (x : Method). FlowTyping v x Top (state_at is.typing)) (method-is v m n r mo (sym number) here)
+              λ m mo number. subst (λ (x : Method). FlowTyping v x Top (state_at is.typing)) (method-is v m n r mo number here)
               is.typed.least.typing;
           goes = λ m mo number. goes_rewritten source places refl laid-in;
         }
@@ -218,7 +209,7 @@ module _ (v : Linked) (laws : AreLaws v) (catches : CatchesByPool) (card : CardI
   by-length : (n : ℕ) (r : MethodRec) → slice_get v.methods n ≡ Some r → (size : ℕ) → length (code_of v.infos r) ≡ size → Assigned v w n
   by-length n r here zero empty =
       none-assigned n (λ m mo number.
-      let some : 0 < length (code_of v.infos r) = subst (λ (x : Method). 0 < length x.code) (sym (method-is v m n r mo (sym number) here)) mo.filled in
+      let some : 0 < length (code_of v.infos r) = subst (λ (x : Method). 0 < length x.code) (sym (method-is v m n r mo number here)) mo.filled in
       omega (arith, some, empty))
   by-length n r here (suc size) long =
       let some : 0 < length (code_of v.infos r) = omega (arith, long) in

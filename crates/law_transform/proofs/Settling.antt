@@ -1,9 +1,8 @@
 -- What follows the step of another method in both worlds: a method that is called begins, one that waits goes on, an object is caught.
-use Rattle.std.proofs.Common.{◌≡◌, ℕ, suc, ◌+◌, ◌-◌, ◌<◌, ◌≤◌, Bool, true, false, if◌then◌else◌, List, []}
+use Rattle.std.proofs.Common.{◌≡◌, ℕ, suc, ◌+◌, ◌-◌, ◌<◌, ◌≤◌, false, List, []}
 use Rattle.std.proofs.Common.{◌∷◌, ◌++◌, length, map, reverse, replicate, refl, sym, ap, ◌∙◌, subst, arith, length-append}
-use Rattle.std.specs.Prelude.{Some, None, nat_lt, nat_le, slice_get}
-use Rattle.std.proofs.lemmas.Bool.{le-ltb, lt-leb, ltb-false, false≢true}
-use Rattle.std.proofs.lemmas.Bool.Decides.{nat_tests}
+use Rattle.std.specs.Prelude.{nat_le, slice_get}
+use Rattle.std.proofs.lemmas.Bool.{lt-leb}
 use Rattle.std.proofs.lemmas.List.{length-map, map-append}
 use Rattle.jc_base.specs.declared.record.MethodRec.{MethodRec}
 use Rattle.jc_base.specs.Each.{Each}
@@ -20,25 +19,25 @@ use Rattle.vm_store.specs.State.{Frame, Object, State, top, other_frames, entere
 use Rattle.vm_store.specs.Value.{with_value}
 use Rattle.vm_store.proofs.Stacks.{reverse-map}
 use Rattle.vm_step.specs.declared.ending.Ending.TheVariants as endings
-use Rattle.vm_step.specs.declared.ending.Fault.TheVariants.{StackFault, JumpFault}
 use Rattle.vm_step.specs.declared.ending.Plain.TheVariants.{Returned}
 use Rattle.vm_step.specs.declared.ending.Value.{Value}
 use Rattle.vm_step.specs.Methods.{of_method, code_at, handlers_of, instruction_at, max_stack_of}
-use Rattle.vm_step.specs.Raising.{Outcome, running, ended, ends}
+use Rattle.vm_step.specs.Raising.{Outcome, running, ended}
 use Rattle.vm_step.specs.Run.{Continues, stands}
-use Rattle.vm_step.specs.Settled.{fault_next, goes_to, given_to, return_place, unless_fault}
+use Rattle.vm_step.specs.Settled.{given_to, return_place}
 use Rattle.law_sound.specs.Frames.{Typings}
 use Rattle.law_sound.specs.State.{IsTypedState}
 use Rattle.law_sound.specs.Soundness.{IsTypedOutcome}
 use Rattle.law_sound.specs.Handed.{nargs_of}
 use Rattle.law_sound.proofs.Finish.{has-room}
 use Rattle.law_alike.specs.Alike.{renamed_cell}
-use Rattle.law_alike.proofs.Settling.{unless-none}
+use Rattle.law_alike.proofs.Settling.{after_call, given_frame}
+use Rattle.law_alike.proofs.Standing.{stands-at}
+use Rattle.law_alike.proofs.Giving.{IsGiven, is-given, goes-given}
 use Rattle.xf_homes.specs.declared.home.Home.{Home}
 use Rattle.law_homes.specs.Held.{HoldsValue, HoldsLocals}
 use Rattle.xf_homes.specs.Source.{Source}
 use Rattle.xf_homes.specs.Plan.{needed}
-use Rattle.law_erasure.proofs.Together.{safe-free}
 use Rattle.law_groups.specs.Laid.{body_at, rename}
 use Rattle.law_groups.specs.Beside.{AreEqualBut, AreOf, IsUnderCall}
 use Rattle.law_groups.specs.Comes.{ComesToGroup, ComesWithin}
@@ -46,7 +45,7 @@ use Rattle.law_transform.specs.Counterparts.{IsSameMethod, IsRewrittenIn, IsKept
 use Rattle.law_transform.specs.Beside.{AreTop, top_kept, top_rewritten, wait_kept, wait_rewritten, AreUnder, no_frames, more_frames}
 use Rattle.law_transform.specs.Beside.{AreBeside}
 use Rattle.law_transform.specs.Beside.{OutcomesBeside, both_run, both_end}
-use Rattle.law_transform.proofs.Typed.{AreLaws, its-method, stands-at, typed-at}
+use Rattle.law_transform.proofs.Typed.{AreLaws, its-method, typed-at}
 
 -- how many steps may still follow: an ending comes at once
 abbrev pub extra : Outcome Cell → ℕ
@@ -90,36 +89,6 @@ pub locals-too :
     (s : Source) (p : ℕ) (f g : Frame Cell) (at on : ℕ) (below above : List Cell) → HoldsLocals s p f g
     → HoldsLocals s p (record f { place = at; stack = below }) (record g { place = on; stack = above })
 locals-too s p f g at on below above locals = λ x. each-too s f.registers g on above (needed s p x) (locals x)
-
--- ---- tests
-
-both-passed : (a b : Bool) → (if a then Some StackFault else if b then Some JumpFault else None) ≡ None → (a ≡ false) × (b ≡ false)
-both-passed true b h = absurd (cc)
-both-passed false true h = absurd (cc)
-both-passed false false h = (refl, refl)
-
-passed-both : (a b : Bool) → a ≡ false → b ≡ false → (if a then Some StackFault else if b then Some JumpFault else None) ≡ None
-passed-both true b h k = absurd (false≢true (sym h))
-passed-both false true h k = absurd (false≢true (sym k))
-passed-both false false h k = refl
-
--- what a caller is given, where nothing is at fault
-abbrev after_call : Linked → Frame Cell → ℕ
-after_call x f = return_place (instruction_at (code_at x f.method) f.place)
-
-abbrev given_frame : Linked → List Cell → Frame Cell → Frame Cell
-given_frame x cells f = record { method = f.method; place = after_call x f; registers = f.registers; stack = with_value cells f.stack }
-
-given-goes :
-    (x : Linked) (value : Value) (cells : List Cell) (f : Frame Cell) (fs : List (Frame Cell)) (heap : List (Object Cell)) (statics : List Cell)
-    → given_to tagged x value cells (record { frames = f ∷ fs; heap = heap; statics = statics })
-    ≡ goes_to tagged x (after_call x f) (record { frames = f ∷ fs; heap = heap; statics = statics })
-    (record { frames = record f { stack = with_value cells f.stack } ∷ fs; heap = heap; statics = statics })
-given-goes x value cells f fs heap statics =
-    let z : State Cell = record { frames = f ∷ fs; heap = heap; statics = statics } in
-    let back : State Cell = record { frames = record f { stack = with_value cells f.stack } ∷ fs; heap = heap; statics = statics } in
-    let some : nat_lt 0 (length (f ∷ fs)) ≡ true = grind (arith, nat_tests) in
-    ap (λ b. if b then goes_to tagged x (after_call x f) z back else ends (endings.Plain (Returned value)) z) some
 
 module _ (v w : Linked) (typings : Typings) (laws : AreLaws v) (pair : AreCounterparts v w typings) where
   -- ---- states beside one another
@@ -235,43 +204,10 @@ module _ (v w : Linked) (typings : Typings) (laws : AreLaws v) (pair : AreCounte
       abbrev also_given : State Cell
       also_given = record { frames = given_frame w cells g ∷ gs; heap = other; statics = others }
 
-      record IsGiven : Type 0 where
-        goes : given_to tagged v value cells waiting ≡ running given
-        fits : length (with_value cells f.stack) ≤ max_stack_of v f.method
-        inside : nat_le (length (code_at v f.method)) (after_call v f) ≡ false
-        typed : IsTypedState v typings given
-
-      is-given : IsTypedOutcome v typings (given_to tagged v value cells waiting) → IsGiven
-      is-given safe =
-          let depth : ℕ = length (with_value cells f.stack) in
-          let back : State Cell = record { frames = record f { stack = with_value cells f.stack } ∷ fs; heap = heap; statics = statics } in
-          let goes = given-goes v value cells f fs heap statics in
-          let here : IsTypedOutcome v typings (goes_to tagged v (after_call v f) waiting back) = subst (IsTypedOutcome v typings) goes safe in
-          let passed = unless-none waiting (fault_next tagged v back depth (after_call v f)) (running given)
-          (safe-free v typings (goes_to tagged v (after_call v f) waiting back) here) in
-          let tests = both-passed (nat_lt (max_stack_of v f.method) depth) (nat_le (length (code_at v f.method)) (after_call v f)) passed.0 in
-          record {
-            goes = goes ∙ passed.1;
-            fits = ltb-false (max_stack_of v f.method) depth tests.0;
-            inside = tests.1;
-            typed = subst (IsTypedOutcome v typings) passed.1 here;
-          }
-
-      also-goes :
-          length (with_value cells g.stack) ≤ max_stack_of w g.method → nat_le (length (code_at w g.method)) (after_call w g) ≡ false
-          → given_to tagged w value cells also_waiting ≡ running also_given
-      also-goes fits inside =
-          let depth : ℕ = length (with_value cells g.stack) in
-          let back : State Cell = record { frames = record g { stack = with_value cells g.stack } ∷ gs; heap = other; statics = others } in
-          let none : fault_next tagged w back depth (after_call w g) ≡ None =
-          passed-both (nat_lt (max_stack_of w g.method) depth) (nat_le (length (code_at w g.method)) (after_call w g))
-          (le-ltb (max_stack_of w g.method) depth fits) inside in
-          given-goes w value cells g gs other others ∙ ap (λ o. unless_fault also_waiting o (running also_given)) none
-
       -- in a method that is rewritten
       module _ (s : Source) (place : ℕ → ℕ) (r : IsRewrittenIn v w typings f.method s place) (reached : IsReached s.method f.place)
           (call : IsUnderCall s place f g)
-          (is : IsGiven) where
+          (is : IsGiven value cells f fs heap statics v typings) where
         abbrev of_call : AreOf s f g
         of_call = call.within.of
 
@@ -311,7 +247,7 @@ module _ (v w : Linked) (typings : Typings) (laws : AreLaws v) (pair : AreCounte
             ap (nat_le (length code)) end.next ∙ lt-leb (length code) (place (body_at s f.place + 1)) lt in
             let typed = typed-at v typings w s place laws.stay given refl is.typed r in
             settles-as v w typings (given_to tagged v value cells waiting) (given_to tagged w value cells also_waiting) (running given) (running also_given)
-            is.goes (also-goes fits inside)
+            is.goes (goes-given value cells g gs other others w fits inside)
             (to-group s place given also_given 0 refl r under is.typed
             (laws.calls_return w s place r.laid given also_given i typed
             (equal-but given also_given refl refl under same_heap same_statics)
@@ -335,7 +271,7 @@ module _ (v w : Linked) (typings : Typings) (laws : AreLaws v) (pair : AreCounte
         → Settles v w typings (given_to tagged v value cells (record { frames = f ∷ fs; heap = heap; statics = statics }))
         (given_to tagged w value cells (record { frames = f ∷ gs; heap = other; statics = others }))
     kept-given f fs gs under k safe =
-        let is = is-given f f fs gs under safe in
+        let is = is-given value cells f fs heap statics v typings safe in
         let code : code_at w f.method ≡ code_at v f.method = kept-code f.method k in
         let next : after_call w f ≡ after_call v f = ap (λ c. return_place (instruction_at c f.place)) code in
         let fits : length (with_value cells f.stack) ≤ max_stack_of w f.method = subst (λ n. length (with_value cells f.stack) ≤ n)
@@ -351,7 +287,7 @@ module _ (v w : Linked) (typings : Typings) (laws : AreLaws v) (pair : AreCounte
         (sym next) (top_kept k) in
         settles-as v w typings (given_to tagged v value cells (waiting f f fs gs under)) (given_to tagged w value cells (also_waiting f f fs gs under))
         (running z) (running t)
-        is.goes (also-goes f f fs gs under fits inside)
+        is.goes (goes-given value cells f gs other others w fits inside)
         (settled-now v w typings (running z) (running t)
         (both_run (record { first = refl; second = refl; tops = tops; under = under; heap = same_heap; statics = same_statics; typed = is.typed })))
 
@@ -366,4 +302,4 @@ module _ (v w : Linked) (typings : Typings) (laws : AreLaws v) (pair : AreCounte
         (both_end (endings.Plain (Returned value)) same_heap same_statics)
     gives (more_frames {fs = fs} {gs = gs} (wait_kept {f = f} k) rest) safe = kept-given f fs gs rest k safe
     gives (more_frames {fs = fs} {gs = gs} (wait_rewritten {f = f} {g = g} s place r reached call) rest) safe =
-        rewritten-given f g fs gs rest s place r reached call (is-given f g fs gs rest safe)
+        rewritten-given f g fs gs rest s place r reached call (is-given value cells f fs heap statics v typings safe)

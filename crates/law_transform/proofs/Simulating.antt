@@ -20,11 +20,12 @@ use Rattle.xf_homes.specs.Source.{Source}
 use Rattle.law_groups.specs.Beside.{IsAtGroup}
 use Rattle.law_groups.specs.Comes.{ComesWithin, AreAtGroup, CallAlike, GroupComes, group_calls, group_gives, group_raises, group_throws, group_ends, GroupRuns}
 use Rattle.law_groups.specs.Comes.{group_leaves, group_stays}
-use Rattle.law_groups.proofs.Plain.{one-step}
+use Rattle.law_alike.proofs.Simulation.{one-step}
+use Rattle.law_laid.proofs.Methods.{method-is}
 use Rattle.law_transform.specs.Counterparts.{IsSameMethod, IsRewrittenIn, AreCounterparts}
 use Rattle.law_transform.specs.Beside.{AreTop, top_kept, top_rewritten, WaitBeside, wait_rewritten, AreUnder, more_frames, AreBeside, OutcomesBeside, both_run}
 use Rattle.law_transform.specs.Beside.{both_end}
-use Rattle.law_transform.proofs.Typed.{AreLaws, its-method, method-is, typed-at, stays-typed, reached-at}
+use Rattle.law_transform.proofs.Typed.{AreLaws, its-method, typed-at, stays-typed, reached-at}
 use Rattle.law_transform.proofs.Settling.{extra, Settles, settled-now, settles-as, beside, equal-but, enters, gives}
 use Rattle.law_transform.proofs.Throwing.{catch_rewritten, throws-settle, raises-settle}
 use Rattle.law_transform.proofs.Keeping.{kept-steps}
@@ -81,7 +82,7 @@ module _ (v w : Linked) (typings : Typings) (laws : AreLaws v) (pair : AreCounte
         let stand = now_typed.frames.1.0.stands in
         let reached : IsReached s.method here.place =
         subst (λ (m : Method). IsReached m here.place)
-        (method-is v s.method here.method stand.rec (its-method v w typings here.method s place its) (sym its.number) stand.is_method) stand.reached in
+        (method-is v s.method here.method stand.rec (its-method v w typings here.method s place its) its.number stand.is_method) stand.reached in
         let waits : WaitBeside v w typings here there = wait_rewritten s place its reached c.waits in
         let args : List Cell = arguments c.count (top y).stack in
         let many = laws.handed typings z y c.executes.method c.instruction c.op c.method c.count pair.typed typed c.executes.fetched c.executes.resolved

@@ -15,7 +15,6 @@ use Rattle.vm_store.specs.Kind.{kind_of_handle}
 use Rattle.vm_store.specs.Objects.{kinds, has_room, new_instance_cells, with_object}
 use Rattle.vm_store.specs.State.{Frame, Object, State, without_frames}
 use Rattle.vm_step.specs.declared.ending.Ending.TheVariants as endings
-use Rattle.vm_step.specs.declared.ending.Fault.TheVariants.{StackFault}
 use Rattle.vm_step.specs.declared.ending.Plain.TheVariants.{Threw, HeapFull}
 use Rattle.vm_step.specs.declared.exception.Exception.{Exception}
 use Rattle.vm_step.specs.Act.{role_of}
@@ -23,11 +22,11 @@ use Rattle.vm_step.specs.Calls.{class_with_methods, class_of}
 use Rattle.vm_step.specs.Methods.{handlers_of, max_stack_of}
 use Rattle.vm_step.specs.Raising.{Outcome, running, ended, ends, catches, handler_for, caught, caught_by, caught_or, unwound, thrown, raised}
 use Rattle.law_sound.specs.Frames.{Typings}
-use Rattle.law_sound.specs.State.{IsTypedState}
 use Rattle.law_sound.specs.Soundness.{IsTypedOutcome}
 use Rattle.xf_homes.specs.Source.{Source}
 use Rattle.law_groups.specs.Beside.{StandsInGroup}
 use Rattle.law_groups.specs.Laws.{CatchAlike, none_catches, both_catch}
+use Rattle.law_alike.proofs.Catching.{caught-in, also-caught, raised_by}
 use Rattle.law_transform.specs.Counterparts.{IsSameMethod, IsRewrittenIn, AreCounterparts}
 use Rattle.law_transform.specs.Beside.{top_kept, WaitBeside, wait_kept, wait_rewritten, AreUnder, no_frames, more_frames, both_run, both_end}
 use Rattle.law_transform.proofs.Typed.{AreLaws, typed-at}
@@ -53,28 +52,6 @@ module _ (v w : Linked) (typings : Typings) (laws : AreLaws v) (pair : AreCounte
     abbrev there : Handler → Frame Cell → List (Frame Cell) → State Cell
     there h g gs = record sw { frames = caught tagged h handle g ∷ gs }
 
-    record IsCaughtIn (h : Handler) (f : Frame Cell) (fs : List (Frame Cell)) : Type 0 where
-      room : nat_lt (max_stack_of v f.method) 1 ≡ false
-      goes : caught_by tagged v h handle sv f fs ≡ running (here h f fs)
-      typed : IsTypedState v typings (here h f fs)
-
-    caught-in : (h : Handler) (f : Frame Cell) (fs : List (Frame Cell)) → IsTypedOutcome v typings (caught_by tagged v h handle sv f fs) → IsCaughtIn h f fs
-    caught-in h f fs safe = go (nat_lt (max_stack_of v f.method) 1) refl safe
-      where
-        go : (b : Bool) → nat_lt (max_stack_of v f.method) 1 ≡ b
-            → IsTypedOutcome v typings (if true && b then ends (endings.Faulted StackFault) sv else running (here h f fs)) → IsCaughtIn h f fs
-        go true e h = absurd h
-        go false e typed =
-            record {
-              room = e;
-              goes = ap (λ b. if true && b then ends (endings.Faulted StackFault) sv else running (here h f fs)) e;
-              typed = typed;
-            }
-
-    also-caught : (h : Handler) (g : Frame Cell) (gs : List (Frame Cell)) → nat_lt (max_stack_of w g.method) 1 ≡ false
-        → caught_by tagged w h handle sw g gs ≡ running (there h g gs)
-    also-caught h g gs e = ap (λ b. if true && b then ends (endings.Faulted StackFault) sw else running (there h g gs)) e
-
     abbrev Unwinds : List (Frame Cell) → List (Frame Cell) → Type 0
     Unwinds fs gs =
         IsTypedOutcome v typings (unwound tagged v class handle sv fs) → Settles v w typings (unwound tagged v class handle sv fs)
@@ -88,10 +65,10 @@ module _ (v w : Linked) (typings : Typings) (laws : AreLaws v) (pair : AreCounte
           (caught_or tagged w handle sw f gs (unwound tagged w class handle sw gs) o)
       kept-by None safe = rest safe
       kept-by (Some h) safe =
-          let is = caught-in h f fs safe in
+          let is = caught-in v handle sv h f fs typings safe in
           let room : nat_lt (max_stack_of w f.method) 1 ≡ false = ap (λ n. nat_lt n 1) (kept-room v w typings laws pair f.method k) ∙ is.room in
           settles-as v w typings (caught_by tagged v h handle sv f fs) (caught_by tagged w h handle sw f gs) (running (here h f fs)) (running (there h f gs))
-          is.goes (also-caught h f gs room)
+          is.goes (also-caught w handle sw h f gs room)
           (settled-now v w typings (running (here h f fs)) (running (there h f gs))
           (both_run (record { first = refl; second = refl; tops = top_kept k; under = under; heap = same_heap; statics = same_statics; typed = is.typed })))
 
@@ -123,7 +100,7 @@ module _ (v w : Linked) (typings : Typings) (laws : AreLaws v) (pair : AreCounte
             (unwound tagged w class handle sw gs) e (ap second_by there_none) (rest (subst (IsTypedOutcome v typings) e safe))
         caught-by (both_catch n h k caught_here listed covers caught_there entry) safe =
             let e : first_by (handler_for v class f) ≡ caught_by tagged v h handle sv f fs = ap first_by caught_here in
-            let is = caught-in h f fs (subst (IsTypedOutcome v typings) e safe) in
+            let is = caught-in v handle sv h f fs typings (subst (IsTypedOutcome v typings) e safe) in
             let more : max_stack_of w f.method ≡ max_stack_of v f.method + 1 = more-room v w typings laws pair s place f.method r in
             let method : g.method ≡ f.method = within.of.target ∙ sym within.of.source in
             let size : max_stack_of w g.method ≡ max_stack_of w f.method = ap (max_stack_of w) method in
@@ -131,7 +108,7 @@ module _ (v w : Linked) (typings : Typings) (laws : AreLaws v) (pair : AreCounte
             let z : State Cell = here h f fs in
             let t : State Cell = there k g gs in
             settles-as v w typings (first_by (handler_for v class f)) (second_by (handler_for w class g)) (running z) (running t)
-            (e ∙ is.goes) (ap second_by caught_there ∙ also-caught k g gs room)
+            (e ∙ is.goes) (ap second_by caught_there ∙ also-caught w handle sw k g gs room)
             (to-group v w typings laws pair s place z t 1 refl r under is.typed
             (laws.handlers w s place r.laid z t n f.place h (typed-at v typings w s place laws.stay z refl is.typed r)
             (equal-but v w typings laws pair z t refl refl under same_heap same_statics)
@@ -181,13 +158,6 @@ module _ (v w : Linked) (typings : Typings) (laws : AreLaws v) (pair : AreCounte
         (unwound tagged w class handle u (g ∷ gs))
         here there
         (unwinds-one class handle z u heap statics fs gs under catch (unwinds class handle z u heap statics under) (subst (IsTypedOutcome v typings) here safe))
-
-    abbrev raised_by : Linked → ClassTable → Exception → State Cell → Outcome Cell
-    raised_by x t e s =
-        if has_room s (length (cells_of t (slice_index t.roles (role_of e))))
-        then thrown tagged x (length s.heap + 1)
-        (with_object s (Instance (slice_index t.roles (role_of e))) (new_instance_cells tagged t (slice_index t.roles (role_of e))))
-        else ends (endings.Plain HeapFull) s
 
     module _ (exception : Exception) (z u : State Cell) (first : z.frames ≡ f ∷ fs) (second : u.frames ≡ g ∷ gs) (heap : u.heap ≡ z.heap)
         (statics : u.statics ≡ z.statics) where

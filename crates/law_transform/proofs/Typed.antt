@@ -1,32 +1,27 @@
 -- What is known of a typed state whose method on top is rewritten, and the laws that the simulation rests on.
-use Rattle.std.proofs.Common.{◌≡◌, ℕ, suc, List, ◌∷◌, length, sym, ap, ◌∙◌, subst, arith}
-use Rattle.std.specs.Prelude.{Option, Some, slice_get}
-use Rattle.std.proofs.lemmas.Option.{same_Some}
+use Rattle.std.proofs.Common.{◌≡◌, ℕ, ◌∷◌, sym, ◌∙◌, subst}
+use Rattle.std.specs.Prelude.{Option}
 use Rattle.jc_base.specs.declared.ty.Ty.{Ty}
 use Rattle.jc_base.specs.declared.ty.Ty.TheVariants.{Top}
-use Rattle.jc_base.specs.declared.record.MethodRec.{MethodRec}
 use Rattle.jc_base.specs.World.{Linked, IsWorld}
-use Rattle.jc_decode.specs.declared.insn.Placed.{Placed}
-use Rattle.jc_decode.proofs.InstructionLists.{all-are-listed}
 use Rattle.jc_control.specs.Control.{IsReached}
-use Rattle.jc_control.specs.Method.{Method, IsMethodOf, method_with}
-use Rattle.jc_control.specs.WellFormed.{HasInstruction}
+use Rattle.jc_control.specs.Method.{Method, IsMethodOf}
 use Rattle.jc_rules.specs.Demand.{Frame as Types}
 use Rattle.jc_rules.specs.Flow.{At, FrameBelow}
 use Rattle.vm_store.specs.declared.cell.Cell.{Cell}
-use Rattle.vm_store.specs.State.{State, IsRunning, top, other_frames}
+use Rattle.vm_store.specs.State.{State, top, other_frames}
 use Rattle.vm_store.specs.Objects.{kinds}
 use Rattle.vm_step.specs.declared.ending.Ending.TheVariants.{Plain, Faulted}
-use Rattle.vm_step.specs.Methods.{instruction_at}
 use Rattle.vm_step.specs.Raising.{Outcome, running, ended}
-use Rattle.law_sound.specs.Frames.{Typings, types_of_frame, AreTypedFrames}
+use Rattle.law_sound.specs.Frames.{Typings, types_of_frame}
 use Rattle.law_sound.specs.State.{IsTypedState}
 use Rattle.law_sound.specs.Soundness.{IsTypedOutcome, StepsAreSafe, StartsAreTyped}
 use Rattle.law_sound.specs.Handed.{OnlyCallsCall, CallsHandAll, StartsHandAll}
-use Rattle.law_sound.proofs.Places.{instruction-there, place-instruction}
 use Rattle.law_alike.specs.Likeness.{StepsAreAlike, TypedStatesStay}
 use Rattle.law_alike.specs.Starting.{StartsRefuseAlike}
+use Rattle.law_alike.proofs.Standing.{first-runs, frames-typed}
 use Rattle.law_laid.specs.Laws.{OperationsAreKept, DemandsAreKept}
+use Rattle.law_laid.proofs.Methods.{method-is}
 use Rattle.xf_homes.specs.Source.{Source}
 use Rattle.law_groups.specs.Beside.{IsTypedAt, StaysTyped}
 use Rattle.law_groups.specs.Laws.{GroupsRun, CallsEnd, HasRoomForMore, CallsReturn, HandlersEnter, GroupsCatch, StartsEnter}
@@ -53,32 +48,6 @@ pub record AreLaws (v : Linked) : Type 0 where
   pub handlers : HandlersEnter v
   pub enter : StartsEnter v
 
--- ---- frames of a state
-
-pub first-runs : (z : State Cell) → z.frames ≡ top z ∷ other_frames z.frames → IsRunning z
-first-runs z first =
-    let long : length z.frames ≡ suc (length (other_frames z.frames)) = ap length first in
-    omega (arith, long)
-
--- ---- instructions
-
-pub stands-at : (code : List ℕ) (place : ℕ) (i : Placed) → HasInstruction code i → i.place ≡ place → instruction_at code place ≡ Some i
-stands-at code place i stands at =
-    let found = place-instruction code place (i, stands, at) in
-    let there = instruction-there code place found.0 found.1 in
-    let same : found.0 ≡ i = (all-are-listed code).one found.0 i there.stands stands (there.at ∙ sym at) in
-    found.1 ∙ ap Some same
-
--- the method of a number, with its record
-pub method-is : (v : Linked) (m : Method) (n : ℕ) (rec : MethodRec) → IsMethodOf v m → n ≡ m.number → slice_get v.methods n ≡ Some rec
-    → method_with v n rec ≡ m
-method-is v m n rec is number e =
-    let rec_is : rec ≡ m.rec = same_Some rec m.rec (sym e ∙ (ap (slice_get v.methods) number ∙ is.rec)) in
-    let first : method_with v n rec ≡ method_with v m.number rec = ap (λ k. method_with v k rec) number in
-    let second : method_with v m.number rec ≡ method_with v m.number m.rec = ap (λ r. method_with v m.number r) rec_is in
-    let third : method_with v m.number m.rec ≡ m = ap (λ (c : List ℕ). record { number = m.number; rec = m.rec; code = c }) (sym is.code) in
-    first ∙ (second ∙ third)
-
 pub its-method : (v w : Linked) (typings : Typings) (n : ℕ) (s : Source) (place : ℕ → ℕ) → IsRewrittenIn v w typings n s place
     → IsMethodOf v s.method
 its-method v w typings n s place r = subst (λ (x : Linked). IsMethodOf x s.method) r.laid.world r.laid.planned.method
@@ -86,19 +55,14 @@ its-method v w typings n s place r = subst (λ (x : Linked). IsMethodOf x s.meth
 -- ---- typed states
 
 module _ (v : Linked) (typings : Typings) where
-  pub frames-typed :
-      (z : State Cell) → z.frames ≡ top z ∷ other_frames z.frames → IsTypedState v typings z
-      → AreTypedFrames v typings (kinds z) (top z ∷ other_frames z.frames)
-  frames-typed z first typed = subst (AreTypedFrames v typings (kinds z)) first typed.frames
-
   module _ (w : Linked) (s : Source) (place : ℕ → ℕ) where
     pub reached-at :
         (z : State Cell) → z.frames ≡ top z ∷ other_frames z.frames → IsTypedState v typings z → IsRewrittenIn v w typings (top z).method s place
         → IsReached s.method (top z).place
     reached-at z first typed r =
-        let stands = (frames-typed z first typed).0.stands in
+        let stands = (frames-typed v typings z first typed).0.stands in
         subst (λ (m : Method). IsReached m (top z).place)
-        (method-is v s.method (top z).method stands.rec (its-method v w typings (top z).method s place r) (sym r.number) stands.is_method)
+        (method-is v s.method (top z).method stands.rec (its-method v w typings (top z).method s place r) r.number stands.is_method)
         stands.reached
 
     -- the state is typed as the groups ask
@@ -107,7 +71,7 @@ module _ (v : Linked) (typings : Typings) where
         → IsRewrittenIn v w typings (top z).method s place
         → IsTypedAt v s z
     typed-at stay z first typed r =
-        let frame = (frames-typed z first typed).0 in
+        let frame = (frames-typed v typings z first typed).0 in
         record {
           runs = first-runs z first;
           method = sym r.number;

@@ -1,12 +1,12 @@
 -- Lengths of chains, and registers that have risen.
-use Rattle.std.proofs.Common.{◌≡◌, ℕ, ◌+◌, ◌*◌, ◌^◌, ◌-◌, ◌<◌, ◌≤◌, List, [], ◌∷◌, ◌++◌, length, drop, replicate, All, Option, Some, None}
-use Rattle.std.proofs.Common.{Bool, true, false, if◌then◌else◌, option_map, slice_get, sum_by, IsSomeAnd, refl, sym, ap, subst, ◌∙◌, arith, length-append}
+use Rattle.std.proofs.Common.{◌≡◌, ℕ, ◌+◌, ◌*◌, ◌^◌, ◌-◌, ◌<◌, ◌≤◌, List, ◌++◌, length, drop, replicate, All, Option, Some, None}
+use Rattle.std.proofs.Common.{option_map, slice_get, sum_by, IsSomeAnd, refl, sym, ap, subst, ◌∙◌, arith, length-append}
 use Rattle.std.proofs.Math.Seq.{drop-append_seam}
 use Rattle.std.proofs.lemmas.List.Elements.{All-replicate}
 use Rattle.std.proofs.lemmas.Option.{same_Some}
 use Rattle.jc_base.specs.declared.record.MethodRec.{MethodRec}
 use Rattle.jc_base.specs.declared.ty.Ty.{Ty}
-use Rattle.jc_base.specs.declared.ty.Ty.TheVariants.{Bottom, Class}
+use Rattle.jc_base.specs.declared.ty.Ty.TheVariants.{Bottom}
 use Rattle.jc_base.specs.Class.{ClassTable, IsClass, parent_of, chain, height}
 use Rattle.jc_base.specs.Linked.{receiver_words}
 use Rattle.jc_base.specs.World.{Linked, code_of}
@@ -17,6 +17,7 @@ use Rattle.jc_rules.specs.Flow.{start_frame, receiver_of}
 use Rattle.card_verify.specs.Bound.{AreCounted, step_bound}
 use Rattle.card_verify.specs.Counted.{instruction_count}
 use Rattle.card_verify.specs.OverIndex.{RaisedTakesTwo}
+use Rattle.card_verify.proofs.Starting.{receiver-length}
 
 -- what is no class is alone on its chain
 pub alone-on-chain : (t : ClassTable) (c most : ℕ) → (IsClass t c → ⊥) → 0 < most → length (chain t c) ≤ most
@@ -28,16 +29,12 @@ alone-on-chain t c most other more = by (parent_of t c) refl
 
 -- ---- registers that are no argument
 
-receiver-long : (static : Bool) (class : ℕ) → length (if static then [] else Class class ∷ []) ≡ receiver_words static
-receiver-long true class = refl
-receiver-long false class = refl
-
 -- they start with no value
 pub starts-empty : (r : MethodRec) → r.nargs ≡ length r.sig.args + receiver_words r.is_static
     → All (λ (ty : Ty). ty ≡ Bottom) (drop r.nargs (start_frame r Bottom).regs)
 starts-empty r words =
     let first = receiver_of r ++ r.sig.args in
-    let long : length first ≡ r.nargs = omega (arith, words, length-append (receiver_of r) r.sig.args, receiver-long r.is_static r.class) in
+    let long : length first ≡ r.nargs = omega (arith, words, length-append (receiver_of r) r.sig.args, receiver-length r.is_static r.class) in
     let rest : drop r.nargs (start_frame r Bottom).regs ≡ replicate r.max_locals Bottom =
     ap (λ n. drop n (first ++ replicate r.max_locals Bottom)) (sym long) ∙ drop-append_seam first (replicate r.max_locals Bottom) in
     subst (All (λ (ty : Ty). ty ≡ Bottom)) (sym rest) (All-replicate (λ (ty : Ty). ty ≡ Bottom) r.max_locals Bottom refl)

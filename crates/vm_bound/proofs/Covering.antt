@@ -3,10 +3,10 @@ use Rattle.std.proofs.Common.{◌≡◌, ℕ, ◌+◌, ◌-◌, ◌*◌, ◌/◌
 use Rattle.std.specs.Prelude.{Option, Some, None, Contains}
 use Rattle.std.proofs.lemmas.Bool.{cases_lt, cases_eq, eq-eqb, ne_eqb}
 use Rattle.std.proofs.lemmas.List.Elements.{Contains-append_left, Contains-push, Contains-push_cases}
+use Rattle.jc_decode.proofs.Elements.{nothing-in}
 use Rattle.vm_bound.specs.declared.spread.Block.{Block}
 use Rattle.vm_bound.specs.Blocks.{IsHalf, Under, under_one, under_half, IsPart, IsInPart, IsCovered, AddsRun, with_if}
 use Rattle.vm_bound.specs.Runs.{IsRun, AreRuns}
-use Rattle.vm_bound.proofs.Graphing.{nothing-in}
 
 -- the nodes from one to before another are still to be taken
 pub record IsCovering (count from to by : ℕ) (old new : List Block) (low high : ℕ) : Type 0 where

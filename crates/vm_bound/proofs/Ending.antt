@@ -6,8 +6,8 @@ use Rattle.std.proofs.lemmas.Option.{same_Some, slice_get_within}
 use Rattle.std.proofs.lemmas.List.{length-set, length-replicate, get_or-set_same, get_or-set_other, get_or-replicate}
 use Rattle.std.proofs.lemmas.List.Elements.{Contains-append_left, Contains-push, Contains-push_cases}
 use Rattle.jc_base.specs.Class.{ClassTable, parent_of}
+use Rattle.jc_decode.proofs.Elements.{nothing-in}
 use Rattle.vm_bound.specs.Runs.{end_of, IsWithin, IsUnder, IsUnderParent, AreEnds, IsWalk}
-use Rattle.vm_bound.proofs.Graphing.{nothing-in}
 use Rattle.vm_bound.proofs.Stacks.{last-greatest, front-rises, pushed-rises}
 
 module _ (t : ClassTable) (order : List ℕ) where

@@ -11,6 +11,7 @@ use Rattle.jc_base.proofs.Climbs.{parent_of-class}
 use Rattle.jc_base.proofs.Lists.{IsSomeAnd-some, slice_get-some}
 use Rattle.digraph.specs.Graph.{Edge}
 use Rattle.law_chains.specs.Calls.{HasCode}
+use Rattle.jc_decode.proofs.Elements.{nothing-in}
 use Rattle.vm_bound.specs.declared.vertex.Meaning.{Meaning}
 use Rattle.vm_bound.specs.declared.vertex.Meaning.TheVariants.{Described, Entries, Span}
 use Rattle.vm_bound.specs.declared.vertex.Vertex.{Vertex}
@@ -25,9 +26,6 @@ pub code-inside : (w : Linked) (n : ℕ) → HasCode w n → n < length w.method
 code-inside w n code =
     let some = IsSomeAnd-some _ (slice_get w.methods n) code in
     slice_get_within w.methods n some.0 some.1
-
-pub nothing-in : {A : Type 0} (x : A) → Contains [] x → ⊥
-nothing-in x c = let l : c.0 < 0 = c.1 in omega arith
 
 -- how far below class object the class of entries is; and how far down a node
 pub depth : Linked → Meaning → ℕ

@@ -2,7 +2,6 @@ pub mod Dispatching
 pub mod Graphing
 pub mod Told
 pub mod Answering
-pub mod Accepting
 mod Subclassing
 mod Targeting
 mod Numbering

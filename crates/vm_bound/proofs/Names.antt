@@ -12,10 +12,10 @@ use Rattle.jc_base.specs.Each.{IsAmong}
 use Rattle.jc_base.proofs.Eaching.{Contains-from_IsAmong, IsAmong-from_Contains}
 use Rattle.vm_act.proofs.Climbing.{Is, find-yes, find-no}
 use Rattle.digraph.specs.Graph.{next}
+use Rattle.jc_decode.proofs.Elements.{nothing-in}
 use Rattle.vm_bound.specs.Blocks.{named}
 use Rattle.vm_bound.specs.Rows.{IsAdded}
 use Rattle.vm_bound.specs.Runs.{IsNamed, AreAllNaming, HasEntry, AreAdded}
-use Rattle.vm_bound.proofs.Graphing.{nothing-in}
 use Rattle.vm_bound.proofs.Serving.{named-is}
 use Rattle.vm_bound.proofs.Stacks.{pushed-rising}
 use Rattle.vm_bound.proofs.Subclassing.{empty-next, added-count, added-here, added-there}

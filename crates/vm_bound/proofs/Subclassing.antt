@@ -8,8 +8,8 @@ use Rattle.std.proofs.lemmas.List.Elements.{Contains-append_left, Contains-push,
 use Rattle.jc_base.specs.Class.{ClassTable, IsClass, parent_of}
 use Rattle.jc_base.proofs.Climbs.{parent_of-class}
 use Rattle.digraph.specs.Graph.{next}
+use Rattle.jc_decode.proofs.Elements.{nothing-in}
 use Rattle.vm_bound.specs.Rows.{AreAllSubclasses, IsAdded}
-use Rattle.vm_bound.proofs.Graphing.{nothing-in}
 
 pub added : (c d : ℕ) (old new : List (List ℕ)) (before after : List ℕ) → slice_get old c ≡ Some before → after ≡ before ++ d ∷ []
     → new ≡ set old c after → IsAdded old c d new

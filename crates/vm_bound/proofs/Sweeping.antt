@@ -4,10 +4,10 @@ use Rattle.std.specs.Prelude.{Some, Contains, slice_get}
 use Rattle.std.specs.List.Sorted.{IsNonDecreasing}
 use Rattle.std.proofs.lemmas.Bool.{cases_lt}
 use Rattle.std.proofs.lemmas.List.Elements.{Contains-append_left, Contains-push, Contains-push_cases, Contains-get_or}
+use Rattle.jc_decode.proofs.Elements.{nothing-in}
 use Rattle.vm_bound.specs.declared.spread.Block.{Block}
 use Rattle.vm_bound.specs.Blocks.{AddsRun}
 use Rattle.vm_bound.specs.Runs.{end_of, IsWithin, IsInnermost, IsByInnermost, IsSweep, IsFree}
-use Rattle.vm_bound.proofs.Graphing.{nothing-in}
 use Rattle.vm_bound.proofs.Covering.{runs-none, runs-skip, runs-more}
 use Rattle.vm_bound.proofs.Stacks.{place-of, last-most, front-rising, pushed-rising}
 

@@ -13,6 +13,7 @@ use Rattle.jc_base.proofs.Climbs.{parent_of-class}
 use Rattle.jc_base.proofs.Eaching.{Contains-from_IsAmong, IsAmong-from_Contains}
 use Rattle.jc_decode.specs.declared.insn.Placed.{Placed}
 use Rattle.jc_decode.specs.Listing.{listing}
+use Rattle.jc_decode.proofs.Elements.{nothing-in}
 use Rattle.vm_bound.specs.declared.spread.Block.{Block}
 use Rattle.vm_bound.specs.declared.vertex.Meaning.TheVariants.{Entries, Span}
 use Rattle.vm_bound.specs.declared.vertex.Vertex.{Vertex}
@@ -21,7 +22,7 @@ use Rattle.vm_bound.specs.Vertices.{IsFit}
 use Rattle.vm_bound.specs.Edges.{target, token_told, shares, Owns, IsSupplied, LeadsFromMethod, LeadsToBlocks, leads_block}
 use Rattle.vm_bound.specs.Edges.{LeadsFromEntries, leads_own, leads_below, LeadsFromSpan, leads_half, leads_supplied}
 use Rattle.vm_bound.specs.Rows.{AreTargets, AreBlockTargets, IsOwned, is_owned, IsOwn, AreSubclasses}
-use Rattle.vm_bound.proofs.Graphing.{code-inside, nothing-in}
+use Rattle.vm_bound.proofs.Graphing.{code-inside}
 
 -- what was true of all vertices is true where one is added that it is true of
 added : {A : Type 0} (P : A → Type 0) (xs : List A) (x : A) → ((y : A) → Contains xs y → P y) → P x → (y : A) → Contains (xs ++ x ∷ []) y → P y

@@ -19,11 +19,11 @@ live-erased : (w : Linked) (fs : List (Frame Cell)) → live_words w (map (map_f
 live-erased w [] = refl
 live-erased w (f ∷ fs) = ap (λ n. frame_words w f.method + n) (live-erased w fs)
 
-state-with : (e : Option Ending) (s : State ℕ) → state_of (with_ending e s) ≡ s
+pub state-with : (e : Option Ending) (s : State ℕ) → state_of (with_ending e s) ≡ s
 state-with None s = refl
 state-with (Some e) s = refl
 
-state-erased : (o : Outcome Cell) → state_of (erased_outcome o) ≡ erased (state_of o)
+pub state-erased : (o : Outcome Cell) → state_of (erased_outcome o) ≡ erased (state_of o)
 state-erased (running s) = refl
 state-erased (ended e s) = refl
 

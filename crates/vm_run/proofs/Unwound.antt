@@ -1,10 +1,12 @@
 -- An object that is thrown over frames, whatever frames the state has besides.
-use Rattle.std.proofs.Common.{◌≡◌, ◌<◌, ◌+◌, ℕ, List, [], ◌∷◌, ◌++◌, length, map, true, refl, sym, ap, ◌∙◌, arith, add-one}
-use Rattle.std.specs.Prelude.{Option, Some, None, slice_get, slice_index, if◌then◌else◌}
+use Rattle.std.proofs.Common.{◌≡◌, ◌<◌, ◌+◌, ℕ, List, [], ◌∷◌, ◌++◌, length, true, refl, sym, ap, ◌∙◌, arith, add-one}
+use Rattle.std.specs.Prelude.{Option, Some, None, slice_index, if◌then◌else◌, option_map}
+use Rattle.std.proofs.lemmas.Option.{slice_get-map}
 use Rattle.jc_base.specs.declared.record.Handler.{Handler}
 use Rattle.jc_base.specs.Class.{ClassTable}
 use Rattle.jc_base.specs.Dispatch.{cells_of}
 use Rattle.jc_base.specs.World.{Linked}
+use Rattle.jc_base.proofs.Lists.{slice_get-farther}
 use Rattle.vm_store.specs.declared.kind.ObjectKind.TheVariants.{Instance}
 use Rattle.vm_store.specs.Cells.{Cells}
 use Rattle.vm_store.specs.State.{Frame, State, Object, IsRunning, top, first_frame, other_frames, without_top}
@@ -46,15 +48,14 @@ module _ {A : Type 0} (k : Cells A) (w : Linked) (class n : ℕ) where
 
 -- ---- an exception's object
 
-last-kind : {A : Type 0} (os : List (Object A)) (o : Object A) → slice_get (map (λ (x : Object A). x.kind) (os ++ o ∷ [])) (length os) ≡ Some o.kind
-last-kind [] o = refl
-last-kind (x ∷ os) o = last-kind os o
-
 pub last-class : {A : Type 0} (t : ClassTable) (s : State A) (class : ℕ) (cells : List A)
     → class_of t (with_object s (Instance class) cells) (length s.heap + 1) ≡ class
 last-class {A} t s class cells =
     let z : State A = with_object s (Instance class) cells in
-    ap (class_of t z) (add-one (length s.heap)) ∙ ap (class_with_methods t) (last-kind s.heap (record { kind = Instance class; cells = cells }))
+    let made : Object A = record { kind = Instance class; cells = cells } in
+    ap (class_of t z) (add-one (length s.heap)) ∙ ap (class_with_methods t)
+    (slice_get-map (λ (x : Object A). x.kind) (s.heap ++ made ∷ []) (length s.heap)
+    ∙ ap (option_map (λ (x : Object A). x.kind)) (slice_get-farther s.heap (made ∷ []) 0 (length s.heap) (omega arith)))
 
 pub raised-is : {A : Type 0} (k : Cells A) (w : Linked) (exception : Exception) (s z : State A) (class h : ℕ)
     → class ≡ slice_index w.classes.roles (role_of exception) → has_room s (length (cells_of w.classes class)) ≡ true

@@ -63,7 +63,7 @@ module _ (t : ClassTable) where
 
   -- ---- the cells of a new object
 
-  have-both : (ks : List ObjectKind) (cs ds : List Cell) (types others : List Ty) → CellsHave t ks cs types → CellsHave t ks ds others
+  pub have-both : (ks : List ObjectKind) (cs ds : List Cell) (types others : List Ty) → CellsHave t ks cs types → CellsHave t ks ds others
       → CellsHave t ks (cs ++ ds) (types ++ others)
   have-both ks [] ds [] others h g = g
   have-both ks [] ds (ty ∷ types) others h g = absurd h

@@ -36,7 +36,7 @@ cells-kept s (suc h) i c = length-write s.heap h i c
 
 module _ (t : ClassTable) (ks : List ObjectKind) where
   -- a cell of typed cells
-  have-read :
+  pub have-read :
       (cs : List Cell) (types : List Ty) (i : ℕ) (ty : Ty)
       → CellsHave t ks cs types → slice_get types i ≡ Some ty → IsSomeAnd (slice_get cs i) (λ c. HasType t ks c ty × HasContent c)
   have-read [] [] i ty h e = absurd (none-some ty e)
@@ -45,7 +45,7 @@ module _ (t : ClassTable) (ks : List ObjectKind) where
   have-read (c ∷ cs) (u ∷ types) zero ty h e = subst (λ v. HasType t ks c v × HasContent c) (same_Some u ty e) (h.0, h.1)
   have-read (c ∷ cs) (u ∷ types) (suc i) ty h e = have-read cs types i ty h.2 e
 
-  have-write :
+  pub have-write :
       (cs : List Cell) (types : List Ty) (i : ℕ) (ty : Ty) (c : Cell)
       → CellsHave t ks cs types → slice_get types i ≡ Some ty → HasType t ks c ty → HasContent c → CellsHave t ks (set cs i c) types
   have-write [] [] i ty c h e has filled = absurd (none-some ty e)

@@ -20,6 +20,7 @@ use Rattle.jc_control.proofs.PlacesWithin.{place-inside}
 use Rattle.xf_allot.specs.Graph.{Adds, IsFall, IsJumpTo, IsEnter, IsEntryOf, IsOut, out_fall, out_jump, out_caught, IsCatch, catch_before, catch_entry}
 use Rattle.xf_allot.specs.Graph.{caught_at, IsBound, bound_first, bound_start, bound_end}
 use Rattle.xf_live.specs.declared.graph.Edge.{Edge}
+use Rattle.xf_live.proofs.Flows.{edge-is}
 
 -- ---- in general
 
@@ -43,9 +44,6 @@ adds-both P Q R old between new p q r first second edge = (
   λ h. ⊎_elim (λ there. (second edge).1 (inl ((first edge).1 (inl there))))
       (λ x. ⊎_elim (λ y. (second edge).1 (inl ((first edge).1 (inr y)))) (λ y. (second edge).1 (inr y)) (r edge x)) h,
 )
-
-edge-is : (a b : Edge) → a.from ≡ b.from → a.to ≡ b.to → a ≡ b
-edge-is a b f t = ap (λ n. record a { «from» = n }) f ∙ ap (λ n. record b { to = n }) t
 
 abbrev pub IsOne : ℕ → ℕ → Edge → Type 0
 IsOne here there edge = edge ≡ record { «from» = here; to = there }

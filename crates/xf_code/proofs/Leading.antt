@@ -7,7 +7,7 @@ use Rattle.std.proofs.lemmas.Bool.Decides.{nat_tests}
 use Rattle.std.specs.Prelude.{ℤ, nat_lt, pos, negsuc, ◌≤ℤ◌, ◌<ℤ◌, get_or}
 use Rattle.std.proofs.lemmas.Int.{ints}
 use Rattle.std.proofs.lemmas.List.Elements.{All-contains}
-use Rattle.std.proofs.lemmas.Option.{slice_get-get_or}
+use Rattle.std.proofs.lemmas.Option.{slice_get-get_or, slice_get_past}
 use Rattle.jc_decode.proofs.Elements.{Contains-slice_get}
 use Rattle.std.proofs.lemmas.List.{drop_more, drop_all}
 use Rattle.jc_base.specs.declared.record.Handler.{Handler}
@@ -43,11 +43,6 @@ found-label ways labels t n at = by (nat_lt (position_or_len (int_eq t) ways) (l
     by true e = let same : n ≡ position_or_len (int_eq t) ways = cc in ap (slice_get labels) same
     by false e = absurd (cc)
 
-none-past : (xs : List ℕ) (n : ℕ) → length xs ≤ n → slice_get xs n ≡ None
-none-past [] n le = refl
-none-past (x ∷ xs) zero le = absurd (omega arith)
-none-past (x ∷ xs) (suc n) le = none-past xs n (omega arith)
-
 pub no-label : (ways : List ℤ) (labels : List ℕ) (t : ℤ) → length labels ≡ length ways → None ≡ position (int_eq t) ways
     → None ≡ slice_get labels (position_or_len (int_eq t) ways)
 no-label ways labels t few at = by (nat_lt (position_or_len (int_eq t) ways) (length ways)) refl at
@@ -55,7 +50,7 @@ no-label ways labels t few at = by (nat_lt (position_or_len (int_eq t) ways) (le
     by : (b : Bool) → nat_lt (position_or_len (int_eq t) ways) (length ways) ≡ b → None ≡ cond b (Some (position_or_len (int_eq t) ways)) None
         → None ≡ slice_get labels (position_or_len (int_eq t) ways)
     by true past e = absurd (cc)
-    by false past e = sym (none-past labels (position_or_len (int_eq t) ways) (grind (arith, nat_tests, past, few)))
+    by false past e = sym (slice_get_past labels (position_or_len (int_eq t) ways) (grind (arith, nat_tests, past, few)))
 
 module _ (s : Source) (p : ℕ) (op : Operation) (n : ℕ) where
   pub leads-next : (whole rest after : List ℤ) (t : ℤ) → rest ≡ t ∷ after

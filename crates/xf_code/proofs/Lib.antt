@@ -2,7 +2,6 @@ pub mod Steps
 pub mod Copying
 pub mod Leading
 pub mod Still
-pub mod Bodies
 pub mod Targets
 pub mod Subjects
 pub mod Sources

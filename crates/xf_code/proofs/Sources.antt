@@ -19,7 +19,7 @@ use Rattle.xf_homes.specs.declared.home.Home.{Home}
 use Rattle.xf_homes.specs.Answer.{IsTypingOf}
 use Rattle.xf_homes.specs.Order.{AreHomes, register_sum}
 use Rattle.xf_homes.proofs.AllHomes.{IsTyped}
-use Rattle.xf_homes.proofs.Answered.{is-typed}
+use Rattle.xf_homes.proofs.Answered.{is-typed, code-short}
 use Rattle.xf_homes.specs.Plan.{stack_of}
 use Rattle.xf_emission.specs.Emission.{rewritten}
 use Rattle.xf_emission.specs.Laws.{IsCode, HasFrames, ItemsSuit, LiveAreKept, PlainSizeFits, RangesStand}
@@ -28,7 +28,6 @@ use Rattle.law_groups.specs.Matching.{MatchesFrames, MatchesMethod, RewrittenMat
 use Rattle.law_rewritten_typing.specs.Laws.{RewrittenIsTyped}
 use Rattle.law_rewritten_typing.specs.Planned.{IsPlanned}
 use Rattle.law_rewritten_typing.specs.Typed.{HasTypingByHomes}
-use Rattle.xf_code.proofs.Subjects.{code-short}
 
 module _ (w : Linked) (m : Method) (typing : List (Option Frame)) (control : Marked) (homes : List Home) (typed : IsTypingOf w m typing)
     (flow : IsControlFlow m control) (placed : ArePlaced m) (listed : AreListed m.code) (mo : IsMethodOf w m)

@@ -14,13 +14,11 @@ use Rattle.jc_decode.specs.declared.insn.Insn.{Insn}
 use Rattle.jc_decode.specs.declared.insn.Placed.{Placed}
 use Rattle.jc_decode.specs.Layout.{operand_width, total_width, layout_of}
 use Rattle.jc_decode.specs.Decoding.{range_count, decoded}
-use Rattle.jc_decode.specs.Cases.{cases, range_case, pair_case, with_default, HasTable}
+use Rattle.jc_decode.specs.Cases.{cases, range_case, pair_case}
 use Rattle.jc_decode.specs.Listing.{jumps, target, targets}
 use Rattle.jc_decode.proofs.Tables.{cases-by, range_table, pairs_table}
 use Rattle.jc_decode.proofs.Defaults.{no_cases}
-
-has-table : (xs : List ℕ) (at : ℕ) (i : Insn) → decoded xs at ≡ Ok i → HasTable xs at i
-has-table xs at i h switch = ap (with_default i.x) h
+use Rattle.jc_decode.proofs.KeySearches.{has-table}
 
 few-cases : (xs : List ℕ) (at : ℕ) (i : Insn) → decoded xs at ≡ Ok i → 2 * length (cases xs at i) ≤ length xs
 few-cases xs at i h = by_layout (layout_of i.op) refl

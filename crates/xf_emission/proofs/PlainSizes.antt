@@ -2,7 +2,7 @@
 use Rattle.std.proofs.Common.{◌≡◌, ℕ, zero, suc, ◌+◌, ◌-◌, ◌*◌, ◌≤◌, Bool, true, false, if◌then◌else◌, inl, inr, List, []}
 use Rattle.std.proofs.Common.{◌∷◌, ◌++◌, map, reverse, flat_map, length, Option, Some, None, Result, Ok, Err, refl, sym, ◌∙◌, ap, subst, arith}
 use Rattle.std.proofs.Common.{length-append}
-use Rattle.std.specs.Prelude.{ℤ, pos, is_some, nat_lt, nat_le, sum_by, count_by, cond, IsSomeAnd}
+use Rattle.std.specs.Prelude.{ℤ, pos, is_some, nat_lt, nat_le, count_by, cond, IsSomeAnd}
 use Rattle.std.specs.List.{filter}
 use Rattle.std.proofs.lemmas.List.{length-reverse}
 use Rattle.std.proofs.lemmas.List.Sums.{length-filter, sum_by-append, sum_by-cons}
@@ -200,16 +200,37 @@ filter-few f hs = omega (arith, length-filter f hs, counted hs)
 
 -- ---- the homes that are needed
 
-module _ (same : SameTypeDecides) (kept_are : NeededAreKept) (s : Source) (has_frames : HasFrames s) (serve : Serve s.world s.method s.frames s.homes) where
-  in-homes : (n : ℕ) (hs : List Home) (h : Home) (r : ℕ) → register_from n hs h ≡ Some r → IsAmong h hs
-  in-homes n [] h r e = absurd (cc)
-  in-homes n (k ∷ ks) h r e = by (same_home k h) refl e (λ f. in-homes (n + home_width k.ty) ks h r f)
-    where
-      by : (b : Bool) → same_home k h ≡ b → (if b then Some n else register_from (n + home_width k.ty) ks h) ≡ Some r
-          → (register_from (n + home_width k.ty) ks h ≡ Some r → IsAmong h ks) → IsAmong h (k ∷ ks)
-      by true q e rest = inl (homes-equal same k h q)
-      by false q e rest = inr (rest e)
+pub homes-few : (hs : List Home) → length hs ≤ register_sum hs
+unfolding register_sum
+homes-few [] = omega arith
+homes-few (h ∷ hs) = omega (arith, wide h.ty, homes-few hs, sum_by-cons (λ (k : Home). home_width k.ty) h hs)
+  where
+    wide : (t : Ty) → 1 ≤ home_width t
+    wide IntHigh = omega arith
+    wide t = omega arith
 
+pub in-homes : (same : SameTypeDecides) (n : ℕ) (hs : List Home) (h : Home) (r : ℕ) → register_from n hs h ≡ Some r → IsAmong h hs
+in-homes same n [] h r e = absurd (cc)
+in-homes same n (k ∷ ks) h r e = by (same_home k h) refl e (λ f. in-homes same (n + home_width k.ty) ks h r f)
+  where
+    by : (b : Bool) → same_home k h ≡ b → (if b then Some n else register_from (n + home_width k.ty) ks h) ≡ Some r
+        → (register_from (n + home_width k.ty) ks h ≡ Some r → IsAmong h ks) → IsAmong h (k ∷ ks)
+    by true q e rest = inl (homes-equal same k h q)
+    by false q e rest = inr (rest e)
+
+each-among : {X : Type 0} (P : X → Type 0) (xs : List X) (x : X) → Each P xs → IsAmong x xs → P x
+each-among P [] x e a = absurd a
+each-among P (y ∷ ys) x e (inl same) = subst P same e.0
+each-among P (y ∷ ys) x e (inr a) = each-among P ys x e.1 a
+
+pub in-order-distinct : (s : Source) (q x : ℕ) (hs : List Home) → AreAskedInOrder s.method s.frames q x hs → Distinct hs
+in-order-distinct s q x [] o = tt
+in-order-distinct s q x (h ∷ hs) o = (
+  λ a. let b = each-among (IsAskedBefore s.method s.frames q x h) hs h o.0 a in absurd (omega (arith, b.2 b.0 b.1)),
+  in-order-distinct s q x hs o.1,
+)
+
+module _ (same : SameTypeDecides) (kept_are : NeededAreKept) (s : Source) (has_frames : HasFrames s) (serve : Serve s.world s.method s.frames s.homes) where
   framed : (o : Option Frame) (P : Frame → Type 0) → IsSomeAnd o P → is_some o ≡ true
   framed None P h = absurd h
   framed (Some f) P h = refl
@@ -230,19 +251,7 @@ module _ (same : SameTypeDecides) (kept_are : NeededAreKept) (s : Source) (has_f
   needed-home q x h a =
       let n = ((needed-are q x).all h).0 a in
       let r = asked-home q x n.1.0 h.ty n.1.1 in
-      in-homes 0 s.homes h r.0 (subst (λ (k : ℕ). register_from 0 s.homes (record { slot = k; ty = h.ty }) ≡ Some r.0) (sym n.0) r.1)
-
-  each-among : {X : Type 0} (P : X → Type 0) (xs : List X) (x : X) → Each P xs → IsAmong x xs → P x
-  each-among P [] x e a = absurd a
-  each-among P (y ∷ ys) x e (inl same) = subst P same e.0
-  each-among P (y ∷ ys) x e (inr a) = each-among P ys x e.1 a
-
-  in-order-distinct : (q x : ℕ) (hs : List Home) → AreAskedInOrder s.method s.frames q x hs → Distinct hs
-  in-order-distinct q x [] o = tt
-  in-order-distinct q x (h ∷ hs) o = (
-    λ a. let b = each-among (IsAskedBefore s.method s.frames q x h) hs h o.0 a in absurd (omega (arith, b.2 b.0 b.1)),
-    in-order-distinct q x hs o.1,
-  )
+      in-homes same 0 s.homes h r.0 (subst (λ (k : ℕ). register_from 0 s.homes (record { slot = k; ty = h.ty }) ≡ Some r.0) (sym n.0) r.1)
 
   slots-from : (q x n : ℕ) (h : Home) → IsAmong h (needed_from s q x n) → x ≤ h.slot
   slots-from q x zero h a = absurd a
@@ -253,7 +262,7 @@ module _ (same : SameTypeDecides) (kept_are : NeededAreKept) (s : Source) (has_f
   all-distinct : (q x n : ℕ) → Distinct (needed_from s q x n)
   all-distinct q x zero = tt
   all-distinct q x (suc n) =
-      distinct-append (needed s q x) (needed_from s q (suc x) n) (in-order-distinct q x (needed s q x) (needed-are q x).order) (all-distinct q (suc x) n)
+      distinct-append (needed s q x) (needed_from s q (suc x) n) (in-order-distinct s q x (needed s q x) (needed-are q x).order) (all-distinct q (suc x) n)
       (λ k a b. absurd (omega (arith, slot-of q x k a, slots-from q (suc x) n k b)))
 
   all-homes : (q x n : ℕ) (h : Home) → IsAmong h (needed_from s q x n) → IsAmong h s.homes
@@ -262,24 +271,16 @@ module _ (same : SameTypeDecides) (kept_are : NeededAreKept) (s : Source) (has_f
       either-among (λ (k : Home). IsAmong k s.homes) (needed s q x) (needed_from s q (suc x) n) (λ k b. needed-home q x k b)
       (λ k b. all-homes q (suc x) n k b) h a
 
-  homes-few : (hs : List Home) → length hs ≤ sum_by (λ (h : Home). home_width h.ty) hs
-  homes-few [] = omega arith
-  homes-few (h ∷ hs) = omega (arith, wide h.ty, homes-few hs, sum_by-cons (λ (k : Home). home_width k.ty) h hs)
-    where
-      wide : (t : Ty) → 1 ≤ home_width t
-      wide IntHigh = omega arith
-      wide t = omega arith
-
   module _ (few : register_sum s.homes ≤ 255) where
     homes-at-most : length s.homes ≤ 255
-    unfolding register_sum
     homes-at-most = omega (arith, homes-few s.homes, few)
 
     pub needed-few : (q x n : ℕ) → length (needed_from s q x n) ≤ 255
     needed-few q x n = omega (arith, no-longer (needed_from s q x n) s.homes (all-distinct q x n) (all-homes q x n), homes-at-most)
 
     pub one-few : (q x : ℕ) → length (needed s q x) ≤ 255
-    one-few q x = omega (arith, no-longer (needed s q x) s.homes (in-order-distinct q x (needed s q x) (needed-are q x).order) (needed-home q x), homes-at-most)
+    one-few q x =
+        omega (arith, no-longer (needed s q x) s.homes (in-order-distinct s q x (needed s q x) (needed-are q x).order) (needed-home q x), homes-at-most)
 
     copies-size : (o : Origin) (q : ℕ) → plain_size (copies s o q) ≤ 1020
     unfolding copies

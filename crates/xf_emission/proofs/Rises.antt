@@ -4,7 +4,7 @@ use Rattle.std.proofs.Common.{arith}
 use Rattle.std.specs.Prelude.{count_by, cond, ◌==◌}
 use Rattle.std.proofs.lemmas.List.Sums.{sum_by-cons}
 use Rattle.std.proofs.lemmas.Bool.Decides.{nat_tests}
-use Rattle.std.proofs.lemmas.Bool.{ne_eqb}
+use Rattle.std.proofs.lemmas.Bool.{ne_eqb, eq-eqb}
 use Rattle.jc_base.specs.Each.{IsAmong}
 
 -- each is at least the number before it and one, the first at least low, and all are below high
@@ -24,9 +24,6 @@ rises-append low mid high (x ∷ xs) ys r s = (r.0, below mid high ys (omega (ar
     below mid high [] lt s = omega arith
     below mid high (y ∷ ys) lt s = omega (arith, s.0, s.1)
 
-same-yes : (x : ℕ) → (x == x) ≡ true
-same-yes x = grind (arith, nat_tests)
-
 -- a number below all does not occur
 pub count-below : (low high l : ℕ) (xs : List ℕ) → l < low → Rises low high xs → count_by (λ m. m == l) xs ≡ 0
 count-below low high l [] lt r = refl
@@ -39,7 +36,7 @@ count-below low high l (x ∷ xs) lt r =
 pub count-among : (low high l : ℕ) (xs : List ℕ) → Rises low high xs → IsAmong l xs → count_by (λ m. m == l) xs ≡ 1
 count-among low high l [] r a = absurd a
 count-among low high l (x ∷ xs) r (inl e) =
-    let yes : (x == l) ≡ true = ap (λ k. x == k) (sym e) ∙ same-yes x in
+    let yes : (x == l) ≡ true = ap (λ k. x == k) (sym e) ∙ eq-eqb x x refl in
     sum_by-cons (λ m. cond (m == l) 1 0) x xs ∙ ap (λ b. cond b 1 0 + count_by (λ m. m == l) xs) yes
     ∙ omega (arith, count-below (suc x) high l xs (omega (arith, e)) r.2)
 count-among low high l (x ∷ xs) r (inr a) =

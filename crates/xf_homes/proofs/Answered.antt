@@ -1,12 +1,13 @@
 -- What is answered for a method of the world.
-use Rattle.std.proofs.Common.{◌≡◌, ℕ, ◌+◌, ◌<◌, ◌≤◌, inl, inr, Bool, true, false, List, length, Option, Some, None, IsSome}
-use Rattle.std.proofs.Common.{IsSomeAnd, IfSome, Result, Ok, Err, IfOk, IfErr, MatchBool, refl, sym, ◌∙◌, ap, subst, arith, length-take}
+use Rattle.std.proofs.Common.{◌≡◌, ℕ, ◌+◌, ◌<◌, ◌≤◌, inl, inr, List, length, Option, Some, None, IsSome}
+use Rattle.std.proofs.Common.{IsSomeAnd, IfSome, Result, Ok, Err, IfOk, IfErr, refl, sym, ◌∙◌, ap, subst, arith, length-take}
 use Rattle.std.specs.Prelude.{pos, is_some}
 use Rattle.std.proofs.lemmas.List.Elements.{All-contains}
 use Rattle.jc_base.specs.declared.ty.Ty.TheVariants.{Top}
 use Rattle.jc_base.specs.Laws.{SameTypeDecides}
-use Rattle.jc_base.specs.Linked.{IsMethod, IsCodeLength, lacks_code}
+use Rattle.jc_base.specs.Linked.{IsMethod, lacks_code}
 use Rattle.jc_base.specs.World.{Linked}
+use Rattle.jc_base.proofs.CodeLengths.{length-short}
 use Rattle.jc_decode.specs.declared.insn.Placed.{Placed}
 use Rattle.jc_decode.specs.Listing.{targets}
 use Rattle.jc_control.specs.Method.{Method, IsMethodOf}
@@ -94,12 +95,8 @@ module _ (w : Linked) (m : Method) (typing : List (Option Frame)) (typed : IsTyp
     answered-end (Err (Registers n)) h = record { homes = found; are = found-homes; more = h.more; count = h.count }
     answered-end (Err Memory) h = tt
 
-pub code-short : (w : Linked) (m : Method) → IsMethodOf w m → IsMethod w.infos w.pools w.classes m.rec → length m.code ≤ 65535
+pub code-short : (w : Linked) (m : Method) → IsMethodOf w m → IsMethod w.infos w.pools w.classes m.rec → length m.code ≤ 32767
 code-short w m mo method =
-    let most : m.rec.code_len ≤ 32767 = by (lacks_code w.classes m.rec) m.rec.code_len method.code in
+    let most : m.rec.code_len ≤ 32767 = length-short (lacks_code w.classes m.rec) m.rec.code_len method.code in
     let size : length m.code ≡ _ = ap length mo.code ∙ length-take m.rec.code_len _ in
     omega arith
-  where
-    by : (b : Bool) (n : ℕ) → MatchBool b (n ≡ 0) (IsCodeLength n) → n ≤ 32767
-    by true n h = omega (arith, h)
-    by false n h = h.most

@@ -1,10 +1,11 @@
 -- Homes as keys of tables: where each begins, and that no argument stands twice.
-use Rattle.std.proofs.Common.{◌≡◌, ℕ, zero, suc, ◌+◌, ◌<◌, ◌≤◌, ◌||◌, Bool, true, false, if◌then◌else◌, cond, not, List, []}
+use Rattle.std.proofs.Common.{◌≡◌, ℕ, suc, ◌+◌, ◌<◌, ◌≤◌, ◌||◌, Bool, true, false, if◌then◌else◌, cond, not, List, []}
 use Rattle.std.proofs.Common.{◌∷◌, ◌++◌, length, fold, Some, None, slice_get, position, refl, sym, ◌∙◌, ap, arith, append_assoc, drop}
 use Rattle.std.specs.Prelude.{nat_lt, get_or}
 use Rattle.std.proofs.lemmas.Bool.Decides.{nat_tests}
 use Rattle.std.specs.List.{list_any, position_or_len}
 use Rattle.std.proofs.lemmas.List.{append-nil, drop_more, drop_all}
+use Rattle.std.proofs.lemmas.Option.{slice_get_past}
 use Rattle.indexmap.specs.IndexSet.{insert_key, insert_all}
 use Rattle.jc_base.specs.declared.ty.Ty.{Ty}
 use Rattle.jc_base.specs.declared.ty.Ty.TheVariants.{IntLow, Class}
@@ -33,11 +34,6 @@ begins-length : (n : ℕ) (hs : List Home) → length (begins_from n hs) ≡ len
 begins-length n [] = refl
 begins-length n (h ∷ hs) = ap suc (begins-length (n + type_width h.ty) hs)
 
-none-past : (xs : List ℕ) (n : ℕ) → length xs ≤ n → slice_get xs n ≡ None
-none-past [] n le = refl
-none-past (x ∷ xs) zero le = absurd (omega arith)
-none-past (x ∷ xs) (suc n) le = none-past xs n (omega arith)
-
 -- the first register of a home, by its number
 pub register-at : (hs : List Home) (h : Home) (n : ℕ) → Some n ≡ position (λ k. same_home k h) hs
     → slice_get (begins_from 0 hs) n ≡ register_from 0 hs h
@@ -54,7 +50,8 @@ register-none hs h at = by (nat_lt (position_or_len (λ k. same_home k h) hs) (l
         → None ≡ cond b (Some (position_or_len (λ k. same_home k h) hs)) None → None ≡ register_from 0 hs h
     by true past e = absurd (cc)
     by false past e =
-        sym (begins-at 0 hs h ∙ none-past (begins_from 0 hs) (position_or_len (λ k. same_home k h) hs) (grind (arith, nat_tests, past, begins-length 0 hs)))
+        sym (begins-at 0 hs h ∙ slice_get_past (begins_from 0 hs) (position_or_len (λ k. same_home k h) hs)
+        (grind (arith, nat_tests, past, begins-length 0 hs)))
 
 -- ---- tables
 

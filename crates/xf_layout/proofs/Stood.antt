@@ -1,7 +1,7 @@
 -- Items that stand one after the other in a code are its listing, read as symbols.
-use Rattle.std.proofs.Common.{◌≡◌, ◌≤◌, ◌+◌, ℕ, zero, suc, Bool, true, false, cond, List, [], ◌∷◌, ◌++◌, length, refl, sym, ap}
+use Rattle.std.proofs.Common.{◌≡◌, ◌≤◌, ◌+◌, ℕ, zero, suc, Bool, true, false, cond, List, [], ◌∷◌, ◌++◌, length, refl, sym, ap, ◌<◌}
 use Rattle.std.proofs.Common.{◌∙◌, subst, arith, map, All, append_assoc, length-append}
-use Rattle.std.specs.Prelude.{ℤ, pos, ◌==◌}
+use Rattle.std.specs.Prelude.{ℤ, pos, ◌==◌, Contains}
 use Rattle.std.proofs.lemmas.List.Elements.{All-head, All-tail}
 use Rattle.jc_decode.specs.declared.insn.Insn.{Insn}
 use Rattle.jc_decode.specs.declared.insn.Placed.{Placed}
@@ -15,6 +15,7 @@ use Rattle.jc_decode.specs.Listing.{listing_from}
 use Rattle.jc_decode.specs.Laws.{ListingIsOne, NothingPastTheEnd}
 use Rattle.jc_decode.specs.Symbols.{Step, jump, place_of, steps_in, handler, IsOnce, IsItem, IsRange}
 use Rattle.jc_decode.specs.Standing.{StandsForStep, AreSteps}
+use Rattle.jc_decode.proofs.Elements.{Contains-first}
 use Rattle.xf_layout.specs.declared.form.Form.{Form}
 use Rattle.xf_layout.specs.declared.form.Form.TheVariants.{Fixed, Jump, Mark}
 use Rattle.xf_layout.specs.Form.{AreForms, form_bytes, label_place, instruction_place}
@@ -198,3 +199,13 @@ instruction-rises (Fixed b ∷ fs) (suc n) (suc m) h = omega (arith, instruction
 instruction-rises (Jump l w ∷ fs) zero m h = omega arith
 instruction-rises (Jump l w ∷ fs) (suc n) zero h = absurd (omega (arith, h))
 instruction-rises (Jump l w ∷ fs) (suc n) (suc m) h = omega (arith, instruction-rises fs n m (omega (arith, h)))
+
+-- where code has steps and all of its instructions stand within it, it is not empty
+pub first-listed : (code : List ℕ) (place : ℕ → ℕ) (ss : List Step) (ps : List Placed) → AreSteps code place 0 ss ps → 0 < length ss
+    → ((p : Placed) → Contains ps p → p.place < length code)
+    → 0 < length code
+first-listed code place [] ps are lt inside = absurd (omega (arith, lt))
+first-listed code place (s ∷ ss) [] are lt inside = absurd are
+first-listed code place (s ∷ ss) (p ∷ ps) are lt inside =
+    let there = inside p (Contains-first p ps) in
+    omega (arith, there)

@@ -91,7 +91,7 @@ get-set-other (y ∷ ys) (suc k) (suc n) x apart = get-set-other ys k n x (λ e.
 some-one : (a b : Node) → ◌≡◌ {A = Option Node} (Some a) (Some b) → a ≡ b
 some-one a b e = cc
 
-edge-is : (a b : Edge) → a.from ≡ b.from → a.to ≡ b.to → a ≡ b
+pub edge-is : (a b : Edge) → a.from ≡ b.from → a.to ≡ b.to → a ≡ b
 edge-is a b f t = ap (λ n. record a { «from» = n }) f ∙ ap (λ n. record b { to = n }) t
 
 pub linked : (uses : List Uses) (edges : List Edge) (edge : Edge) (old new : List Node) → AreNodesOf uses edges old → GetsEdge edge old new

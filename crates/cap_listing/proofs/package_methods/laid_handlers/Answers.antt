@@ -1,8 +1,9 @@
 use Rattle.std.proofs.Common.{◌∙◌, ◌++◌, ◌∷◌, [], ◌+◌, ◌-◌, map, take, ap, sym, subst}
 use Rattle.std.specs.Prelude.{All}
 use Rattle.cap_method.specs.MethodPart.{handlers_left}
+use Rattle.jc_resolve.proofs.Parts.{map_step}
 use Rattle.cap_listing.specs.Methods.{HasPlaces, laid_handler}
-use Rattle.cap_listing.proofs.Counted.{map_step, one_more}
+use Rattle.cap_listing.proofs.Counted.{one_more}
 use Rattle.cap_listing.proofs.package_methods.laid_handlers.Goals as goal
 
 pub handlers-preserved : goal.handlers-preserved

@@ -1,5 +1,6 @@
 -- a word that writes a number is read as that number, and prints as it stands
-use Rattle.cap_text.proofs.Numerals.{short_is_read, no_short}
+use Rattle.cap_listing.proofs.Cuts.{count-read}
+use Rattle.cap_text.proofs.Numerals.{no_short}
 use Rattle.cap_text.proofs.word.short_number.Goals as goal
 
 pub returns-in_default-clause-none : goal.returns-in_default-clause-none
@@ -8,4 +9,4 @@ returns-in_default-clause-none c =
 
 pub returns-in_default-2-clause-none : goal.returns-in_default-2-clause-none
 returns-in_default-2-clause-none c = λ n fits w.
-    let read = short_is_read c.args.word.now c.parse.result n c.parse.ensures.value.0 fits w in cc
+    let read = count-read c.args.word.now c.parse.result n c.parse.ensures.value.0 fits w in cc

@@ -1,5 +1,5 @@
 use Rattle.jc_base.specs.declared.ty.Ty.TheVariants.{Bottom}
-use Rattle.vm_bound.proofs.Accepting.{accepted-typed}
+use Rattle.card_verify.proofs.Accepting.{accepted-typed}
 use Rattle.vm_bound.proofs.bounding.most_of.Goals as goal
 
 pub returns-clause-runs : goal.returns-clause-runs

@@ -3,7 +3,7 @@ use Rattle.jc_base.specs.declared.ty.Ty.TheVariants.{Bottom}
 use Rattle.jc_base.specs.World.{Linked}
 use Rattle.law_sound.specs.Soundness.{IsFaultFree}
 use Rattle.vm_offend.specs.Held.{IsRunOf}
-use Rattle.vm_offend.proofs.Accepting.{accepted-typed}
+use Rattle.card_verify.proofs.Accepting.{accepted-typed}
 use Rattle.vm_offend.proofs.Beginning.{begun-run}
 use Rattle.vm_offend.proofs.starting.start.Goals as goal
 

@@ -1,7 +1,7 @@
 use Rattle.std.proofs.Common.{◌≡◌, ◌++◌, ◌∙◌, sym, subst}
 use Rattle.std.specs.Prelude.{OnOk}
 use Rattle.xf_homes.specs.PlannedMethod.{source}
-use Rattle.xf_code.proofs.Bodies.{body-branch}
+use Rattle.law_groups.proofs.BareForks.{body-branch}
 use Rattle.xf_code.proofs.group.instruction.Goals as goal
 
 pub returns-clause-items : goal.returns-clause-items

@@ -1,4 +1,4 @@
-use Rattle.std.proofs.Common.{◌≡◌, ◌<◌, Some, option_map, slice_get, ◌∙◌, ap}
+use Rattle.std.proofs.Common.{◌≡◌, ◌<◌, Some, option_map, slice_get, ◌∙◌, ap, arith}
 use Rattle.jc_base.specs.World.{code_of}
 use Rattle.jc_control.specs.Method.{Method, IsMethodOf, method_in}
 use Rattle.jc_control.specs.ControlFlow.{IsControlFlow}
@@ -73,5 +73,6 @@ find-requires-clause-short c =
     let w = c.args.world.now in
     let bytes : option_map (code_of w.infos) (slice_get w.methods c.args.method) ≡ Some c.of.result.bytes.now = cc in
     let m : Method = record { number = c.args.method; rec = c.method-rec.result.now; code = c.of.result.bytes.now } in
-    code-short w m (of-method w c.args.method c.method-rec.result.now c.of.result.bytes.now c.method-rec.ensures.is bytes (IsMethodOf w)
-    c.in-Ok.ensures.known) c.method-rec.ensures.links
+    let short = code-short w m (of-method w c.args.method c.method-rec.result.now c.of.result.bytes.now c.method-rec.ensures.is bytes (IsMethodOf w)
+    c.in-Ok.ensures.known) c.method-rec.ensures.links in
+    omega (arith, short)

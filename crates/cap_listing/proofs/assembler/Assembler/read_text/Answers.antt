@@ -1,8 +1,9 @@
 use Rattle.std.proofs.Common.{◌≡◌, ℕ, [], length, None, sym, ap, subst, arith}
+use Rattle.std.proofs.lemmas.List.{nil_from_length}
 use Rattle.cap_listing.specs.Text.{Lists}
 use Rattle.cap_listing.specs.Fault.{IsNotListing}
 use Rattle.cap_listing.specs.Assembler.{state_of}
-use Rattle.cap_listing.proofs.Added.{match-yes, match-no, state-none, none-begun, if-some, if-none, empty-bytes}
+use Rattle.cap_listing.proofs.Added.{match-yes, match-no, state-none, none-begun, if-some, if-none}
 use Rattle.cap_listing.proofs.Progress.{nothing-read, one-read, few-read, line-bad, cut-short, whole-text}
 use Rattle.cap_listing.proofs.assembler.Assembler.read_text.Goals as goal
 
@@ -36,7 +37,7 @@ returns-clause-whole c =
     let ms = c.lines.self.methods.items in
     let begun = c.lines.self.begun in
     if-none c.end_text.result ((length rest ≡ 0) × (begun ≡ None)) (Lists ms text)
-    (λ p. whole-text text rest c.lines.number (state_of c.lines.self) c.lines.invariant.so_far ms (empty-bytes rest p.0) (state-none ms begun p.1))
+    (λ p. whole-text text rest c.lines.number (state_of c.lines.self) c.lines.invariant.so_far ms (nil_from_length rest p.0) (state-none ms begun p.1))
     c.end_text.ensures.whole
 
 pub returns-clause-fault : goal.returns-clause-fault
