@@ -20,7 +20,7 @@ use Rattle.capcheck_core.specs.declared.verdict.Verdict.{Verdict}
 use Rattle.capcheck_core.specs.declared.verdict.Verdict.TheVariants.{Refused, Memory}
 use Rattle.jc_control.specs.Asked.{AllHaveBelow}
 use Rattle.vm_offend.proofs.Accepting.{accepted-typed}
-use Rattle.xf_pack.proofs.Passing.{method-is}
+use Rattle.xf_last.proofs.Passing.{method-is}
 use Rattle.capcheck_core.specs.Typed.{numbers_of_method}
 use Rattle.xf_share.specs.Ends.{HaveCardTypings}
 use Rattle.capcheck_core.specs.Verify.{TellsAccepted, TellsRefused, StopsAtRefused, AcceptsWorld}

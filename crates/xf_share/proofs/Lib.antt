@@ -1,9 +1,4 @@
-mod OwnMethods
 mod Elements
-mod Headers
-mod Handlers
-mod Suited
-mod Served
 mod Written
 pub mod Passing
 mod Leading

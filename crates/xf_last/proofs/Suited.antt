@@ -1,5 +1,5 @@
 -- What is laid for the methods of the last package is what its writer takes.
-use Rattle.std.proofs.Common.{◌≡◌, ℕ, suc, ◌+◌, ◌-◌, ◌<◌, ◌≤◌, Bool, true, false, MatchBool, cond, min, List, [], ◌∷◌}
+use Rattle.std.proofs.Common.{◌≡◌, ℕ, ◌+◌, ◌-◌, ◌≤◌, Bool, true, false, MatchBool, cond, min, List, [], ◌∷◌}
 use Rattle.std.proofs.Common.{◌++◌, length, map, drop, Option, Some, None, refl, sym, ap, subst, ◌∙◌, inl, inr, arith, length-take}
 use Rattle.std.specs.Prelude.{slice_get, slice_index}
 use Rattle.std.proofs.lemmas.List.{length-map, length-drop}
@@ -17,7 +17,8 @@ use Rattle.jc_base.specs.declared.record.Sig.{Sig}
 use Rattle.jc_base.specs.Linked.{IsCodeLength}
 use Rattle.jc_base.specs.World.{Linked}
 use Rattle.jc_decode.specs.declared.symbols.Laid.{Laid}
-use Rattle.jc_link.specs.World.{IsLinked}
+use Rattle.jc_base.proofs.Lists.{slice_get-farther}
+use Rattle.jc_link.specs.World.{IsLinked, class_conditions, member_conditions, table_conditions}
 use Rattle.jc_resolve.specs.declared.method_records.Body.{Body}
 use Rattle.jc_resolve.specs.Conditions.{conditions}
 use Rattle.jc_resolve.specs.NamedMethods.{body_after, body_of, handler_named, have_headers, named_method, no_body, offset_in_info}
@@ -26,12 +27,12 @@ use Rattle.jc_resolve.specs.WorldTypes.{declared_signature}
 use Rattle.jc_resolve.proofs.Faultless.{IsOneOf}
 use Rattle.jc_resolve.proofs.MethodFacts.{IsPlaced, is-placed}
 use Rattle.jc_resolve.proofs.NumberedLaws.{from-any, from-class}
+use Rattle.jc_resolve.proofs.OwnClasses.{own-reference}
 use Rattle.law_relink.specs.Last.{and_last}
-use Rattle.xf_pack.specs.Passes.{BeginsLast, EachFrom, IsLaidAt, IsLaidWell, FitsMethod}
-use Rattle.xf_pack.proofs.Elements.{AreWell, own-well}
-use Rattle.xf_pack.proofs.Handlers.{entry_count, entry_sum, entries-within}
-use Rattle.xf_pack.proofs.Headers.{headers, no-headers}
-use Rattle.xf_pack.proofs.OwnMethods.{own_of}
+use Rattle.xf_last.specs.Fits.{AreFit, FitsElement, FitsMethod}
+use Rattle.xf_last.proofs.Handlers.{entry_count, entry_sum, entries-within}
+use Rattle.xf_last.proofs.Headers.{headers, no-headers}
+use Rattle.xf_last.proofs.OwnMethods.{own_of}
 
 -- ---- an element and the handlers that it may have
 
@@ -105,11 +106,22 @@ room-all many set (c ∷ cs) = by (set c.class_ref) (room-all many set cs)
         let last = entry-append many c.methods (methods_but set cs) in
         omega (arith, first, here, last, others)
 
+empty-before : {F : Type 0} (xs ys : List (List F)) → AllEmpty (xs ++ ys) → AllEmpty xs
+empty-before [] ys none = tt {0}
+empty-before (x ∷ xs) ys none = (none.0, empty-before xs ys none.1)
+
 -- ---- a method of the world and its record in the Descriptor
 
-module _ (ps : List PackageRecord) (p : PackageRecord) (roles : List ℕ) (agreed : StandsFor p.parts p) (none : AllEmpty (conditions (and_last ps p)))
-    (at : slice_get (and_last ps p) (length ps) ≡ Some p) (internal : (c : ClassDescriptor) → IsOneOf p.description.items.classes c
-    → c.class_ref < 0x8000) where
+module _ (ps : List PackageRecord) (p : PackageRecord) (roles : List ℕ) (w : Linked) (linked : IsLinked (and_last ps p) roles w)
+    (agreed : StandsFor p.parts p) where
+  none : AllEmpty (conditions (and_last ps p))
+  none =
+      empty-before (conditions (and_last ps p)) (class_conditions (and_last ps p) roles)
+      (empty-before (table_conditions (and_last ps p) roles) (member_conditions (and_last ps p) roles) linked.faultless)
+
+  at : slice_get (and_last ps p) (length ps) ≡ Some p
+  at = slice_get-farther ps (p ∷ []) 0 (length ps) (omega arith)
+
   abbrev method_of : ℕ → ClassDescriptor → ℕ → MethodDescriptor → MethodRec
   method_of i c j m = named_method (and_last ps p) roles (numbered_method (length ps) p i c j m)
 
@@ -136,12 +148,12 @@ module _ (ps : List PackageRecord) (p : PackageRecord) (roles : List ℕ) (agree
   unfolding body_of
   bodiless c m e = rw (no-headers (and_last ps p) (length ps) p at c e) refl
 
-  interface-suits : (many i j : ℕ) (c : ClassDescriptor) (m : MethodDescriptor) (w : Linked) (n : ℕ) (l : Option Laid)
-      → names_interface p.classes c.class_ref ≡ true → IsLaidWell w n l (method_of i c j m) → Suits p.methods.info many None l
-  interface-suits many i j c m w n None e h = record { element = tt {0}; few = omega arith }
-  interface-suits many i j c m w n (Some l) e h =
+  interface-suits : (many i j : ℕ) (c : ClassDescriptor) (m : MethodDescriptor) (l : Option Laid)
+      → names_interface p.classes c.class_ref ≡ true → FitsElement (method_of i c j m) l → Suits p.methods.info many None l
+  interface-suits many i j c m None e h = record { element = tt {0}; few = omega arith }
+  interface-suits many i j c m (Some l) e h =
       let empty : (method_of i c j m).code_len ≡ 0 = code-len i j c m ∙ ap (λ (b : Body). b.code_len) (bodiless c m e) in
-      let some = h.is.0 in
+      let some = h.0 in
       absurd (omega (arith, empty, some))
 
   -- the body of a method of a class
@@ -149,7 +161,7 @@ module _ (ps : List PackageRecord) (p : PackageRecord) (roles : List ℕ) (agree
       → names_interface p.classes c.class_ref ≡ false
       → body c m ≡ body_after (and_last ps p) (slice_index roles 1) (length ps) p m x.header (offset_in_info (m.method_offset + x.header.size))
   unfolding body_of
-  with-body c m x one e = rw (headers (and_last ps p) (length ps) p at c none one (internal c one) e, x.there) refl
+  with-body c m x one e = rw (headers (and_last ps p) (length ps) p at c none one (own-reference p agreed c one) e, x.there) refl
 
   same-header : (h k : Header) (o : Option Header) → o ≡ Some h → o ≡ Some k → h ≡ k
   same-header h k o e f = let both : Some h ≡ Some k = sym e ∙ f in cc
@@ -158,19 +170,19 @@ module _ (ps : List PackageRecord) (p : PackageRecord) (roles : List ℕ) (agree
   abstract-by true n h e = refl
   abstract-by false n h e = let some = h.least in absurd (omega (arith, some, e))
 
-  class-suits : (i j : ℕ) (c : ClassDescriptor) (m : MethodDescriptor) (w : Linked) (n : ℕ) (l : Option Laid) → IsOneOf p.description.items.classes c
+  class-suits : (i j : ℕ) (c : ClassDescriptor) (m : MethodDescriptor) (l : Option Laid) → IsOneOf p.description.items.classes c
       → IsOneOf c.methods m
-      → names_interface p.classes c.class_ref ≡ false → IsLaidWell w n l (method_of i c j m)
+      → names_interface p.classes c.class_ref ≡ false → FitsElement (method_of i c j m) l
       → Suits p.methods.info (length p.methods.handlers) (Some m) l
-  class-suits i j c m w n l one own e h =
+  class-suits i j c m l one own e h =
       let x = is-placed p agreed m (from-class (names_interface p.classes) p.description.items.classes c m one e own)
       (from-any p.description.items.classes c m one own) in
       by l x h
     where
-      by : (l : Option Laid) (x : IsPlaced p m) → IsLaidWell w n l (method_of i c j m) → Suits p.methods.info (length p.methods.handlers) (Some m) l
+      by : (l : Option Laid) (x : IsPlaced p m) → FitsElement (method_of i c j m) l → Suits p.methods.info (length p.methods.handlers) (Some m) l
       by None x h =
           let count : (method_of i c j m).code_len ≡ m.bytecode_count = code-len i j c m ∙ ap (λ (b : Body). b.code_len) (with-body c m x one e) in
-          let empty : m.bytecode_count ≡ 0 = sym count ∙ h.is in
+          let empty : m.bytecode_count ≡ 0 = sym count ∙ h in
           record {
             element =
                 λ header there. subst (λ (g : Header). is_abstract g ≡ true)
@@ -179,7 +191,7 @@ module _ (ps : List PackageRecord) (p : PackageRecord) (roles : List ℕ) (agree
             few = omega arith;
           }
       by (Some laid) x h =
-          let s : FitsMethod (method_of i c j m) laid = h.sound in
+          let s : FitsMethod (method_of i c j m) laid = h.1 in
           let nargs : (method_of i c j m).nargs ≡ x.header.nargs = nargs-of i j c m ∙ ap (λ (b : Body). b.nargs) (with-body c m x one e) in
           let code_at = offset_in_info (m.method_offset + x.header.size) in
           let held : length (method_of i c j m).handlers ≡ min m.handler_count (length p.methods.handlers - m.handler_index) =
@@ -198,53 +210,52 @@ module _ (ps : List PackageRecord) (p : PackageRecord) (roles : List ℕ) (agree
 
   -- ---- all methods
 
-  in-interface : (w : Linked) (i : ℕ) (c : ClassDescriptor) → names_interface p.classes c.class_ref ≡ true
-      → (j : ℕ) (ms : List MethodDescriptor) (others : List NumberedMethod) (tail : List (Option MethodDescriptor)) (n : ℕ) (ls : List (Option Laid))
-      → ((k : ℕ) (ls' : List (Option Laid)) → AreWell w k (map (named_method (and_last ps p) roles) others) ls'
+  in-interface : (i : ℕ) (c : ClassDescriptor) → names_interface p.classes c.class_ref ≡ true
+      → (j : ℕ) (ms : List MethodDescriptor) (others : List NumberedMethod) (tail : List (Option MethodDescriptor)) (ls : List (Option Laid))
+      → ((ls' : List (Option Laid)) → AreFit (map (named_method (and_last ps p) roles) others) ls'
       → AreSuited p.methods.info (length p.methods.handlers) tail ls')
-      → AreWell w n (map (named_method (and_last ps p) roles) (methods_of_class (length ps) p i c j ms ++ others)) ls
+      → AreFit (map (named_method (and_last ps p) roles) (methods_of_class (length ps) p i c j ms ++ others)) ls
       → AreSuited p.methods.info (length p.methods.handlers) (map no_method ms ++ tail) ls
-  in-interface w i c e j [] others tail n ls go well = go n ls well
-  in-interface w i c e j (m ∷ ms) others tail n [] go well = absurd well
-  in-interface w i c e j (m ∷ ms) others tail n (l ∷ ls) go well =
-      (interface-suits (length p.methods.handlers) i j c m w n l e well.0, in-interface w i c e (j + 1) ms others tail (suc n) ls go well.1)
+  in-interface i c e j [] others tail ls go fit = go ls fit
+  in-interface i c e j (m ∷ ms) others tail [] go fit = absurd fit
+  in-interface i c e j (m ∷ ms) others tail (l ∷ ls) go fit =
+      (interface-suits (length p.methods.handlers) i j c m l e fit.0, in-interface i c e (j + 1) ms others tail ls go fit.1)
 
-  in-class : (w : Linked) (i : ℕ) (c : ClassDescriptor) → IsOneOf p.description.items.classes c → names_interface p.classes c.class_ref ≡ false
+  in-class : (i : ℕ) (c : ClassDescriptor) → IsOneOf p.description.items.classes c → names_interface p.classes c.class_ref ≡ false
       → (j : ℕ) (ms : List MethodDescriptor) → ((m : MethodDescriptor) → IsOneOf ms m → IsOneOf c.methods m)
-      → (others : List NumberedMethod) (tail : List (Option MethodDescriptor)) (n : ℕ) (ls : List (Option Laid))
-      → ((k : ℕ) (ls' : List (Option Laid)) → AreWell w k (map (named_method (and_last ps p) roles) others) ls'
+      → (others : List NumberedMethod) (tail : List (Option MethodDescriptor)) (ls : List (Option Laid))
+      → ((ls' : List (Option Laid)) → AreFit (map (named_method (and_last ps p) roles) others) ls'
       → AreSuited p.methods.info (length p.methods.handlers) tail ls')
-      → AreWell w n (map (named_method (and_last ps p) roles) (methods_of_class (length ps) p i c j ms ++ others)) ls
+      → AreFit (map (named_method (and_last ps p) roles) (methods_of_class (length ps) p i c j ms ++ others)) ls
       → AreSuited p.methods.info (length p.methods.handlers) (map (λ m. Some m) ms ++ tail) ls
-  in-class w i c one e j [] among others tail n ls go well = go n ls well
-  in-class w i c one e j (m ∷ ms) among others tail n [] go well = absurd well
-  in-class w i c one e j (m ∷ ms) among others tail n (l ∷ ls) go well =
-      (class-suits i j c m w n l one (among m (inl refl)) e well.0, in-class w i c one e (j + 1) ms (λ k h. among k (inr h)) others tail (suc n) ls go well.1)
+  in-class i c one e j [] among others tail ls go fit = go ls fit
+  in-class i c one e j (m ∷ ms) among others tail [] go fit = absurd fit
+  in-class i c one e j (m ∷ ms) among others tail (l ∷ ls) go fit =
+      (class-suits i j c m l one (among m (inl refl)) e fit.0, in-class i c one e (j + 1) ms (λ k h. among k (inr h)) others tail ls go fit.1)
 
-  in-classes : (w : Linked) (i : ℕ) (cs : List ClassDescriptor) → ((c : ClassDescriptor) → IsOneOf cs c → IsOneOf p.description.items.classes c)
-      → (n : ℕ) (ls : List (Option Laid))
-      → AreWell w n (map (named_method (and_last ps p) roles) (methods_of_classes (length ps) p i cs)) ls
+  in-classes : (i : ℕ) (cs : List ClassDescriptor) → ((c : ClassDescriptor) → IsOneOf cs c → IsOneOf p.description.items.classes c)
+      → (ls : List (Option Laid))
+      → AreFit (map (named_method (and_last ps p) roles) (methods_of_classes (length ps) p i cs)) ls
       → AreSuited p.methods.info (length p.methods.handlers) (methods_for (names_interface p.classes) cs) ls
-  in-classes w i [] among n [] well = tt {0}
-  in-classes w i [] among n (l ∷ ls) well = absurd well
-  in-classes w i (c ∷ cs) among n ls well =
-      by (names_interface p.classes c.class_ref) refl (λ k others h. in-classes w (i + 1) cs (λ d one. among d (inr one)) k others h)
+  in-classes i [] among [] fit = tt {0}
+  in-classes i [] among (l ∷ ls) fit = absurd fit
+  in-classes i (c ∷ cs) among ls fit =
+      by (names_interface p.classes c.class_ref) refl (λ others h. in-classes (i + 1) cs (λ d one. among d (inr one)) others h)
     where
       by : (b : Bool) → names_interface p.classes c.class_ref ≡ b
-          → ((k : ℕ) (others : List (Option Laid))
-          → AreWell w k (map (named_method (and_last ps p) roles) (methods_of_classes (length ps) p (i + 1) cs)) others
+          → ((others : List (Option Laid))
+          → AreFit (map (named_method (and_last ps p) roles) (methods_of_classes (length ps) p (i + 1) cs)) others
           → AreSuited p.methods.info (length p.methods.handlers) (methods_for (names_interface p.classes) cs) others)
           → AreSuited p.methods.info (length p.methods.handlers)
           ((cond b (map no_method c.methods) (map (λ m. Some m) c.methods)) ++ methods_for (names_interface p.classes) cs) ls
-      by true e go = in-interface w i c e 0 c.methods (methods_of_classes (length ps) p (i + 1) cs) (methods_for (names_interface p.classes) cs) n ls go well
+      by true e go = in-interface i c e 0 c.methods (methods_of_classes (length ps) p (i + 1) cs) (methods_for (names_interface p.classes) cs) ls go fit
       by false e go =
-          in-class w i c (among c (inl refl)) e 0 c.methods (λ m h. h) (methods_of_classes (length ps) p (i + 1) cs)
-          (methods_for (names_interface p.classes) cs) n ls go well
+          in-class i c (among c (inl refl)) e 0 c.methods (λ m h. h) (methods_of_classes (length ps) p (i + 1) cs)
+          (methods_for (names_interface p.classes) cs) ls go fit
 
-  may-be : (w : Linked) (n : ℕ) (laid : List (Option Laid)) → AreWell w n (own_of ps p roles) laid → length p.methods.handlers ≤ 255
-      → MayBeLaid p laid
-  may-be w n laid well few =
-      let suited = in-classes w 0 p.description.items.classes (λ c h. h) n laid well in
+  pub may-be-laid : (laid : List (Option Laid)) → AreFit (own_of ps p roles) laid → length p.methods.handlers ≤ 255 → MayBeLaid p laid
+  may-be-laid laid fit few =
+      let suited = in-classes 0 p.description.items.classes (λ c h. h) laid fit in
       let sum = sum-of p.methods.info (length p.methods.handlers) (methods_for (names_interface p.classes) p.description.items.classes) laid suited in
       let room = room-all (length p.methods.handlers) (names_interface p.classes) p.description.items.classes in
       let within = entries-within p agreed in
@@ -252,21 +263,3 @@ module _ (ps : List PackageRecord) (p : PackageRecord) (roles : List ℕ) (agree
         elements = elements-of p.methods.info (length p.methods.handlers) (methods_for (names_interface p.classes) p.description.items.classes) laid suited;
         few = omega (arith, sum, room, within, few);
       }
-
-at-last : (ps : List PackageRecord) (p : PackageRecord) → slice_get (and_last ps p) (length ps) ≡ Some p
-at-last [] p = refl
-at-last (q ∷ ps) p = at-last ps p
-
-names-faultless : (qs : List PackageRecord) (roles : List ℕ) (w : Linked) → IsLinked qs roles w → AllEmpty (conditions qs)
-names-faultless qs roles w linked =
-    let f = linked.faultless in
-    (f.0, (f.1.0, (f.1.1.0, (f.1.1.1.0, (f.1.1.1.1.0, tt {0})))))
-
-pub may-be-laid : (ps : List PackageRecord) (p : PackageRecord) (roles : List ℕ) (w : Linked) (linked : IsLinked (and_last ps p) roles w) (first : ℕ)
-    (is : BeginsLast w first)
-    (laid : List (Option Laid)) (each : EachFrom (IsLaidAt w) first laid) (all : first + length laid ≡ length w.methods)
-    → StandsFor p.parts p → ((c : ClassDescriptor) → IsOneOf p.description.items.classes c → c.class_ref < 0x8000)
-    → length p.methods.handlers ≤ 255 → MayBeLaid p laid
-may-be-laid ps p roles w linked first is laid each all agreed internal few =
-    may-be ps p roles agreed (names-faultless (and_last ps p) roles w linked) (at-last ps p) internal w first laid
-    (own-well ps p roles w linked first is laid each all) few
