@@ -5,9 +5,13 @@ use Rattle.std.proofs.Math.Nat.{eq-or-lt_of_le}
 use Rattle.std.proofs.lemmas.Bool.{cases_lt}
 use Rattle.std.proofs.lemmas.List.{length-drop}
 use Rattle.std.proofs.lemmas.Option.{slice_get_within}
+use Rattle.card_typing.specs.declared.fault.CardFault.{CardFault}
+use Rattle.card_typing.specs.Typing.{HasCardTyping}
+use Rattle.card_verify.specs.Answers.{AreAccepted, AreAcceptedBefore, IsRefusedAt}
 use Rattle.jc_base.specs.declared.record.MethodRec.{MethodRec}
 use Rattle.jc_base.specs.Linked.{IsMethod, list_at}
-use Rattle.jc_base.specs.World.{Linked, code_of}
+use Rattle.jc_base.specs.World.{Linked, IsWorld, code_of}
+use Rattle.jc_base.proofs.Lists.{All-slice_get}
 use Rattle.jc_control.specs.Asked.{AllHave, AllHaveBelow, IsOfLast, IsOfLibrary}
 use Rattle.jc_control.specs.Method.{Method, IsMethodOf, method_with}
 use Rattle.xf_last.specs.Last.{BeginsLast}
@@ -51,6 +55,18 @@ module _ (w : Linked) (Asks Has : Method → Type 0) (of : (m : Method) → Asks
 
   pub below-all : (n : ℕ) → length w.methods ≤ n → AllHaveBelow Asks Has n → AllHave Asks Has
   below-all n le below = λ m asked. below m asked (let lt = slice_get_within w.methods m.number m.rec (of m asked).rec in omega (arith, lt, le))
+
+-- ---- those that a card's verifier accepts, and the first that it refuses
+
+pub below-carded : (w : Linked) (n : ℕ) → AreAcceptedBefore w n → AllHaveBelow (IsMethodOf w) (HasCardTyping w) n
+below-carded w n all m is lt = subst (HasCardTyping w) (method-is w m is) (all m.number lt m.rec is.rec (has-code w m is)).card
+
+pub all-carded : (w : Linked) → AreAccepted w → AllHave (IsMethodOf w) (HasCardTyping w)
+all-carded w all m is = below-carded w (length w.methods) all m is (slice_get_within w.methods m.number m.rec is.rec)
+
+pub refused-method : (w : Linked) → IsWorld w → (n : ℕ) (fault : CardFault) (r : IsRefusedAt w n fault) → IsMethodOf w (method_with w n r.rec)
+refused-method w world n fault r =
+    method-of w n r.rec r.is (All-slice_get (IsMethod w.infos w.pools w.classes) w.methods n r.rec world.methods r.is) r.has_code
 
 -- ---- the methods of libraries, and those of the last package
 

@@ -1,6 +1,6 @@
 mod Elements
 mod Filled
 mod Sound
-pub mod Passing
+mod Passing
 mod Coded
 mod Written

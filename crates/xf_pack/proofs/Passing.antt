@@ -1,15 +1,10 @@
--- The passes over the methods of libraries and of the last package, one method after the other.
+-- The passes over the methods of the last package, one method after the other.
 use Rattle.std.proofs.Common.{◌≡◌, ℕ, ◌+◌, ◌<◌, ◌≤◌, List, Option, Some, None, option_map, IsSomeAnd, slice_get, refl, subst, arith}
 use Rattle.cap_package.specs.PackageRecord.{PackageRecord}
-use Rattle.card_typing.specs.declared.fault.CardFault.{CardFault}
-use Rattle.card_typing.specs.Typing.{HasCardTyping}
-use Rattle.card_verify.specs.Answers.{IsAcceptedAt, IsRefusedAt}
 use Rattle.jc_base.specs.declared.record.MethodRec.{MethodRec}
 use Rattle.jc_base.specs.declared.ty.Ty.TheVariants.{Top}
-use Rattle.jc_base.specs.Linked.{IsMethod}
-use Rattle.jc_base.specs.World.{Linked, IsWorld}
-use Rattle.jc_base.proofs.Lists.{All-slice_get}
-use Rattle.jc_control.specs.Asked.{AllHaveBelow, IsOfLast, IsOfLibrary}
+use Rattle.jc_base.specs.World.{Linked}
+use Rattle.jc_control.specs.Asked.{AllHaveBelow, IsOfLast}
 use Rattle.jc_control.specs.Method.{Method, method_in, method_with}
 use Rattle.jc_decode.specs.declared.symbols.Laid.{Laid}
 use Rattle.jc_flow.specs.declared.end.FlowEnd.{FlowEnd}
@@ -21,42 +16,16 @@ use Rattle.jc_rules.specs.Typing.{state_at}
 use Rattle.law_transform.specs.Laid.{HasLaidCode, IsLaidElement}
 use Rattle.xf_last.specs.Fits.{IsFitting}
 use Rattle.xf_last.specs.Last.{BeginsLast}
-use Rattle.xf_last.proofs.Passing.{below-more, library-below, method-of}
+use Rattle.xf_last.proofs.Passing.{below-more}
 use Rattle.xf_pack.specs.declared.end.MethodLimit.{MethodLimit}
 use Rattle.xf_pack.specs.declared.unlaid.LayingEnd.{LayingEnd}
 use Rattle.xf_pack.specs.declared.unlaid.LayingEnd.TheVariants as laying
-use Rattle.xf_pack.specs.Ends.{AreAcceptedLibraries, IsLimited, IsRefusedLibrary, IsTypedLast, IsUntypedLast, TellsOf}
+use Rattle.xf_pack.specs.Ends.{AreAcceptedLibraries, IsLimited, IsTypedLast, IsUntypedLast, TellsOf}
 use Rattle.xf_pack.specs.Passes.{IsKeptTyping, IsLaidAt, IsTypingAt}
 use Rattle.xf_pack.specs.Unlaid.{IsUnlaid, TellsUnlaid, unlaid}
 use Rattle.xf_pack.specs.Untyped.{HasNoTyping, IsUntyped, untyped}
 
 module _ (w : Linked) (first : ℕ) (is : BeginsLast w first) where
-  -- ---- libraries
-
-  pub library-more : (n : ℕ) → AllHaveBelow (IsOfLibrary w) (HasCardTyping w) n → IsAcceptedAt w n
-      → AllHaveBelow (IsOfLibrary w) (HasCardTyping w) (n + 1)
-  library-more n below accepted =
-      below-more w (IsOfLibrary w) (HasCardTyping w) (λ m of. of.method) n below (λ r at some. (accepted r at some).card)
-
-  pub library-all : (n : ℕ) → first ≤ n → AllHaveBelow (IsOfLibrary w) (HasCardTyping w) n → AreAcceptedLibraries w
-  library-all n le below = λ m of. below m of (let lt = library-below w first is m of in omega (arith, lt, le))
-
-  pub refused-library : IsWorld w → (n : ℕ) (fault : CardFault) → n < first → AllHaveBelow (IsOfLibrary w) (HasCardTyping w) n
-      → IsRefusedAt w n fault → IsRefusedLibrary w n fault
-  refused-library world n fault lt below refused =
-      let method = All-slice_get (IsMethod w.infos w.pools w.classes) w.methods n refused.rec world.methods refused.is in
-      record {
-        method = method_with w n refused.rec;
-        numbered = refl;
-        first = record {
-          asked = record { method = method-of w n refused.rec refused.is method refused.has_code; before = is.before n refused.rec refused.is lt };
-          earlier = below;
-          lacks = refused.refused.none;
-        };
-        kept = refused.refused.kept;
-        refused = refused.refused.refused;
-      }
-
   -- ---- typings
 
   has-typing : (n : ℕ) (kept : Option (List (Option Frame))) (r : MethodRec) → 0 < r.code_len → IsKeptTyping w n r kept

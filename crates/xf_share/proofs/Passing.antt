@@ -1,53 +1,20 @@
--- The passes over all methods and over those of the last package, one method after the other.
-use Rattle.std.proofs.Common.{◌≡◌, ℕ, ◌+◌, ◌<◌, ◌≤◌, List, length, Option, Some, None, option_map, IsSomeAnd, slice_get, refl, subst, arith}
+-- The passes over the methods of the last package, one method after the other.
+use Rattle.std.proofs.Common.{◌≡◌, ℕ, ◌+◌, ◌<◌, ◌≤◌, List, Option, Some, None, option_map, IsSomeAnd, slice_get, refl, subst, arith}
 use Rattle.cap_package.specs.PackageRecord.{PackageRecord}
-use Rattle.card_typing.specs.declared.fault.CardFault.{CardFault}
-use Rattle.card_typing.specs.Typing.{HasCardTyping}
-use Rattle.card_verify.specs.Answers.{IsAcceptedAt, IsRefusedAt}
 use Rattle.jc_base.specs.declared.record.MethodRec.{MethodRec}
-use Rattle.jc_base.specs.Linked.{IsMethod}
-use Rattle.jc_base.specs.World.{Linked, IsWorld}
-use Rattle.jc_base.proofs.Lists.{All-slice_get}
+use Rattle.jc_base.specs.World.{Linked}
 use Rattle.jc_control.specs.Asked.{AllHaveBelow, IsOfLast}
-use Rattle.jc_control.specs.Method.{IsMethodOf, method_in, method_with}
+use Rattle.jc_control.specs.Method.{method_in, method_with}
 use Rattle.jc_decode.specs.declared.symbols.Laid.{Laid}
 use Rattle.law_shared_world.specs.SharedCode.{HasSharedCode, IsSharedElement}
 use Rattle.xf_last.specs.Fits.{IsFitting}
 use Rattle.xf_last.specs.Last.{BeginsLast}
-use Rattle.xf_last.proofs.Passing.{below-all, below-more, method-of}
+use Rattle.xf_last.proofs.Passing.{below-more}
 use Rattle.xf_layout.specs.declared.symbols.LayEnd.{LayEnd}
 use Rattle.xf_layout.specs.declared.symbols.LayEnd.TheVariants.{MethodLong, Memory}
-use Rattle.xf_share.specs.Ends.{HaveCardTypings, IsRefusedFirst, IsSharedTooLong, TellsOf}
+use Rattle.xf_share.specs.Ends.{HaveCardTypings, IsSharedTooLong, TellsOf}
 use Rattle.xf_share.specs.Passes.{IsSharedAt}
 use Rattle.xf_share.specs.Unlaid.{IsSharedLong, TellsUnlaid, unlaid}
-
--- ---- acceptance
-
-module _ (w : Linked) where
-  pub accepted-more : (n : ℕ) → AllHaveBelow (IsMethodOf w) (HasCardTyping w) n → IsAcceptedAt w n
-      → AllHaveBelow (IsMethodOf w) (HasCardTyping w) (n + 1)
-  accepted-more n below accepted = below-more w (IsMethodOf w) (HasCardTyping w) (λ m of. of) n below (λ r at some. (accepted r at some).card)
-
-  pub accepted-all : (n : ℕ) → length w.methods ≤ n → AllHaveBelow (IsMethodOf w) (HasCardTyping w) n → HaveCardTypings w
-  accepted-all = below-all w (IsMethodOf w) (HasCardTyping w) (λ m of. of)
-
-  pub refused-first : IsWorld w → (n : ℕ) (fault : CardFault) → AllHaveBelow (IsMethodOf w) (HasCardTyping w) n → IsRefusedAt w n fault
-      → IsRefusedFirst w n fault
-  refused-first world n fault below refused =
-      let method = All-slice_get (IsMethod w.infos w.pools w.classes) w.methods n refused.rec world.methods refused.is in
-      record {
-        method = method_with w n refused.rec;
-        numbered = refl;
-        first = record {
-          asked = method-of w n refused.rec refused.is method refused.has_code;
-          earlier = below;
-          lacks = refused.refused.none;
-        };
-        kept = refused.refused.kept;
-        refused = refused.refused.refused;
-      }
-
--- ---- laid code
 
 module _ (w : Linked) (first : ℕ) (is : BeginsLast w first) where
   has-laid : (n : ℕ) (laid : Option Laid) (r : MethodRec) → 0 < r.code_len → IsSharedElement w n r laid → HasSharedCode w (method_with w n r)
