@@ -12,7 +12,7 @@ use Rattle.jc_base.specs.declared.record.MethodRec.{MethodRec}
 use Rattle.jc_base.specs.Linked.{IsMethod, list_at}
 use Rattle.jc_base.specs.World.{Linked, IsWorld, code_of}
 use Rattle.jc_base.proofs.Lists.{All-slice_get}
-use Rattle.jc_control.specs.Asked.{AllHave, AllHaveBelow, IsOfLast, IsOfLibrary}
+use Rattle.jc_control.specs.Asked.{AllHave, AllHaveBelow, IsOfLibrary}
 use Rattle.jc_control.specs.Method.{Method, IsMethodOf, method_with}
 use Rattle.xf_last.specs.Last.{BeginsLast}
 
@@ -68,18 +68,11 @@ pub refused-method : (w : Linked) → IsWorld w → (n : ℕ) (fault : CardFault
 refused-method w world n fault r =
     method-of w n r.rec r.is (All-slice_get (IsMethod w.infos w.pools w.classes) w.methods n r.rec world.methods r.is) r.has_code
 
--- ---- the methods of libraries, and those of the last package
+-- ---- the methods of libraries
 
-module _ (w : Linked) (first : ℕ) (is : BeginsLast w first) where
-  pub library-below : (m : Method) → IsOfLibrary w m → m.number < first
-  library-below m of = by (cases_lt m.number first)
-    where
-      by : (m.number < first) ⊎ (first ≤ m.number) → m.number < first
-      by (inl lt) = lt
-      by (inr le) = let last = is.last m.number m.rec of.method.rec le in let before = of.before in absurd (omega (arith, last, before))
-
-  pub last-none : (Has : Method → Type 0) → AllHaveBelow (IsOfLast w) Has first
-  last-none Has = λ m of lt.
-      let before = is.before m.number m.rec of.method.rec lt in
-      let last = of.last in
-      absurd (omega (arith, last, before))
+pub library-below : (w : Linked) (first : ℕ) → BeginsLast w first → (m : Method) → IsOfLibrary w m → m.number < first
+library-below w first is m of = by (cases_lt m.number first)
+  where
+    by : (m.number < first) ⊎ (first ≤ m.number) → m.number < first
+    by (inl lt) = lt
+    by (inr le) = let last = is.last m.number m.rec of.method.rec le in let before = of.before in absurd (omega (arith, last, before))
