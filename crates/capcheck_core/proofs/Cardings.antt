@@ -8,34 +8,23 @@ use Rattle.std.proofs.lemmas.Option.{slice_get_within}
 use Rattle.cap_index.specs.Indexes.{has_code}
 use Rattle.jc_base.specs.declared.record.MethodRec.{MethodRec}
 use Rattle.jc_base.specs.World.{Linked, code_of}
-use Rattle.jc_control.specs.Method.{IsMethodOf, method_with}
+use Rattle.jc_control.specs.Method.{method_with}
 use Rattle.card_typing.specs.declared.fault.CardFault.{CardFault}
-use Rattle.card_typing.specs.Typing.{HasCardTyping}
 use Rattle.jc_base.specs.declared.ty.Ty.TheVariants.{Bottom}
 use Rattle.law_sound.specs.Soundness.{IsFaultFree, TypedCodeIsFaultFree}
-use Rattle.card_verify.specs.Answers.{AreAccepted, AreAcceptedBefore, IsFirstRefused}
+use Rattle.card_verify.specs.Answers.{AreAccepted, IsFirstRefused}
 use Rattle.cap_text.specs.declared.line.MethodNumber.{MethodNumber}
 use Rattle.cap_text.specs.Line.{methods_line, refused_card_line}
 use Rattle.capcheck_core.specs.declared.verdict.Verdict.{Verdict}
 use Rattle.capcheck_core.specs.declared.verdict.Verdict.TheVariants.{Refused, Memory}
-use Rattle.jc_control.specs.Asked.{AllHaveBelow}
 use Rattle.card_verify.proofs.Accepting.{accepted-typed}
-use Rattle.xf_pack.proofs.Passing.{method-is}
+use Rattle.xf_last.proofs.Passing.{all-carded, below-carded}
 use Rattle.capcheck_core.specs.Typed.{numbers_of_method}
 use Rattle.xf_share.specs.Ends.{HaveCardTypings}
 use Rattle.capcheck_core.specs.Verify.{TellsAccepted, TellsRefused, StopsAtRefused, AcceptsWorld}
-use Rattle.capcheck_core.proofs.Typings as typings
 use Rattle.capcheck_core.proofs.Typings.{counted}
 
-below_carded : (w : Linked) (n : ℕ) → AreAcceptedBefore w n → AllHaveBelow (IsMethodOf w) (HasCardTyping w) n
-below_carded w n all m is below =
-    let code : 0 < m.rec.code_len = typings.has_code w.infos m.rec (subst (λ c. 0 < length c) is.code is.filled) in
-    subst (HasCardTyping w) (method-is w m is) (all m.number below m.rec is.rec code).card
-
-pub all_carded : (w : Linked) → AreAccepted w → HaveCardTypings w
-all_carded w all m is = below_carded w (length w.methods) all m is (slice_get_within w.methods m.number m.rec is.rec)
-
--- and no run meets a fault
+-- where all are accepted no run meets a fault
 pub accepted_free : (w : Linked) → AreAccepted w → TypedCodeIsFaultFree w → IsFaultFree w
 accepted_free w all free = free Bottom (accepted-typed w all)
 
@@ -43,7 +32,7 @@ accepted_free w all free = free Bottom (accepted-typed w all)
 pub carded : (w : Linked) (count : ℕ) (text : List ℕ) → AreAccepted w → TypedCodeIsFaultFree w → count ≡ count_by has_code w.methods
     → text ≡ methods_line (codes "accepted ") count → TellsAccepted w text
 carded w count text all free counts prints =
-    record { carded = all_carded w all; fault_free = accepted_free w all free; prints = prints ∙ ap (methods_line (codes "accepted ")) counts }
+    record { carded = all-carded w all; fault_free = accepted_free w all free; prints = prints ∙ ap (methods_line (codes "accepted ")) counts }
 
 -- ---- the count of them
 
@@ -78,7 +67,7 @@ first_uncarded w n fault code number text f is long named prints =
       method = method_with w n f.here.rec;
       first = record {
         asked = record { rec = f.here.is; code = refl; filled = filled w (slice_get w.methods n) f.here.rec code f.here.is is long f.here.has_code };
-        earlier = below_carded w n f.before;
+        earlier = below-carded w n f.before;
         lacks = f.here.refused.none;
       };
       fault = fault;

@@ -1,17 +1,16 @@
 -- The methods with code of the last package, one after the other.
-use Rattle.std.proofs.Common.{count_by, ◌≡◌, ◌⊎◌, ℕ, ◌+◌, ◌<◌, ◌≤◌, Bool, true, false, List, length, take, drop, Option, Some, None}
+use Rattle.std.proofs.Common.{count_by, ◌≡◌, ◌⊎◌, ℕ, ◌+◌, ◌<◌, ◌≤◌, Bool, true, false, List, length, take, Option, Some, None}
 use Rattle.std.proofs.Common.{option_map, slice_get, refl, sym, ap, subst, ◌∙◌, inl, inr, arith, true≢false}
 use Rattle.std.specs.Prelude.{IsSomeAnd, codes, ◌==◌, nat_lt}
 use Rattle.std.proofs.lemmas.Bool.{eq-eqb, eqb-true, lt-ltb, and_parts}
-use Rattle.std.proofs.lemmas.List.{length-take, take_all}
+use Rattle.std.proofs.lemmas.List.{take_all}
 use Rattle.std.proofs.lemmas.List.Sums.{count_by_more_yes, count_by_more_no}
 use Rattle.std.specs.Int.{from_bool}
 use Rattle.std.proofs.Math.Nat.{eq-or-lt_of_le}
 use Rattle.std.proofs.lemmas.Option.{slice_get_within, get_or_from_slice_get}
 use Rattle.jc_base.specs.declared.ty.Ty.TheVariants.{Top}
 use Rattle.jc_base.specs.declared.record.MethodRec.{MethodRec}
-use Rattle.jc_base.specs.World.{Linked, code_of}
-use Rattle.jc_base.specs.Linked.{list_at}
+use Rattle.jc_base.specs.World.{Linked}
 use Rattle.jc_rules.specs.Demand.{Frame}
 use Rattle.jc_control.specs.Method.{Method, IsMethodOf, method_with, method_in}
 use Rattle.jc_rules.specs.Flow.{IsLeastTyping, HasFlowTyping}
@@ -23,6 +22,7 @@ use Rattle.cap_text.specs.declared.line.MethodNumber.{MethodNumber}
 use Rattle.cap_text.specs.Line.{methods_line, refused_flow_line}
 use Rattle.jc_control.specs.Asked.{IsOfLast}
 use Rattle.law_laid.proofs.Methods.{known}
+use Rattle.xf_last.proofs.Passing.{has-code}
 use Rattle.capcheck_core.specs.Typed.{is_of_last, AreTypedBelow, count_of_last, numbers_of_method, TellsTyped, TellsUntyped}
 use Rattle.capcheck_core.specs.CheckEnds.{IsTypedMethod, FailsMethod}
 
@@ -35,17 +35,12 @@ typed_at w n t least = λ m of_last e.
 
 -- ---- the test of the last package
 
--- code of no bytes has no byte
-pub has_code : (infos : List (List ℕ)) (rec : MethodRec) → 0 < length (code_of infos rec) → 0 < rec.code_len
-has_code infos rec filled =
-    let few = length-take rec.code_len (drop rec.code_at (list_at infos rec.package)) in omega (arith, few, filled)
-
 passes : (packages : ℕ) (rec : MethodRec) → rec.package + 1 ≡ packages → 0 < rec.code_len → is_of_last packages rec ≡ true
 passes packages rec last code = let a = eq-eqb (rec.package + 1) packages last in let b = lt-ltb 0 rec.code_len code in rw (a, b) refl
 
 of_last_passes : (w : Linked) (m : Method) → IsOfLast w m → is_of_last (length w.infos) m.rec ≡ true
 of_last_passes w m is =
-    passes (length w.infos) m.rec is.last (has_code w.infos m.rec (subst (λ c. 0 < length c) is.method.code is.method.filled))
+    passes (length w.infos) m.rec is.last (has-code w m is.method)
 
 -- a method that fails the test is none of the last package with code
 pub none_at : (w : Linked) (n : ℕ) → option_map (is_of_last (length w.infos)) (slice_get w.methods n) ≡ Some false → IsTypedMethod w n

@@ -29,11 +29,12 @@ use Rattle.xf_layout.specs.declared.symbols.LayEnd.TheVariants.{MethodLong, Memo
 use Rattle.xf_layout.specs.Shortest.{ReachesTooFar, StandsShortest}
 use Rattle.law_rewritten_typing.specs.Typed.{HasTypingByHomes}
 use Rattle.law_transform.specs.Laid.{IsLaidFor}
+use Rattle.xf_last.specs.Fits.{FitsMethod}
+use Rattle.xf_last.proofs.Passing.{method-of}
 use Rattle.xf_pack.specs.declared.end.MethodLimit.TheVariants as limits
 use Rattle.xf_pack.specs.Limits.{HasHomes}
-use Rattle.xf_pack.specs.Passes.{IsRewrittenTo, FitsMethod, IsTypedBy}
+use Rattle.xf_pack.specs.Passes.{IsRewrittenTo, IsTypedBy}
 use Rattle.xf_pack.specs.Unlaid.{IsUnlaid, TellsUnlaid, of_homes, of_layout, of_rewriting}
-use Rattle.xf_pack.proofs.Passing.{method-of}
 use Rattle.xf_pack.proofs.Sound.{is-sound}
 
 -- ---- a method by its number

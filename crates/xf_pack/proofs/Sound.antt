@@ -28,7 +28,7 @@ use Rattle.xf_emission.specs.Numbers.{HasNumbers}
 use Rattle.law_laid.specs.Laid.{HasLaid, catching}
 use Rattle.law_laid.specs.Laws.{LaidIsTyped}
 use Rattle.law_rewritten_typing.specs.Typed.{HasTypingByHomes}
-use Rattle.xf_pack.specs.Passes.{FitsMethod}
+use Rattle.xf_last.specs.Fits.{FitsMethod}
 use Rattle.xf_pack.proofs.Filled.{laid-filled}
 
 -- ---- handlers

@@ -1,7 +1,5 @@
 -- What the passes over the methods of the last package keep of each.
-use Rattle.std.specs.Prelude.{◌≡◌, ◌≤◌, ◌<◌, ℕ, suc, ◌+◌, List, [], ◌∷◌, length, Option, Some, None, All}
-use Rattle.std.specs.Prelude.{IsSomeAnd, slice_get}
-use Rattle.cap_laying.specs.HandlerTable.{AreInside}
+use Rattle.std.specs.Prelude.{◌≡◌, ◌≤◌, ◌<◌, ℕ, List, Option, Some, None, All, IsSomeAnd, slice_get}
 use Rattle.jc_base.specs.declared.record.MethodRec.{MethodRec}
 use Rattle.jc_base.specs.World.{Linked}
 use Rattle.jc_control.specs.Method.{Method, IsMethodOf, method_with}
@@ -19,22 +17,7 @@ use Rattle.xf_homes.specs.Answer.{IsTypingOf}
 use Rattle.xf_homes.specs.Order.{AreHomes, register_sum}
 use Rattle.law_rewritten_typing.specs.Typed.{HasTypingByHomes}
 use Rattle.law_transform.specs.Laid.{IsLaidElement}
-
--- ---- the methods of the last package
-
--- the methods of the libraries have the numbers below this one, and those of the last package follow
-pub record BeginsLast (w : Linked) (first : ℕ) : Type 0 where
-  pub within : first ≤ length w.methods
-  pub before : (n : ℕ) (r : MethodRec) → slice_get w.methods n ≡ Some r → n < first → r.package + 1 < length w.infos
-  pub last : (n : ℕ) (r : MethodRec) → slice_get w.methods n ≡ Some r → first ≤ n → r.package + 1 ≡ length w.infos
-
-abbrev pub HasLast : Linked → Type 0
-HasLast w = (first : ℕ) × BeginsLast w first
-
--- each element with the number of its method, which is this for the first, is such
-abbrev pub EachFrom : {A : Type 0} → (ℕ → A → Type 0) → ℕ → List A → Type 0
-EachFrom Is n [] = Unit {0}
-EachFrom Is n (x ∷ xs) = Is n x × EachFrom Is (suc n) xs
+use Rattle.xf_last.specs.Fits.{IsFittingAt}
 
 -- ---- typings
 
@@ -68,24 +51,6 @@ pub record IsRewrittenTo (w : Linked) (symbols : Symbols) (m : Method) : Type 0 
   pub numbers : HasNumbers m.rec homes symbols
   pub items : All (IsItem m.code symbols.items) symbols.items
 
--- code that may stand in place of a method's: of 1 to 32,767 bytes, with its arguments, at most 255 registers, no more handlers than the
--- method has, and all of them inside
-pub record FitsMethod (r : MethodRec) (laid : Laid) : Type 0 where
-  pub some : 1 ≤ length laid.code
-  pub short : length laid.code ≤ 32767
-  pub arguments : laid.nargs ≡ r.nargs
-  pub registers : laid.nargs + laid.max_locals ≤ 255
-  pub inside : AreInside (length laid.code) laid.handlers
-  pub few : length laid.handlers ≤ length r.handlers
-
-abbrev pub FitsMethodIf : MethodRec → Option Laid → Type 0
-FitsMethodIf r None = Unit {0}
-FitsMethodIf r (Some laid) = FitsMethod r laid
-
--- the element of a method
-pub record IsLaidWell (w : Linked) (n : ℕ) (laid : Option Laid) (r : MethodRec) : Type 0 where
-  pub is : IsLaidElement w n r laid
-  pub sound : FitsMethodIf r laid
-
+-- the element of the method of this number
 abbrev pub IsLaidAt : Linked → ℕ → Option Laid → Type 0
-IsLaidAt w n laid = IsSomeAnd (slice_get w.methods n) (IsLaidWell w n laid)
+IsLaidAt w n laid = IsFittingAt (IsLaidElement w) w n laid

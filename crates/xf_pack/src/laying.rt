@@ -6,7 +6,9 @@ ghost use Rattle.jc_rules.specs.Typing.{state_at};
 ghost use Rattle.xf_homes.specs.Order.{AreHomes, register_sum};
 ghost use Rattle.law_transform.specs.Laid.{IsLaidFor};
 ghost use Rattle.xf_pack.specs.Ends.{AreAcceptedLibraries, IsTypedLast, TellsOf};
-ghost use Rattle.xf_pack.specs.Passes.{BeginsLast, EachFrom, IsLaidAt, IsRewrittenTo, FitsMethod, IsTypedBy, IsTypingAt};
+ghost use Rattle.xf_last.specs.Fits.{FitsMethod};
+ghost use Rattle.xf_last.specs.Last.{BeginsLast, EachFrom};
+ghost use Rattle.xf_pack.specs.Passes.{IsLaidAt, IsRewrittenTo, IsTypedBy, IsTypingAt};
 ghost use Rattle.xf_pack.specs.Unlaid.{TellsUnlaid};
 
 use crate::end::TransformEnd;

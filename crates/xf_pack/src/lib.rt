@@ -5,7 +5,6 @@
 #![tactic(auto)]
 
 mod end;
-mod last;
 mod laying;
 mod libraries;
 mod transforming;

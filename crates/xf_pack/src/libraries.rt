@@ -1,7 +1,7 @@
 ghost use Rattle.std.specs.Prelude.{List, ◌<◌, length, OnOk, IfErr};
 ghost use Rattle.cap_package.specs.PackageRecord.{PackageRecord};
 ghost use Rattle.xf_pack.specs.Ends.{AreAcceptedLibraries, TellsOf};
-ghost use Rattle.xf_pack.specs.Passes.{BeginsLast};
+ghost use Rattle.xf_last.specs.Last.{BeginsLast};
 
 use crate::end::TransformEnd;
 use card_verify::CardRoom;

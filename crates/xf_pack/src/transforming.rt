@@ -4,7 +4,6 @@ ghost use Rattle.xf_pack.specs.Ends.{TellsOf, TellsTransform};
 ghost use Rattle.xf_pack.specs.Transformed.{AreTransformed, IsTransformed};
 
 use crate::end::TransformEnd;
-use crate::last::first_of_last;
 use crate::laying::lay_last;
 use crate::libraries::accept_libraries;
 use crate::typing::type_last;
@@ -13,6 +12,7 @@ use cap_package::{OwnedParts, Packages};
 use jc_base::World;
 use jc_link::{LinkEnd, link};
 use std::alloc::Global;
+use xf_last::first_of_last;
 
 /// The parts of the last package in the form that a verifier on the card accepts: with its libraries it makes a world again,
 /// in which each method with code has a card typing, and in which every run ends as it does in the former world. Unless the

@@ -1,7 +1,8 @@
 ghost use Rattle.std.specs.Prelude.{◌≡◌, ◌+◌, ◌<◌, List, length, IfErr, IfOk, IsSomeAnd, OnOk, slice_get, vec_len};
 ghost use Rattle.cap_package.specs.PackageRecord.{PackageRecord};
 ghost use Rattle.xf_pack.specs.Ends.{AreAcceptedLibraries, IsTypedLast, TellsOf};
-ghost use Rattle.xf_pack.specs.Passes.{BeginsLast, EachFrom, IsTypingAt};
+ghost use Rattle.xf_last.specs.Last.{BeginsLast, EachFrom};
+ghost use Rattle.xf_pack.specs.Passes.{IsTypingAt};
 ghost use Rattle.xf_pack.specs.Untyped.{HasNoTyping, untyped};
 
 use crate::end::TransformEnd;

@@ -1,7 +1,8 @@
 ghost use Rattle.std.specs.Prelude.{◌≡◌, ◌+◌, IfErr, IfOk, length};
 ghost use Rattle.jc_link.specs.World.{IsLinked};
 ghost use Rattle.xf_pack.specs.Ends.{AreAcceptedLibraries, IsTypedLast, TellsOf};
-ghost use Rattle.xf_pack.specs.Passes.{BeginsLast, EachFrom, IsLaidAt};
+ghost use Rattle.xf_last.specs.Last.{BeginsLast, EachFrom};
+ghost use Rattle.xf_pack.specs.Passes.{IsLaidAt};
 ghost use Rattle.xf_pack.specs.Transformed.{IsTransformed};
 
 use crate::end::TransformEnd;

@@ -25,7 +25,7 @@ use Rattle.xf_layout.specs.declared.symbols.LayEnd.{LayEnd}
 use Rattle.xf_layout.specs.declared.symbols.LayEnd.TheVariants.{MethodLong, Memory}
 use Rattle.xf_layout.specs.Shortest.{ReachesTooFar, StandsShortest}
 use Rattle.xf_share.specs.Numbering.{IsReadable, IsRenumbered, locals_of, number_of}
-use Rattle.xf_share.specs.Passes.{FitsMethod}
+use Rattle.xf_last.specs.Fits.{FitsMethod}
 use Rattle.xf_share.specs.Unlaid.{IsSharedLong, TellsUnlaid}
 use Rattle.xf_share.proofs.Fitting.{items-suit, ranges-suit, size-small}
 use Rattle.xf_share.proofs.Labels.{Rises, listing-rises}

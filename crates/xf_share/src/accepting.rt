@@ -3,7 +3,7 @@ ghost use Rattle.cap_package.specs.PackageRecord.{PackageRecord};
 ghost use Rattle.xf_share.specs.Ends.{HaveCardTypings, TellsOf};
 
 use crate::end::ShareEnd;
-use card_verify::CardRoom;
+use card_verify::{CardRoom, accept};
 use jc_base::World;
 
 /// Verifies each method with code as a card does, in the order of their numbers. It takes no memory.
@@ -13,12 +13,8 @@ pub(crate) fn accept_all(world: &World<'_>) -> Result<(), ShareEnd>
 {
     // Every fact on the world.
     let _classes = world.classes();
-    let mut room = CardRoom::new();
-    'methods: for method in 0..world.method_count() {
-        match room.verify(world, method) {
-            Ok(_) => {}
-            Err(fault) => return Err(ShareEnd::Refused { method, fault }),
-        }
+    match accept(world, &mut CardRoom::new()) {
+        Ok(_) => Ok(()),
+        Err((method, fault)) => Err(ShareEnd::Refused { method, fault }),
     }
-    Ok(())
 }

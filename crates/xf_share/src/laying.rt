@@ -6,7 +6,9 @@ ghost use Rattle.law_shared_world.specs.SharedCode.{IsSharedFor};
 ghost use Rattle.xf_allot.specs.Sharing.{AnswersSharing};
 ghost use Rattle.xf_share.specs.Ends.{HaveCardTypings, TellsOf};
 ghost use Rattle.xf_share.specs.Numbering.{IsRenumbered, number_of};
-ghost use Rattle.xf_share.specs.Passes.{BeginsLast, EachFrom, FitsMethod, IsSharedAt};
+ghost use Rattle.xf_last.specs.Fits.{FitsMethod};
+ghost use Rattle.xf_last.specs.Last.{BeginsLast, EachFrom};
+ghost use Rattle.xf_share.specs.Passes.{IsSharedAt};
 ghost use Rattle.xf_share.specs.Unlaid.{TellsUnlaid};
 
 use crate::end::ShareEnd;

@@ -10,7 +10,6 @@ mod accepting;
 mod end;
 mod fewer;
 mod items;
-mod last;
 mod laying;
 mod numbering;
 mod renumbering;

@@ -6,13 +6,13 @@ ghost use Rattle.xf_share.specs.Shared.{AreShared, IsSharedFrom};
 use crate::accepting::accept_all;
 use crate::end::ShareEnd;
 use crate::fewer::Fewer;
-use crate::last::first_of_last;
 use crate::laying::lay_last;
 use crate::writing::write_last;
 use cap_package::{OwnedParts, Packages};
 use jc_base::World;
 use jc_link::{LinkEnd, link};
 use std::alloc::Global;
+use xf_last::first_of_last;
 
 /// The parts of the last package, in which the variables of each method share registers: each gets the least that are free, or
 /// that variables of its type have with which it does not interfere. With its libraries it makes a world again, in which each

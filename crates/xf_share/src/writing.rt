@@ -1,7 +1,8 @@
 ghost use Rattle.std.specs.Prelude.{◌≡◌, ◌+◌, IfErr, IfOk, length};
 ghost use Rattle.jc_link.specs.World.{IsLinked};
 ghost use Rattle.xf_share.specs.Ends.{HaveCardTypings, TellsOf};
-ghost use Rattle.xf_share.specs.Passes.{BeginsLast, EachFrom, IsSharedAt};
+ghost use Rattle.xf_last.specs.Last.{BeginsLast, EachFrom};
+ghost use Rattle.xf_share.specs.Passes.{IsSharedAt};
 ghost use Rattle.xf_share.specs.Shared.{IsSharedFrom};
 
 use crate::end::ShareEnd;

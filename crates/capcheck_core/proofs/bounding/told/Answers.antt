@@ -5,7 +5,8 @@ use Rattle.cap_text.specs.EntryWords.{entry_request}
 use Rattle.capcheck_core.specs.declared.verdict.Verdict.TheVariants.{Done}
 use Rattle.capcheck_core.specs.Bounding.{bound_text, AnswersBound}
 use Rattle.law_sound.specs.Soundness.{TypedCodeIsFaultFree}
-use Rattle.capcheck_core.proofs.Cardings.{all_carded, accepted_free}
+use Rattle.xf_last.proofs.Passing.{all-carded}
+use Rattle.capcheck_core.proofs.Cardings.{accepted_free}
 use Rattle.capcheck_core.proofs.Verdicts.{said}
 use Rattle.capcheck_core.proofs.bounding.told.Goals as goal
 
@@ -16,7 +17,7 @@ returns-in-Ok c =
     said string_bytes Done (AnswersBound w e) c.bound_line.result (bound_text w c.in-Ok.found) c.done.result (tt {0})
     (λ text prints.
     record {
-      carded = all_carded w c.requires.accepted;
+      carded = all-carded w c.requires.accepted;
       fault_free = accepted_free w c.requires.accepted (subst TypedCodeIsFaultFree c.world-world.ensures.is c.typed_code_never_fails.ensures.fault_free);
       number = c.args.number;
       entered = c.requires.entered;

@@ -3,13 +3,13 @@ use Rattle.std.proofs.Common.{ap, sym, ◌∙◌}
 use Rattle.vm_step.specs.Start.{start_fault}
 use Rattle.capcheck_core.specs.Run.{bounded_request}
 use Rattle.capcheck_core.specs.Defend.{fault_of}
-use Rattle.capcheck_core.proofs.Cardings.{all_carded}
+use Rattle.xf_last.proofs.Passing.{all-carded}
 use Rattle.capcheck_core.proofs.Ran.{card_same}
 use Rattle.capcheck_core.proofs.running.begin.Goals as goal
 
 pub returns-in-Ok-clause-runs : goal.returns-in-Ok-clause-runs
 returns-in-Ok-clause-runs c =
-    record { carded = all_carded c.args.accepted.now c.requires.accepted; fault_free = c.start.ensures.fault_free; left = c.go_on.ensures }
+    record { carded = all-carded c.args.accepted.now c.requires.accepted; fault_free = c.start.ensures.fault_free; left = c.go_on.ensures }
 
 pub returns-in-Err-clause-runs : goal.returns-in-Err-clause-runs
 returns-in-Err-clause-runs c = (

@@ -2,7 +2,8 @@
 use Rattle.std.proofs.Common.{subst}
 use Rattle.capcheck_core.specs.Run.{bounded_request}
 use Rattle.capcheck_core.specs.Run.{StopsRun}
-use Rattle.capcheck_core.proofs.Cardings.{all_carded, first_uncarded}
+use Rattle.xf_last.proofs.Passing.{all-carded}
+use Rattle.capcheck_core.proofs.Cardings.{first_uncarded}
 use Rattle.capcheck_core.proofs.running.not_run.Goals as goal
 
 pub returns-in-Refused : goal.returns-in-Refused
@@ -17,6 +18,6 @@ returns-in-NotStarted c =
     let w = c.args.world.now in
     let stops = subst (StopsRun w (bounded_request c.args.run.now)) c.in-NotStarted.is c.requires.stops in
     λ card. record {
-      carded = all_carded w stops.0;
+      carded = all-carded w stops.0;
       unbegun = record { fault = c.in-NotStarted.fault; first = stops.1; prints = c.unstarted_line.ensures };
     }

@@ -4,8 +4,9 @@ use Rattle.std.proofs.lemmas.Option.{slice_get_read}
 use Rattle.jc_control.specs.Asked.{AllHaveBelow, IsOfLast}
 use Rattle.law_transform.specs.Laid.{HasLaidCode}
 use Rattle.xf_pack.specs.Ends.{TellsOf}
-use Rattle.xf_pack.specs.Passes.{EachFrom, IsLaidAt, IsTypingAt}
-use Rattle.xf_pack.proofs.Elements.{each-at, each-push}
+use Rattle.xf_last.specs.Last.{EachFrom}
+use Rattle.xf_last.proofs.Elements.{each-at, each-push}
+use Rattle.xf_pack.specs.Passes.{IsLaidAt, IsTypingAt}
 use Rattle.xf_pack.proofs.Passing.{laid-more, unlaid-tells}
 use Rattle.xf_pack.proofs.laying.lay_last.Goals as goal
 

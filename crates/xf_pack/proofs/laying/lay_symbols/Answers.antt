@@ -4,7 +4,8 @@ use Rattle.jc_base.specs.World.{code_of}
 use Rattle.jc_control.specs.Method.{Method}
 use Rattle.jc_control.proofs.OwnMethod.{of-method, to-method}
 use Rattle.law_transform.specs.Laid.{IsLaidFor}
-use Rattle.xf_pack.specs.Passes.{IsRewrittenTo, FitsMethod}
+use Rattle.xf_last.specs.Fits.{FitsMethod}
+use Rattle.xf_pack.specs.Passes.{IsRewrittenTo}
 use Rattle.xf_pack.specs.Unlaid.{TellsUnlaid}
 use Rattle.xf_pack.proofs.Coded.{bytes-told, laid-for, laid-sound}
 use Rattle.xf_pack.proofs.laying.lay_symbols.Goals as goal

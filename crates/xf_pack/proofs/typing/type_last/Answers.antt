@@ -1,11 +1,14 @@
 -- the typings so far, and the method without one
 use Rattle.std.proofs.Common.{◌≡◌, ◌+◌, ◌∷◌, ◌++◌, [], length, sym, subst, arith, rules}
 use Rattle.jc_base.specs.declared.ty.Ty.TheVariants.{Top}
+use Rattle.jc_control.specs.Asked.{IsOfLast}
 use Rattle.jc_rules.specs.Flow.{HasFlowTyping}
 use Rattle.xf_pack.specs.Ends.{TellsOf}
-use Rattle.xf_pack.specs.Passes.{EachFrom, IsTypingAt}
-use Rattle.xf_pack.proofs.Elements.{each-push}
-use Rattle.xf_pack.proofs.Passing.{last-all, typed-more, untyped-tells}
+use Rattle.xf_last.specs.Last.{EachFrom}
+use Rattle.xf_last.proofs.Elements.{each-push}
+use Rattle.xf_last.proofs.Passing.{below-all}
+use Rattle.xf_pack.specs.Passes.{IsTypingAt}
+use Rattle.xf_pack.proofs.Passing.{typed-more, untyped-tells}
 use Rattle.xf_pack.proofs.typing.type_last.Goals as goal
 
 pub returns-in-Err-clause-end : goal.returns-in-Err-clause-end
@@ -29,5 +32,5 @@ methods-preserved c =
 
 pub returns-clause-typed : goal.returns-clause-typed
 returns-clause-typed c =
-    last-all c.args.world.now c.args.first c.requires.first (λ m. HasFlowTyping c.args.world.now m Top) c.methods.number
+    below-all c.args.world.now (IsOfLast c.args.world.now) (λ m. HasFlowTyping c.args.world.now m Top) (λ m of. of.method) c.methods.number
     (omega (arith, c.methods-test.false, c.method_count-number-end.ensures.is)) c.methods.invariant.below

@@ -1,8 +1,9 @@
 -- what is laid so far, and the method for which none is
 use Rattle.std.proofs.Common.{◌≡◌, ◌+◌, ◌∷◌, ◌++◌, [], length, sym, subst, arith, rules}
 use Rattle.xf_share.specs.Ends.{TellsOf}
-use Rattle.xf_share.specs.Passes.{EachFrom, IsSharedAt}
-use Rattle.xf_share.proofs.Elements.{each-push}
+use Rattle.xf_last.specs.Last.{EachFrom}
+use Rattle.xf_last.proofs.Elements.{each-push}
+use Rattle.xf_share.specs.Passes.{IsSharedAt}
 use Rattle.xf_share.proofs.Passing.{laid-more, unlaid-tells}
 use Rattle.xf_share.proofs.laying.lay_last.Goals as goal
 

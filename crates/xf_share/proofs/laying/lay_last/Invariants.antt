@@ -1,7 +1,8 @@
 use Rattle.std.proofs.Common.{◌≡◌, ◌+◌, vec_len}
 use Rattle.jc_control.specs.Asked.{AllHaveBelow, IsOfLast}
 use Rattle.law_shared_world.specs.SharedCode.{HasSharedCode}
-use Rattle.xf_share.specs.Passes.{EachFrom, IsSharedAt}
+use Rattle.xf_last.specs.Last.{EachFrom}
+use Rattle.xf_share.specs.Passes.{IsSharedAt}
 use Rattle.xf_share.proofs.laying.lay_last.Given as goal
 
 abbrev pub invariant-methods : goal.invariant-methods

@@ -5,7 +5,7 @@ use Rattle.jc_control.specs.Method.{Method}
 use Rattle.law_shared_world.specs.SharedCode.{IsSharedFor}
 use Rattle.jc_control.proofs.OwnMethod.{of-method, to-method}
 use Rattle.xf_share.specs.Numbering.{IsRenumbered}
-use Rattle.xf_share.specs.Passes.{FitsMethod}
+use Rattle.xf_last.specs.Fits.{FitsMethod}
 use Rattle.xf_share.proofs.Coded.{fits, long-told, shared-for, symbols-items, symbols-ranges, symbols-small}
 use Rattle.xf_share.proofs.laying.lay_symbols.Goals as goal
 

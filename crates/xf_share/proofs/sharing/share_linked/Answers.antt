@@ -1,6 +1,6 @@
 -- where the last package begins, and what fails first
 use Rattle.std.proofs.lemmas.Result.{err_from_is_err_and}
-use Rattle.xf_share.proofs.Written.{linked-has-last}
+use Rattle.xf_last.proofs.Written.{linked-has-last}
 use Rattle.xf_share.proofs.sharing.share_linked.Goals as goal
 
 pub first_of_last-first-requires : goal.first_of_last-first-requires

@@ -11,7 +11,7 @@ use Rattle.jc_control.specs.Asked.{AllHave, IsOfLast}
 use Rattle.jc_control.specs.Method.{Method, IsMethodOf}
 use Rattle.jc_decode.specs.declared.symbols.Laid.{Laid}
 use Rattle.law_index.specs.WrittenIndex.{AreNewCodes, HaveExactIndexes}
-use Rattle.xf_share.proofs.Elements.{AreFit}
+use Rattle.xf_last.specs.Fits.{AreFit}
 
 -- what is laid is code of methods with code
 pub new-codes : (rs : List MethodRec) (ls : List (Option Laid)) → AreFit rs ls → AreNewCodes rs ls

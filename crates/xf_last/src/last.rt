@@ -1,10 +1,10 @@
 ghost use Rattle.std.specs.Prelude.{◌≡◌, ◌+◌, ◌<◌, ◌≤◌, length, IsSomeAnd, MatchBool, slice_get};
-ghost use Rattle.xf_share.specs.Passes.{BeginsLast, HasLast};
+ghost use Rattle.xf_last.specs.Last.{BeginsLast, HasLast};
 
 use jc_base::World;
 
 /// The number of the first method of the last package, or of all methods where that package has none.
-pub(crate) fn first_of_last(world: &World<'_>) -> u16
+pub fn first_of_last(world: &World<'_>) -> u16
     requires { HasLast world.now }
     ensures begins { BeginsLast world.now result }
     ensures within { result ≤ length world.now.methods }

@@ -1,18 +1,13 @@
 -- Each entry of the handler table of a package belongs to one method, so that the handlers of all methods are no more than the table has.
-use Rattle.std.proofs.Common.{◌≡◌, ℕ, zero, suc, ◌+◌, ◌-◌, ◌<◌, ◌≤◌, Bool, true, false, ◌&&◌, ltb, leb, min, List, [], ◌∷◌}
+use Rattle.std.proofs.Common.{◌≡◌, ℕ, zero, suc, ◌+◌, ◌-◌, ◌≤◌, Bool, true, false, ◌&&◌, ltb, leb, min, List, [], ◌∷◌}
 use Rattle.std.proofs.Common.{length, filter, cond, refl, arith}
-use Rattle.std.specs.List.{filter_map, enumerate_from}
 use Rattle.std.proofs.lemmas.Bool.{ltb-true, ltb-false, leb-true, leb-false}
 use Rattle.cap_desc.specs.DescriptorFormat.{MethodDescriptor}
-use Rattle.cap_package.specs.HandlerChecks.{claims, numbered_fault}
+use Rattle.cap_package.specs.HandlerChecks.{claims}
 use Rattle.cap_package.specs.PackageRecord.{PackageRecord, described_methods}
 use Rattle.cap_package.specs.StandsFor.{StandsFor}
 use Rattle.cap_package.proofs.Agreed.{agrees}
-use Rattle.cap_package.proofs.StaticsKnown.{both_empty}
-use Rattle.jc_resolve.proofs.Faultless.{faultless}
-use Rattle.jc_resolve.proofs.OwnedHandlers.{entry_numbered}
-use Rattle.law_package.proofs.Handlers.{one_owner}
-use Rattle.jc_base.proofs.Lists.{slice_get-some}
+use Rattle.law_package.proofs.Handlers.{OwnedOnce, owned_once}
 
 -- how many entries of a table of so many a method has, and how many several methods have
 abbrev pub entry_count : ℕ → MethodDescriptor → ℕ
@@ -59,7 +54,7 @@ sum-none [] = refl
 sum-none (m ∷ ms) = let others = sum-none ms in omega (arith, others)
 
 -- where each entry belongs to at most one method
-sum-within : (many : ℕ) (ms : List MethodDescriptor) → ((n : ℕ) → n < many → length (filter (claims n) ms) ≤ 1) → entry_sum many ms ≤ many
+sum-within : (many : ℕ) (ms : List MethodDescriptor) → OwnedOnce many ms → entry_sum many ms ≤ many
 sum-within zero ms one = let none = sum-none ms in omega (arith, none)
 sum-within (suc many) ms one =
     let more = sum-more many ms in
@@ -69,17 +64,5 @@ sum-within (suc many) ms one =
 
 -- ---- a package
 
-module _ (p : PackageRecord) (agreed : StandsFor p.parts p) where
-  entries-owned : filter_map (numbered_fault p.methods.info (described_methods p)) (enumerate_from 0 p.methods.handlers) ≡ []
-  entries-owned = let (owned, claimed) = both_empty _ _ (agrees p.parts p agreed.agree).handlers in owned
-
-  once : (n : ℕ) → n < length p.methods.handlers → length (filter (claims n) (described_methods p)) ≤ 1
-  once n lt =
-      let h = slice_get-some p.methods.handlers n lt in
-      let place : 0 + n ≡ n = omega arith in
-      let fault = faultless (numbered_fault p.methods.info (described_methods p)) (enumerate_from 0 p.methods.handlers) (0 + n, h.0) entries-owned
-      (entry_numbered p.methods.handlers 0 n h.0 h.1) in
-      one_owner p.methods.info (described_methods p) n h.0 (rw place at fault)
-
-  pub entries-within : entry_sum (length p.methods.handlers) (described_methods p) ≤ length p.methods.handlers
-  entries-within = sum-within (length p.methods.handlers) (described_methods p) once
+pub entries-within : (p : PackageRecord) → StandsFor p.parts p → entry_sum (length p.methods.handlers) (described_methods p) ≤ length p.methods.handlers
+entries-within p agreed = sum-within (length p.methods.handlers) (described_methods p) (owned_once p.parts p (agrees p.parts p agreed.agree))

@@ -1,5 +1,5 @@
 -- What is laid for the methods of the last package is what its writer takes.
-use Rattle.std.proofs.Common.{◌≡◌, ℕ, ◌+◌, ◌-◌, ◌<◌, ◌≤◌, Bool, true, false, MatchBool, cond, min, List, [], ◌∷◌}
+use Rattle.std.proofs.Common.{◌≡◌, ℕ, ◌+◌, ◌-◌, ◌≤◌, Bool, true, false, MatchBool, cond, min, List, [], ◌∷◌}
 use Rattle.std.proofs.Common.{◌++◌, length, map, drop, Option, Some, None, refl, sym, ap, subst, ◌∙◌, inl, inr, arith, length-take}
 use Rattle.std.specs.Prelude.{slice_get, slice_index}
 use Rattle.std.proofs.lemmas.List.{length-map, length-drop}
@@ -17,22 +17,23 @@ use Rattle.jc_base.specs.declared.record.Sig.{Sig}
 use Rattle.jc_base.specs.Linked.{IsCodeLength}
 use Rattle.jc_base.specs.World.{Linked}
 use Rattle.jc_decode.specs.declared.symbols.Laid.{Laid}
-use Rattle.jc_link.specs.World.{class_conditions, table_conditions, member_conditions, IsLinked}
+use Rattle.jc_base.proofs.Lists.{slice_get-farther}
+use Rattle.jc_link.specs.World.{IsLinked, class_conditions, member_conditions, table_conditions}
+use Rattle.jc_resolve.proofs.ConditionLists.{AllEmpty-before}
 use Rattle.jc_resolve.specs.declared.method_records.Body.{Body}
 use Rattle.jc_resolve.specs.Conditions.{conditions}
 use Rattle.jc_resolve.specs.NamedMethods.{body_after, body_of, handler_named, have_headers, named_method, no_body, offset_in_info}
 use Rattle.jc_resolve.specs.Numbering.{NumberedMethod, numbered_method, methods_of_class, methods_of_classes}
 use Rattle.jc_resolve.specs.WorldTypes.{declared_signature}
-use Rattle.jc_resolve.proofs.ConditionLists.{AllEmpty-before}
 use Rattle.jc_resolve.proofs.Faultless.{IsOneOf}
 use Rattle.jc_resolve.proofs.MethodFacts.{IsPlaced, is-placed}
 use Rattle.jc_resolve.proofs.NumberedLaws.{from-any, from-class}
+use Rattle.jc_resolve.proofs.OwnClasses.{own-reference}
 use Rattle.law_relink.specs.Last.{and_last}
-use Rattle.xf_share.specs.Passes.{FitsElement, FitsMethod}
-use Rattle.xf_share.proofs.Elements.{AreFit}
-use Rattle.xf_share.proofs.Handlers.{entry_count, entry_sum, entries-within}
-use Rattle.xf_share.proofs.Headers.{headers, no-headers}
-use Rattle.xf_share.proofs.OwnMethods.{own_of}
+use Rattle.xf_last.specs.Fits.{AreFit, FitsElement, FitsMethod}
+use Rattle.xf_last.proofs.Handlers.{entry_count, entry_sum, entries-within}
+use Rattle.xf_last.proofs.Headers.{headers, no-headers}
+use Rattle.xf_last.proofs.OwnMethods.{own_of}
 
 -- ---- an element and the handlers that it may have
 
@@ -108,9 +109,16 @@ room-all many set (c ∷ cs) = by (set c.class_ref) (room-all many set cs)
 
 -- ---- a method of the world and its record in the Descriptor
 
-module _ (ps : List PackageRecord) (p : PackageRecord) (roles : List ℕ) (agreed : StandsFor p.parts p) (none : AllEmpty (conditions (and_last ps p)))
-    (at : slice_get (and_last ps p) (length ps) ≡ Some p) (internal : (c : ClassDescriptor) → IsOneOf p.description.items.classes c
-    → c.class_ref < 0x8000) where
+module _ (ps : List PackageRecord) (p : PackageRecord) (roles : List ℕ) (w : Linked) (linked : IsLinked (and_last ps p) roles w)
+    (agreed : StandsFor p.parts p) where
+  none : AllEmpty (conditions (and_last ps p))
+  none =
+      AllEmpty-before (conditions (and_last ps p)) (class_conditions (and_last ps p) roles)
+      (AllEmpty-before (table_conditions (and_last ps p) roles) (member_conditions (and_last ps p) roles) linked.faultless)
+
+  at : slice_get (and_last ps p) (length ps) ≡ Some p
+  at = slice_get-farther ps (p ∷ []) 0 (length ps) (omega arith)
+
   abbrev method_of : ℕ → ClassDescriptor → ℕ → MethodDescriptor → MethodRec
   method_of i c j m = named_method (and_last ps p) roles (numbered_method (length ps) p i c j m)
 
@@ -150,7 +158,7 @@ module _ (ps : List PackageRecord) (p : PackageRecord) (roles : List ℕ) (agree
       → names_interface p.classes c.class_ref ≡ false
       → body c m ≡ body_after (and_last ps p) (slice_index roles 1) (length ps) p m x.header (offset_in_info (m.method_offset + x.header.size))
   unfolding body_of
-  with-body c m x one e = rw (headers (and_last ps p) (length ps) p at c none one (internal c one) e, x.there) refl
+  with-body c m x one e = rw (headers (and_last ps p) (length ps) p at c none one (own-reference p agreed c one) e, x.there) refl
 
   same-header : (h k : Header) (o : Option Header) → o ≡ Some h → o ≡ Some k → h ≡ k
   same-header h k o e f = let both : Some h ≡ Some k = sym e ∙ f in cc
@@ -242,8 +250,8 @@ module _ (ps : List PackageRecord) (p : PackageRecord) (roles : List ℕ) (agree
           in-class i c (among c (inl refl)) e 0 c.methods (λ m h. h) (methods_of_classes (length ps) p (i + 1) cs)
           (methods_for (names_interface p.classes) cs) ls go fit
 
-  may-be : (laid : List (Option Laid)) → AreFit (own_of ps p roles) laid → length p.methods.handlers ≤ 255 → MayBeLaid p laid
-  may-be laid fit few =
+  pub may-be-laid : (laid : List (Option Laid)) → AreFit (own_of ps p roles) laid → length p.methods.handlers ≤ 255 → MayBeLaid p laid
+  may-be-laid laid fit few =
       let suited = in-classes 0 p.description.items.classes (λ c h. h) laid fit in
       let sum = sum-of p.methods.info (length p.methods.handlers) (methods_for (names_interface p.classes) p.description.items.classes) laid suited in
       let room = room-all (length p.methods.handlers) (names_interface p.classes) p.description.items.classes in
@@ -252,19 +260,3 @@ module _ (ps : List PackageRecord) (p : PackageRecord) (roles : List ℕ) (agree
         elements = elements-of p.methods.info (length p.methods.handlers) (methods_for (names_interface p.classes) p.description.items.classes) laid suited;
         few = omega (arith, sum, room, within, few);
       }
-
-at-last : (ps : List PackageRecord) (p : PackageRecord) → slice_get (and_last ps p) (length ps) ≡ Some p
-at-last [] p = refl
-at-last (q ∷ ps) p = at-last ps p
-
-names-faultless : (qs : List PackageRecord) (roles : List ℕ) (w : Linked) → IsLinked qs roles w → AllEmpty (conditions qs)
-names-faultless qs roles w linked =
-    let on_table = AllEmpty-before (table_conditions qs roles) (member_conditions qs roles) linked.faultless in
-    AllEmpty-before (conditions qs) (class_conditions qs roles) on_table
-
-pub may-be-laid : (ps : List PackageRecord) (p : PackageRecord) (roles : List ℕ) (w : Linked) → IsLinked (and_last ps p) roles w
-    → (laid : List (Option Laid)) → AreFit (own_of ps p roles) laid
-    → StandsFor p.parts p → ((c : ClassDescriptor) → IsOneOf p.description.items.classes c → c.class_ref < 0x8000)
-    → length p.methods.handlers ≤ 255 → MayBeLaid p laid
-may-be-laid ps p roles w linked laid fit agreed internal few =
-    may-be ps p roles agreed (names-faultless (and_last ps p) roles w linked) (at-last ps p) internal laid fit few

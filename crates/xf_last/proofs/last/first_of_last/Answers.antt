@@ -1,6 +1,6 @@
 use Rattle.std.proofs.Common.{arith}
-use Rattle.xf_share.proofs.OwnMethods.{first-here, first-later, none-left}
-use Rattle.xf_share.proofs.last.first_of_last.Goals as goal
+use Rattle.xf_last.proofs.OwnMethods.{first-here, first-later, none-left}
+use Rattle.xf_last.proofs.last.first_of_last.Goals as goal
 
 pub methods-preserved : goal.methods-preserved
 methods-preserved c = λ first is.
