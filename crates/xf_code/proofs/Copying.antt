@@ -4,17 +4,18 @@ use Rattle.std.proofs.Common.{◌∙◌, ap, arith}
 use Rattle.xf_homes.specs.declared.home.Home.{Home}
 use Rattle.xf_homes.specs.Source.{Source}
 use Rattle.xf_emission.specs.declared.origin.Origin.{Origin}
+use Rattle.jc_decode.specs.declared.symbols.Item.{Item}
 use Rattle.xf_emission.specs.Edge.{cell_copies, local_copies, locals_copies}
+use Rattle.xf_code.proofs.Steps.{goes-on}
 
-pub locals-first : (s : Source) (o : Origin) (q x len : ℕ) → x < len
-    → locals_copies s o q x (len - x) ≡ local_copies s o q x ++ locals_copies s o q (x + 1) (len - (x + 1))
-locals-first s o q x len lt =
+-- the copies of a local are appended, and those of the locals after it are left
+pub locals_on : (s : Source) (o : Origin) (q x len : ℕ) (items now whole : List Item) → x < len → now ≡ items ++ local_copies s o q x
+    → items ++ locals_copies s o q x (len - x) ≡ whole → now ++ locals_copies s o q (x + 1) (len - (x + 1)) ≡ whole
+locals_on s o q x len items now whole lt is left =
     let e : len - x ≡ suc (len - (x + 1)) = omega arith in
     let next : suc x ≡ x + 1 = omega arith in
-    ap (locals_copies s o q x) e ∙ ap (λ k. local_copies s o q x ++ locals_copies s o q k (len - (x + 1))) next
-
-pub locals-none : (s : Source) (o : Origin) (q x len : ℕ) → len ≤ x → locals_copies s o q x (len - x) ≡ []
-locals-none s o q x len le = let none : len - x ≡ 0 = omega arith in ap (locals_copies s o q x) none
+    goes-on items (local_copies s o q x) _ _ _ now
+    (ap (locals_copies s o q x) e ∙ ap (λ k. local_copies s o q x ++ locals_copies s o q k (len - (x + 1))) next) is left
 
 -- one of two lists of cells is at its end
 pub cells-past : (s : Source) (hs ks : List Home) (n : ℕ) → min (length hs) (length ks) ≤ n → cell_copies s (drop n hs) (drop n ks) ≡ []

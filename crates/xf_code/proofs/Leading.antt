@@ -1,6 +1,6 @@
--- Steps along the targets of a branch, and along handlers.
-use Rattle.std.proofs.Common.{◌≡◌, ℕ, zero, suc, Bool, true, false, cond, None, Some, position, slice_get, Contains, refl, sym, ◌+◌, ◌<◌}
-use Rattle.std.proofs.Common.{◌≤◌, List, [], ◌∷◌, ◌++◌, length, drop, if◌then◌else◌, ◌∙◌, ap, arith, All}
+-- Steps along the targets of a branch.
+use Rattle.std.proofs.Common.{◌≡◌, ℕ, zero, suc, Bool, true, false, cond, None, Some, position, slice_get, Contains, refl, sym, ◌+◌}
+use Rattle.std.proofs.Common.{◌≤◌, List, [], ◌∷◌, ◌++◌, length, ◌∙◌, ap, arith, All}
 use Rattle.std.specs.List.{position_or_len}
 use Rattle.std.specs.Ordering.{int_eq}
 use Rattle.std.proofs.lemmas.Bool.Decides.{nat_tests}
@@ -9,15 +9,12 @@ use Rattle.std.proofs.lemmas.Int.{ints}
 use Rattle.std.proofs.lemmas.List.Elements.{All-contains}
 use Rattle.std.proofs.lemmas.Option.{slice_get-get_or, slice_get_past}
 use Rattle.jc_decode.proofs.Elements.{Contains-slice_get}
-use Rattle.std.proofs.lemmas.List.{drop_more, drop_all}
-use Rattle.jc_base.specs.declared.record.Handler.{Handler}
 use Rattle.jc_ops.specs.declared.operation.Operation.{Operation}
 use Rattle.xf_homes.specs.Source.{Source}
-use Rattle.xf_emission.specs.Jump.{IsNearBy, each_once, way_of, lead, leads, stub, stubs_of}
+use Rattle.xf_emission.specs.Jump.{IsNearBy, each_once, way_of, lead, leads}
 use Rattle.xf_code.specs.Ways.{way_labels}
 use Rattle.law_laid.proofs.Steps.{at-contains}
 use Rattle.xf_emission.proofs.Ways.{way-found, way-from}
-use Rattle.xf_emission.specs.Emission.{catching_stub, catching_stubs, is_live, range, ranges_from}
 
 pub near-low : (t : ℤ) → IsNearBy t → pos 0 ≤ℤ t
 near-low (pos q) h = omega (arith, ints)
@@ -60,15 +57,6 @@ module _ (s : Source) (p : ℕ) (op : Operation) (n : ℕ) where
   pub leads-none : (whole rest : List ℤ) → rest ≡ [] → leads s p op n whole rest ≡ []
   leads-none whole rest e = ap (leads s p op n whole) e
 
-  pub labels-next : (ways : List ℤ) (k : ℕ) (d : ℤ) → k < length ways
-      → way_labels s p op n k (drop k ways) ≡ (lead s p op n k (get_or ways k d) ∷ []) ++ way_labels s p op n (k + 1) (drop (k + 1) ways)
-  labels-next ways k d lt =
-      let next : suc k ≡ k + 1 = omega arith in
-      ap (way_labels s p op n k) (drop_more ways k d lt) ∙ ap (λ j. lead s p op n k (get_or ways k d) ∷ way_labels s p op n j (drop (k + 1) ways)) next
-
-  pub labels-none : (ways : List ℤ) (k : ℕ) → length ways ≤ k → way_labels s p op n k (drop k ways) ≡ []
-  labels-none ways k le = ap (way_labels s p op n k) (drop_all k ways le)
-
   pub labels-length : (k : ℕ) (ways : List ℤ) → length (way_labels s p op n k ways) ≡ length ways
   labels-length k [] = refl
   labels-length k (t ∷ ts) = ap suc (labels-length (suc k) ts)
@@ -91,36 +79,3 @@ module _ (s : Source) (p : ℕ) (op : Operation) (n : ℕ) where
   target-label all t c =
       let first : 0 + way_of all t ≡ way_of all t = omega arith in
       label-from 0 (way_of all t) (each_once all) t (way-found all c.0 t (at-contains all t c)) ∙ ap (λ j. Some (lead s p op n j t)) first
-
-  pub stubs-next : (ways : List ℤ) (k : ℕ) (d : ℤ) → k < length ways
-      → stubs_of s p op n k (drop k ways) ≡ stub s p op n k (get_or ways k d) ++ stubs_of s p op n (k + 1) (drop (k + 1) ways)
-  stubs-next ways k d lt =
-      let next : suc k ≡ k + 1 = omega arith in
-      ap (stubs_of s p op n k) (drop_more ways k d lt) ∙ ap (λ j. stub s p op n k (get_or ways k d) ++ stubs_of s p op n j (drop (k + 1) ways)) next
-
-  pub stubs-none : (ways : List ℤ) (k : ℕ) → length ways ≤ k → stubs_of s p op n k (drop k ways) ≡ []
-  stubs-none ways k le = ap (stubs_of s p op n k) (drop_all k ways le)
-
-module _ (s : Source) (hs : List Handler) (n : ℕ) where
-  pub caught-next : (d : Handler) → n < length hs
-      → catching_stubs s n (drop n hs) ≡ (if is_live s (get_or hs n d) then catching_stub s n (get_or hs n d) else []) ++ catching_stubs s (n + 1)
-      (drop (n + 1) hs)
-  caught-next d lt =
-      let next : suc n ≡ n + 1 = omega arith in
-      let h = get_or hs n d in
-      ap (catching_stubs s n) (drop_more hs n d lt) ∙ ap (λ k. (if is_live s h then catching_stub s n h else []) ++ catching_stubs s k (drop (n + 1) hs))
-      next
-
-  pub caught-none : length hs ≤ n → catching_stubs s n (drop n hs) ≡ []
-  caught-none le = ap (catching_stubs s n) (drop_all n hs le)
-
-  pub ranges-next : (d : Handler) → n < length hs
-      → ranges_from s n (drop n hs) ≡ (if is_live s (get_or hs n d) then range s n (get_or hs n d) ∷ [] else []) ++ ranges_from s (n + 1)
-      (drop (n + 1) hs)
-  ranges-next d lt =
-      let next : suc n ≡ n + 1 = omega arith in
-      let h = get_or hs n d in
-      ap (ranges_from s n) (drop_more hs n d lt) ∙ ap (λ k. (if is_live s h then range s n h ∷ [] else []) ++ ranges_from s k (drop (n + 1) hs)) next
-
-  pub ranges-none : length hs ≤ n → ranges_from s n (drop n hs) ≡ []
-  ranges-none le = ap (ranges_from s n) (drop_all n hs le)

@@ -4,15 +4,12 @@ ghost use Rattle.jc_decode.specs.Listing.{targets};
 ghost use Rattle.xf_homes.specs.PlannedMethod.{source};
 ghost use Rattle.xf_emission.specs.Jump.{AreLed, each_once, branch, first_label, jump_to, has_under, spill_if, stubs_of};
 
-use crate::edge::EdgeScratch;
-use crate::jump::{Fork, has_under, operands};
-use crate::moves::{loads, put, spill};
-use crate::ways::leads;
-use jc_decode::{Insn, Item, Labels, Placed};
+use crate::emitter::{Emitted, Emitter, put};
+use crate::jump::Fork;
+use crate::ways::Stubs;
+use jc_decode::{Item, Labels, Placed};
 use jc_ops::Operation;
-use std::alloc::{AllocError, Global};
 use xf_emission::mnemonics::{GOTO, IFEQ, IFEQ_W};
-use xf_homes::Plan;
 
 /// The opcode of the wide form of a jump.
 fn wide(op: u8) -> u8
@@ -51,53 +48,35 @@ fn jump_to(placed: Placed, operation: Operation, labels: Vec<u16>) -> Item
     }
 }
 
-/// Appends the stores of the whole stack into its own homes and the loads of the operands, where the stack is deeper.
-fn spill_if(
-    alloc: Global,
-    plan: &Plan<'_>,
-    fork: Fork,
-    items: &mut Vec<Item>,
-) -> Result<(), AllocError>
-    ensures { OnOk result
-        (items.new.items
-        ≡ items.old.items
-        ++ spill_if (has_under (source plan.now) fork.place fork.operands) (source plan.now) fork.place fork.operands) }
-{
-    if !has_under(plan, fork) {
-        return Ok(());
+impl Emitter<'_> {
+    /// Appends the stores of the whole stack into its own homes and the loads of the operands, where the stack is deeper.
+    fn spill_if(&self, fork: Fork, items: &mut Vec<Item>) -> Emitted
+        ensures { OnOk result
+            (let s = source self.now.plan in
+            items.new.items ≡ items.old.items ++ spill_if (has_under s fork.placed.place fork.operands) s fork.placed.place fork.operands) }
+    {
+        if !self.has_under(fork) {
+            return Ok(());
+        }
+        let cells = self.plan.stack_homes(self.alloc, fork.placed.place)?;
+        self.spill(cells.as_slice(), items)?;
+        let operands = self.operands(fork)?;
+        self.loads(operands.as_slice(), items)
     }
-    let cells = plan.stack_homes(alloc, fork.place)?;
-    spill(plan, cells.as_slice(), items)?;
-    let operands = operands(alloc, plan, fork)?;
-    loads(plan, operands.as_slice(), items)
-}
 
-/// Appends a conditional branch or switch to the items, and the stubs of its ways to the stubs.
-#[tactic(auto, unfolding(xf_emission::specs::Jump::branch))]
-pub fn branch(
-    alloc: Global,
-    plan: &Plan<'_>,
-    fork: Fork,
-    insn: Insn,
-    scratch: &mut EdgeScratch,
-    items: &mut Vec<Item>,
-    stubs: &mut Vec<Item>,
-) -> Result<(), AllocError>
-    requires { AreLed plan.now.walk.code.bytes.now (record { place = fork.place; insn = insn }) }
-    ensures items { OnOk result
-        (items.new.items
-        ≡ items.old.items ++ branch (source plan.now) (record { place = fork.place; insn = insn }) fork.operation fork.operands) }
-    ensures stubs { OnOk result
-        (stubs.new.items
-        ≡ stubs.old.items
-        ++ stubs_of (source plan.now) fork.place fork.operation fork.operands 0
-        (each_once (targets plan.now.walk.code.bytes.now (record { place = fork.place; insn = insn })))) }
-{
-    let placed = Placed {
-        place: fork.place,
-        insn,
-    };
-    spill_if(alloc, plan, fork, items)?;
-    let labels = leads(alloc, plan, fork, insn, scratch, stubs)?;
-    put(items, jump_to(placed, fork.operation, labels))
+    /// Appends a conditional branch or switch to the items, and the stubs of its ways to the stubs.
+    #[tactic(auto, unfolding(xf_emission::specs::Jump::branch))]
+    pub fn branch(&self, fork: Fork, items: &mut Vec<Item>, stubs: &mut Stubs) -> Emitted
+        requires { AreLed self.now.plan.walk.code.bytes.now fork.placed }
+        ensures items { OnOk result
+            (items.new.items ≡ items.old.items ++ branch (source self.now.plan) fork.placed fork.operation fork.operands) }
+        ensures stubs { OnOk result
+            (stubs.new.items.items
+            ≡ stubs.old.items.items ++ stubs_of (source self.now.plan) fork.placed.place fork.operation fork.operands 0
+            (each_once (targets self.now.plan.walk.code.bytes.now fork.placed))) }
+    {
+        self.spill_if(fork, items)?;
+        let labels = self.leads(fork, stubs)?;
+        put(items, jump_to(fork.placed, fork.operation, labels))
+    }
 }

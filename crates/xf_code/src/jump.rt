@@ -2,100 +2,74 @@ ghost use Rattle.std.specs.Prelude.{◌≡◌, ◌≤◌, ◌+◌, ◌/◌, ◌+
 ghost use Rattle.xf_homes.specs.PlannedMethod.{source};
 ghost use Rattle.xf_emission.specs.Jump.{operands_slot, under, operands, has_under, branch_copies, place, stub_label, goto, IsNearBy};
 
-use crate::edge::{EdgeScratch, cell_copies, copies};
-use crate::moves::put;
+use crate::emitter::{Emitted, Emitter, Output};
 use jc_control::place_of;
-use jc_decode::Item;
+use jc_decode::{Item, Placed};
 use jc_ops::Operation;
-use std::alloc::{AllocError, Global};
+use std::alloc::AllocError;
 use xf_emission::Origin;
 use xf_emission::mnemonics::GOTO_W;
-use xf_homes::{Home, Plan};
+use xf_homes::Home;
 
-/// A conditional branch or switch at a place, with the number of cells that are its operands.
+/// A conditional branch or switch, with the number of cells that are its operands.
 #[derive(Clone, Copy)]
 pub struct Fork {
-    pub place: u16,
+    pub placed: Placed,
     pub operation: Operation,
     pub operands: u8,
 }
 
-fn cut(plan: &Plan<'_>, fork: Fork) -> u16
-    ensures { result ≡ operands_slot (source plan.now) fork.place fork.operands }
-{
-    plan.walk.registers()
-        + plan
-            .depth(fork.place)
-            .saturating_sub(u16::from(fork.operands))
-}
-
-/// Whether the stack is deeper than the operands of a branch or switch.
-pub fn has_under(plan: &Plan<'_>, fork: Fork) -> bool
-    ensures { result ≡ has_under (source plan.now) fork.place fork.operands }
-{
-    u16::from(fork.operands) < plan.depth(fork.place)
-}
-
-/// The homes of the cells under the operands.
-#[tactic(auto, unfolding(xf_emission::specs::Jump::under))]
-pub fn under(alloc: Global, plan: &Plan<'_>, fork: Fork) -> Result<Vec<Home>, AllocError>
-    ensures { IfOk result (λ hs. hs.items ≡ under (source plan.now) fork.place fork.operands) }
-{
-    let cut = cut(plan, fork);
-    let cells = plan.stack_homes(alloc, fork.place)?;
-    let mut homes = Vec::new(alloc);
-    'cells: for home in cells.as_slice() {
-        if home.slot < cut {
-            if let Err(error) = homes.push(*home) {
-                return Err(error.into());
-            }
-        }
+impl Emitter<'_> {
+    /// The slot at which the operands begin.
+    fn cut(&self, fork: Fork) -> u16
+        ensures { result ≡ operands_slot (source self.now.plan) fork.placed.place fork.operands }
+    {
+        let under = self
+            .plan
+            .depth(fork.placed.place)
+            .saturating_sub(u16::from(fork.operands));
+        self.plan.walk.registers() + under
     }
-    Ok(homes)
-}
 
-/// The homes of the operands.
-#[tactic(auto, unfolding(xf_emission::specs::Jump::operands))]
-pub fn operands(alloc: Global, plan: &Plan<'_>, fork: Fork) -> Result<Vec<Home>, AllocError>
-    ensures { IfOk result (λ hs. hs.items ≡ operands (source plan.now) fork.place fork.operands) }
-{
-    let cut = cut(plan, fork);
-    let cells = plan.stack_homes(alloc, fork.place)?;
-    let mut homes = Vec::new(alloc);
-    'cells: for home in cells.as_slice() {
-        if cut <= home.slot {
-            if let Err(error) = homes.push(*home) {
-                return Err(error.into());
-            }
-        }
+    /// Whether the stack is deeper than the operands of a branch or switch.
+    pub fn has_under(&self, fork: Fork) -> bool
+        ensures { result ≡ has_under (source self.now.plan) fork.placed.place fork.operands }
+    {
+        u16::from(fork.operands) < self.plan.depth(fork.placed.place)
     }
-    Ok(homes)
-}
 
-/// Appends what has to be copied where the branch is taken to a place.
-#[tactic(auto, unfolding(xf_emission::specs::Jump::branch_copies))]
-pub fn taken(
-    alloc: Global,
-    plan: &Plan<'_>,
-    fork: Fork,
-    to: u16,
-    scratch: &mut EdgeScratch,
-    items: &mut Vec<Item>,
-) -> Result<(), AllocError>
-    ensures { OnOk result
-        (items.new.items
-        ≡ items.old.items ++ branch_copies (source plan.now) fork.place fork.operation fork.operands to) }
-{
-    let from = under(alloc, plan, fork)?;
-    let cells = plan.stack_homes(alloc, to)?;
-    cell_copies(plan, from.as_slice(), cells.as_slice(), items)?;
-    copies(
-        plan,
-        Origin::After(fork.place, fork.operation),
-        to,
-        scratch,
-        items,
-    )
+    /// The homes of the cells under the operands.
+    pub fn under(&self, fork: Fork) -> Result<Vec<Home>, AllocError>
+        ensures { IfOk result (λ hs. hs.items ≡ under (source self.now.plan) fork.placed.place fork.operands) }
+    {
+        let cut = self.cut(fork);
+        let mut cells = self.plan.stack_homes(self.alloc, fork.placed.place)?;
+        cells.retain(|home| home.slot < cut);
+        Ok(cells)
+    }
+
+    /// The homes of the operands.
+    pub fn operands(&self, fork: Fork) -> Result<Vec<Home>, AllocError>
+        ensures { IfOk result (λ hs. hs.items ≡ operands (source self.now.plan) fork.placed.place fork.operands) }
+    {
+        let cut = self.cut(fork);
+        let mut cells = self.plan.stack_homes(self.alloc, fork.placed.place)?;
+        cells.retain(|home| cut <= home.slot);
+        Ok(cells)
+    }
+
+    /// Appends what has to be copied where the branch is taken to a place.
+    #[tactic(auto, unfolding(xf_emission::specs::Jump::branch_copies))]
+    pub fn branch_copies(&self, fork: Fork, to: u16, out: &mut Output) -> Emitted
+        ensures { OnOk result
+            (out.new.items.items
+            ≡ out.old.items.items ++ branch_copies (source self.now.plan) fork.placed.place fork.operation fork.operands to) }
+    {
+        let under = self.under(fork)?;
+        let cells = self.plan.stack_homes(self.alloc, to)?;
+        self.cell_copies(under.as_slice(), cells.as_slice(), &mut out.items)?;
+        self.copies(Origin::After(fork.placed.place, fork.operation), to, out)
+    }
 }
 
 /// The label of the stub of a way, by its number.
@@ -104,21 +78,6 @@ pub fn stub_label(place: u16, n: u16) -> u16
     ensures { result ≡ stub_label place n }
 {
     32768 + (place / 2 + n)
-}
-
-/// What has to be copied where the branch is taken to a place, as a list of its own.
-pub fn copied(
-    alloc: Global,
-    plan: &Plan<'_>,
-    fork: Fork,
-    to: u16,
-    scratch: &mut EdgeScratch,
-) -> Result<Vec<Item>, AllocError>
-    ensures { IfOk result (λ is. is.items ≡ branch_copies (source plan.now) fork.place fork.operation fork.operands to) }
-{
-    let mut items = Vec::new(alloc);
-    taken(alloc, plan, fork, to, scratch, &mut items)?;
-    Ok(items)
 }
 
 /// The place of a target.

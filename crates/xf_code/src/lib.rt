@@ -7,6 +7,7 @@
 mod body;
 mod branch;
 mod edge;
+mod emitter;
 mod fall;
 mod field;
 mod group;

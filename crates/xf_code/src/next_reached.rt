@@ -3,6 +3,7 @@ ghost use Rattle.xf_homes.specs.Plan.{first_reached};
 ghost use Rattle.xf_homes.specs.PlannedMethod.{source};
 ghost use Rattle.xf_code.specs.NextReached.{AreNextReached};
 
+use crate::emitter::Emitter;
 use std::alloc::{AllocError, Global};
 use xf_homes::Plan;
 
@@ -25,14 +26,14 @@ pub fn next_reached(alloc: Global, plan: &Plan<'_>) -> Result<Vec<u16>, AllocErr
     Ok(next)
 }
 
-/// The first place from a place on that control reaches, or the end of the code.
-pub fn first_reached(plan: &Plan<'_>, next: &[u16], place: u16) -> u16
-    requires { AreNextReached (source plan.now) next.now }
-    ensures { result ≡ first_reached (source plan.now) place }
-{
-    let _ = plan;
-    match next.get(place as usize) {
-        Some(reached) => *reached,
-        None => place,
+impl Emitter<'_> {
+    /// The first place from a place on that control reaches, or the end of the code.
+    pub fn first_reached(&self, place: u16) -> u16
+        ensures { result ≡ first_reached (source self.now.plan) place }
+    {
+        match self.next.get(place as usize) {
+            Some(reached) => *reached,
+            None => place,
+        }
     }
 }

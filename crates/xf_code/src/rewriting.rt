@@ -1,5 +1,5 @@
 ghost use Rattle.std.specs.Prelude.{◌≡◌, ◌≤◌, ◌<◌, ◌^◌, ◌↔◌, All, IfOk, IsSomeAnd, Err, length, slice_get};
-ghost use Rattle.jc_control.specs.Method.{IsMethodOf, method_in};
+ghost use Rattle.jc_control.specs.Method.{method_in};
 ghost use Rattle.jc_flow.specs.Infer.{AreDerived};
 ghost use Rattle.jc_rules.specs.Typing.{state_at};
 ghost use Rattle.xf_homes.specs.Answer.{IsTypingOf};
@@ -9,19 +9,15 @@ ghost use Rattle.cap_bytes.specs.Bytes.{AreBytes};
 ghost use Rattle.jc_decode.specs.Symbols.{IsItem, IsRange, plain_size};
 ghost use Rattle.xf_emission.specs.Emission.{IsPlainSize, AreSymbolsOf, items, ranges, rewritten};
 ghost use Rattle.xf_code.specs.Known.{IsSubject};
-ghost use Rattle.xf_code.specs.NextReached.{AreNextReached};
 ghost use Rattle.xf_emission.specs.Live.{KeepsLive};
 ghost use Rattle.xf_emission.specs.Numbers.{HasNumbers};
 ghost use Rattle.law_rewritten_typing.specs.Typed.{HasTypingByHomes};
 ghost use Rattle.law_groups.specs.Matching.{MatchesMethod};
 
-use crate::edge::{EdgeScratch, copies};
-use crate::group::groups;
-use crate::handlers::{handler_stubs, ranges};
-use crate::moves::put;
+use crate::emitter::{Emitter, Output, put};
 use crate::next_reached::next_reached;
+use crate::ways::Stubs;
 use cap_bytes::{View, are_bytes};
-use indexmap::IndexSet;
 use jc_base::World;
 use jc_control::{ControlEnd, control_flow, flaws_decide, instructions_are_placed};
 use jc_decode::{Item, Sequence, Symbols, instructions_are_listed};
@@ -50,40 +46,49 @@ impl From<AllocError> for RewriteEnd {
     }
 }
 
-/// The items of a method.
-#[tactic(auto, unfolding(xf_emission::specs::Emission::items))]
-fn items(alloc: Global, plan: &Plan<'_>, next: &[u16]) -> Result<Vec<Item>, AllocError>
-    requires subject { IsSubject plan.now }
-    requires next { AreNextReached (source plan.now) next.now }
-    requires few { length plan.now.walk.rec.now.handlers ≤ 255 }
-    ensures { IfOk result (λ is. is.items ≡ items (source plan.now)) }
-{
-    let mut scratch = EdgeScratch {
-        held: IndexSet::new(alloc),
-        needed: IndexSet::new(alloc),
-    };
-    let mut items = Vec::new(alloc);
-    copies(plan, Origin::Start, 0, &mut scratch, &mut items)?;
-    let mut stubs = Vec::new(alloc);
-    groups(alloc, plan, &mut scratch, &mut items, &mut stubs)?;
-    put(&mut items, Item::Label(plan.walk.code.bytes.len() as u16))?;
-    items.append(&mut stubs)?;
-    handler_stubs(alloc, plan, next, &mut scratch, &mut items)?;
-    Ok(items)
+impl Emitter<'_> {
+    /// The items of a method.
+    #[tactic(auto, unfolding(xf_emission::specs::Emission::items))]
+    fn items(&self) -> Result<Vec<Item>, AllocError>
+        requires subject { IsSubject self.now.plan }
+        requires few { length self.now.plan.walk.rec.now.handlers ≤ 255 }
+        ensures { IfOk result (λ is. is.items ≡ items (source self.now.plan)) }
+    {
+        let mut out = Output::new(self.alloc);
+        self.copies(Origin::Start, 0, &mut out)?;
+        let mut stubs = Stubs {
+            items: Vec::new(self.alloc),
+            way: Output::new(self.alloc),
+        };
+        self.groups(&mut out, &mut stubs)?;
+        put(
+            &mut out.items,
+            Item::Label(self.plan.walk.code.bytes.len() as u16),
+        )?;
+        out.items.append(&mut stubs.items)?;
+        self.handler_stubs(&mut out)?;
+        let Output { items, .. } = out;
+        Ok(items)
+    }
 }
 
 /// The symbols of a method, whose stack has room for one cell more.
 #[tactic(auto, unfolding(xf_emission::specs::Emission::rewritten, xf_emission::specs::Emission::ranges))]
-fn rewritten(alloc: Global, plan: &Plan<'_>) -> Result<Symbols, AllocError>
-    requires subject { IsSubject plan.now }
-    requires few { length plan.now.walk.rec.now.handlers ≤ 255 }
-    requires room { plan.now.walk.rec.now.max_stack < 255 }
-    ensures { IfOk result (λ symbols. symbols ≡ rewritten (source plan.now)) }
+fn rewritten(alloc: Global, plan: Plan<'_>) -> Result<Symbols, AllocError>
+    requires subject { IsSubject plan }
+    requires few { length plan.walk.rec.now.handlers ≤ 255 }
+    requires room { plan.walk.rec.now.max_stack < 255 }
+    ensures { IfOk result (λ symbols. symbols ≡ rewritten (source plan.entry)) }
 {
     let rec = plan.walk.rec;
-    let next = next_reached(alloc, plan)?;
-    let items = items(alloc, plan, next.as_slice())?;
-    let ranges = ranges(alloc, plan, next.as_slice())?;
+    let next = next_reached(alloc, &plan)?;
+    let emitter = Emitter {
+        alloc,
+        plan,
+        next: next.as_slice(),
+    };
+    let items = emitter.items()?;
+    let ranges = emitter.ranges()?;
     Ok(Symbols {
         items: Sequence::of(items),
         ranges: Sequence::of(ranges),
@@ -178,7 +183,7 @@ pub fn rewrite<'a>(
         },
         homes,
     };
-    match rewritten(alloc, &plan) {
+    match rewritten(alloc, plan) {
         Ok(symbols) => Ok(symbols),
         Err(error) => Err(error.into()),
     }

@@ -6,88 +6,18 @@ ghost use Rattle.xf_homes.specs.PlannedMethod.{source};
 ghost use Rattle.xf_emission.specs.Jump.{each_once, lead, leads, stub, stubs_of, AreLed, IsNearBy};
 ghost use Rattle.xf_code.specs.Ways.{way_labels};
 
-use crate::edge::EdgeScratch;
-use crate::jump::{Fork, copied, goto, stub_label, target_place};
-use crate::moves::put;
+use crate::emitter::{Emitted, Emitter, Output, put};
+use crate::jump::{Fork, goto, stub_label, target_place};
 use indexmap::IndexSet;
 use jc_control::Targets;
-use jc_decode::{Insn, Item, Placed};
-use std::alloc::{AllocError, Global};
-use xf_homes::Plan;
+use jc_decode::{Item, Placed};
+use std::alloc::AllocError;
 
-/// The ways that a branch is taken: its targets, each once.
-fn ways(alloc: Global, plan: &Plan<'_>, placed: Placed) -> Result<IndexSet<i32>, AllocError>
-    requires { AreLed plan.now.walk.code.bytes.now placed }
-    ensures { IfOk result (λ ways. ways.keys ≡ each_once (targets plan.now.walk.code.bytes.now placed)) }
-{
-    let mut ways = IndexSet::new(alloc);
-    'targets: for target in Targets::of(plan.walk.code, placed) {
-        if let Err(error) = ways.insert(target) {
-            return Err(error.into());
-        }
-    }
-    Ok(ways)
-}
-
-/// The label to which the branch is taken on its n-th way: the target's own, or that of a stub, which is appended.
-#[tactic(auto, unfolding(xf_emission::specs::Jump::lead, xf_emission::specs::Jump::stub))]
-fn put_way(
-    alloc: Global,
-    plan: &Plan<'_>,
-    fork: Fork,
-    n: u16,
-    target: &i32,
-    scratch: &mut EdgeScratch,
-    stubs: &mut Vec<Item>,
-) -> Result<u16, AllocError>
-    requires few { fork.place / 2 + n ≤ 32767 }
-    requires near { IsNearBy target.now }
-    ensures label { IfOk result (λ l. l ≡ lead (source plan.now) fork.place fork.operation fork.operands n target.now) }
-    ensures stubs { OnOk result
-        (stubs.new.items
-        ≡ stubs.old.items ++ stub (source plan.now) fork.place fork.operation fork.operands n target.now) }
-{
-    let to = target_place(*target);
-    let mut copies = copied(alloc, plan, fork, to, scratch)?;
-    if copies.is_empty() {
-        return Ok(to);
-    }
-    let label = stub_label(fork.place, n);
-    put(stubs, Item::Label(label))?;
-    stubs.append(&mut copies)?;
-    put(stubs, goto(to))?;
-    Ok(label)
-}
-
-/// The labels of all ways, in their order, whose stubs are appended.
-fn put_ways(
-    alloc: Global,
-    plan: &Plan<'_>,
-    fork: Fork,
-    ways: &[i32],
-    scratch: &mut EdgeScratch,
-    stubs: &mut Vec<Item>,
-) -> Result<Vec<u16>, AllocError>
-    requires few { fork.place / 2 + length ways.now ≤ 32768 }
-    requires near { All IsNearBy ways.now }
-    ensures labels { IfOk result
-        (λ ls. ls.items ≡ way_labels (source plan.now) fork.place fork.operation fork.operands 0 ways.now) }
-    ensures stubs { OnOk result
-        (stubs.new.items
-        ≡ stubs.old.items ++ stubs_of (source plan.now) fork.place fork.operation fork.operands 0 ways.now) }
-{
-    let mut labels = Vec::new(alloc);
-    'ways: for (n, target) in ways.iter().enumerate() {
-        match put_way(alloc, plan, fork, n as u16, target, scratch, stubs) {
-            Ok(label) => {
-                if let Err(error) = labels.push(label) {
-                    return Err(error.into());
-                }
-            }
-            Err(error) => return Err(error),
-        }
-    }
-    Ok(labels)
+/// The stubs so far, and what is copied on the way that is looked at.
+#[derive(Drop)]
+pub struct Stubs {
+    pub items: Vec<Item>,
+    pub way: Output,
 }
 
 fn label_at(labels: &[u16], n: usize) -> Option<u16>
@@ -108,7 +38,7 @@ fn label_of(ways: &IndexSet<i32>, labels: &[u16], target: i32) -> Option<u16>
 }
 
 /// Appends a label, if there is one.
-fn push_label(all: &mut Vec<u16>, label: Option<u16>) -> Result<(), AllocError>
+fn push_label(all: &mut Vec<u16>, label: Option<u16>) -> Emitted
     ensures { OnOk result (IfSome label (λ l. all.new.items ≡ all.old.items ++ l ∷ [])) }
 {
     match label {
@@ -117,61 +47,110 @@ fn push_label(all: &mut Vec<u16>, label: Option<u16>) -> Result<(), AllocError>
     }
 }
 
-/// The labels of all targets, by those of the ways.
-fn labels_by(
-    alloc: Global,
-    plan: &Plan<'_>,
-    fork: Fork,
-    insn: Insn,
-    ways: &IndexSet<i32>,
-    labels: &[u16],
-) -> Result<Vec<u16>, AllocError>
-    requires led { AreLed plan.now.walk.code.bytes.now (record { place = fork.place; insn = insn }) }
-    requires ways { ways.now.keys ≡ each_once (targets plan.now.walk.code.bytes.now (record { place = fork.place; insn = insn })) }
-    requires labels { labels.now ≡ way_labels (source plan.now) fork.place fork.operation fork.operands 0 ways.now.keys }
-    ensures { IfOk result (λ ls. ls.items
-        ≡ leads (source plan.now) fork.place fork.operation fork.operands
-        (targets plan.now.walk.code.bytes.now (record { place = fork.place; insn = insn }))
-        (targets plan.now.walk.code.bytes.now (record { place = fork.place; insn = insn }))) }
-{
-    let placed = Placed {
-        place: fork.place,
-        insn,
-    };
-    let mut all = Vec::new(alloc);
-    'targets: for target in Targets::of(plan.walk.code, placed) {
-        if let Err(error) = push_label(&mut all, label_of(ways, labels, target)) {
-            return Err(error);
+impl Emitter<'_> {
+    /// The ways that a branch is taken: its targets, each once.
+    fn ways(&self, placed: Placed) -> Result<IndexSet<i32>, AllocError>
+        requires { AreLed self.now.plan.walk.code.bytes.now placed }
+        ensures { IfOk result (λ ways. ways.keys ≡ each_once (targets self.now.plan.walk.code.bytes.now placed)) }
+    {
+        let mut ways = IndexSet::new(self.alloc);
+        'targets: for target in Targets::of(self.plan.walk.code, placed) {
+            if let Err(error) = ways.insert(target) {
+                return Err(error.into());
+            }
         }
+        Ok(ways)
     }
-    Ok(all)
-}
 
-/// The labels of all targets of the branch, in their order; the stubs of its ways are appended.
-pub fn leads(
-    alloc: Global,
-    plan: &Plan<'_>,
-    fork: Fork,
-    insn: Insn,
-    scratch: &mut EdgeScratch,
-    stubs: &mut Vec<Item>,
-) -> Result<Vec<u16>, AllocError>
-    requires { AreLed plan.now.walk.code.bytes.now (record { place = fork.place; insn = insn }) }
-    ensures labels { IfOk result (λ ls. ls.items
-        ≡ leads (source plan.now) fork.place fork.operation fork.operands
-        (targets plan.now.walk.code.bytes.now (record { place = fork.place; insn = insn }))
-        (targets plan.now.walk.code.bytes.now (record { place = fork.place; insn = insn }))) }
-    ensures stubs { OnOk result
-        (stubs.new.items
-        ≡ stubs.old.items
-        ++ stubs_of (source plan.now) fork.place fork.operation fork.operands 0
-        (each_once (targets plan.now.walk.code.bytes.now (record { place = fork.place; insn = insn })))) }
-{
-    let placed = Placed {
-        place: fork.place,
-        insn,
-    };
-    let ways = ways(alloc, plan, placed)?;
-    let labels = put_ways(alloc, plan, fork, ways.as_slice(), scratch, stubs)?;
-    labels_by(alloc, plan, fork, insn, &ways, labels.as_slice())
+    /// The label to which the branch is taken on its n-th way: the target's own, or that of a stub, which is appended.
+    #[tactic(auto, unfolding(xf_emission::specs::Jump::lead, xf_emission::specs::Jump::stub))]
+    fn put_way(
+        &self,
+        fork: Fork,
+        n: u16,
+        target: &i32,
+        stubs: &mut Stubs,
+    ) -> Result<u16, AllocError>
+        requires few { fork.placed.place / 2 + n ≤ 32767 }
+        requires near { IsNearBy target.now }
+        ensures label { IfOk result (λ l. l ≡ lead (source self.now.plan) fork.placed.place fork.operation fork.operands n target.now) }
+        ensures stubs { OnOk result
+            (stubs.new.items.items
+            ≡ stubs.old.items.items ++ stub (source self.now.plan) fork.placed.place fork.operation fork.operands n target.now) }
+    {
+        let to = target_place(*target);
+        stubs.way.items.clear();
+        self.branch_copies(fork, to, &mut stubs.way)?;
+        if stubs.way.items.is_empty() {
+            return Ok(to);
+        }
+        let label = stub_label(fork.placed.place, n);
+        put(&mut stubs.items, Item::Label(label))?;
+        stubs.items.append(&mut stubs.way.items)?;
+        put(&mut stubs.items, goto(to))?;
+        Ok(label)
+    }
+
+    /// The labels of all ways, in their order, whose stubs are appended.
+    fn put_ways(&self, fork: Fork, ways: &[i32], stubs: &mut Stubs) -> Result<Vec<u16>, AllocError>
+        requires few { fork.placed.place / 2 + length ways.now ≤ 32768 }
+        requires near { All IsNearBy ways.now }
+        ensures labels { IfOk result
+            (λ ls. ls.items ≡ way_labels (source self.now.plan) fork.placed.place fork.operation fork.operands 0 ways.now) }
+        ensures stubs { OnOk result
+            (stubs.new.items.items
+            ≡ stubs.old.items.items ++ stubs_of (source self.now.plan) fork.placed.place fork.operation fork.operands 0 ways.now) }
+    {
+        let mut labels = Vec::new(self.alloc);
+        'ways: for (n, target) in ways.iter().enumerate() {
+            match self.put_way(fork, n as u16, target, stubs) {
+                Ok(label) => {
+                    if let Err(error) = labels.push(label) {
+                        return Err(error.into());
+                    }
+                }
+                Err(error) => return Err(error),
+            }
+        }
+        Ok(labels)
+    }
+
+    /// The labels of all targets, by those of the ways.
+    fn labels_by(
+        &self,
+        fork: Fork,
+        ways: &IndexSet<i32>,
+        labels: &[u16],
+    ) -> Result<Vec<u16>, AllocError>
+        requires led { AreLed self.now.plan.walk.code.bytes.now fork.placed }
+        requires ways { ways.now.keys ≡ each_once (targets self.now.plan.walk.code.bytes.now fork.placed) }
+        requires labels { labels.now ≡ way_labels (source self.now.plan) fork.placed.place fork.operation fork.operands 0 ways.now.keys }
+        ensures { IfOk result
+            (λ ls. let all = targets self.now.plan.walk.code.bytes.now fork.placed in
+            ls.items ≡ leads (source self.now.plan) fork.placed.place fork.operation fork.operands all all) }
+    {
+        let mut all = Vec::new(self.alloc);
+        'targets: for target in Targets::of(self.plan.walk.code, fork.placed) {
+            if let Err(error) = push_label(&mut all, label_of(ways, labels, target)) {
+                return Err(error);
+            }
+        }
+        Ok(all)
+    }
+
+    /// The labels of all targets of the branch, in their order; the stubs of its ways are appended.
+    pub fn leads(&self, fork: Fork, stubs: &mut Stubs) -> Result<Vec<u16>, AllocError>
+        requires { AreLed self.now.plan.walk.code.bytes.now fork.placed }
+        ensures labels { IfOk result
+            (λ ls. let all = targets self.now.plan.walk.code.bytes.now fork.placed in
+            ls.items ≡ leads (source self.now.plan) fork.placed.place fork.operation fork.operands all all) }
+        ensures stubs { OnOk result
+            (stubs.new.items.items
+            ≡ stubs.old.items.items ++ stubs_of (source self.now.plan) fork.placed.place fork.operation fork.operands 0
+            (each_once (targets self.now.plan.walk.code.bytes.now fork.placed))) }
+    {
+        let ways = self.ways(fork.placed)?;
+        let labels = self.put_ways(fork, ways.as_slice(), stubs)?;
+        self.labels_by(fork, &ways, labels.as_slice())
+    }
 }

@@ -10,7 +10,7 @@ use Rattle.cap_package.specs.PackageRecord.{PackageRecord}
 use Rattle.jc_base.specs.declared.record.MethodRec.{MethodRec}
 use Rattle.jc_base.specs.World.{Linked}
 use Rattle.jc_base.proofs.Eaching.{All-from_Each}
-use Rattle.jc_base.proofs.Lists.{All-slice_get, IsSomeAnd-some, slice_get-farther}
+use Rattle.jc_base.proofs.Lists.{All-slice_get, IsSomeAnd-some, slice_get-farther, slice_get-front, slice_get-some}
 use Rattle.jc_decode.proofs.Elements.{drop-here}
 use Rattle.jc_resolve.specs.NamedMethods.{named_method}
 use Rattle.jc_resolve.specs.Numbering.{numbered_methods}
@@ -21,7 +21,7 @@ use Rattle.law_relink.specs.Last.{and_last}
 use Rattle.law_relink.specs.Replaced.{AreMethodsOf}
 use Rattle.law_relink.proofs.Apart.{named_split, own_methods}
 use Rattle.law_relink.proofs.Calls.{homes_classes}
-use Rattle.law_relink.proofs.Elements.{get_front, taken_below}
+use Rattle.law_relink.proofs.Elements.{taken_below}
 use Rattle.law_relink.proofs.Linking.{are_parts, earlier_homes}
 use Rattle.xf_last.specs.Last.{BeginsLast, HasLast}
 
@@ -55,9 +55,10 @@ module _ (ps : List PackageRecord) (p : PackageRecord) (roles : List ℕ) where
     before : (n : ℕ) (r : MethodRec) → slice_get w.methods n ≡ Some r → n < length earlier_of → r.package + 1 < length w.infos
     before n r at lt =
         let here : slice_get (earlier_of ++ own_of) n ≡ Some r = subst (λ (ms : List MethodRec). slice_get ms n ≡ Some r) parts at in
+        let x = slice_get-some earlier_of n lt in
         let home = All-slice_get (λ (r : MethodRec). r.package < length ps) earlier_of n r
         (All-from_Each (λ (r : MethodRec). r.package < length ps) earlier_of (earlier_homes ps p roles))
-        (sym (get_front earlier_of own_of n lt) ∙ here) in
+        (x.1 ∙ (sym (slice_get-front earlier_of own_of n x.0 x.1) ∙ here)) in
         omega (arith, home, count)
 
     last : (n : ℕ) (r : MethodRec) → slice_get w.methods n ≡ Some r → length earlier_of ≤ n → r.package + 1 ≡ length w.infos

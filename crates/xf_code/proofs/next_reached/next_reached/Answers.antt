@@ -1,5 +1,4 @@
-use Rattle.std.proofs.Common.{◌≡◌, ◌+◌, ◌-◌, ◌<◌, ◌≤◌, length, refl, sym, ◌∙◌, ap, subst, arith}
-use Rattle.std.specs.Prelude.{is_some}
+use Rattle.std.proofs.Common.{◌≡◌, ◌+◌, ◌-◌, ◌<◌, length, sym, ◌∙◌, ap, subst, arith}
 use Rattle.xf_homes.specs.Plan.{first_reached}
 use Rattle.xf_homes.specs.PlannedMethod.{source}
 use Rattle.xf_code.specs.NextReached.{AreNextFrom}

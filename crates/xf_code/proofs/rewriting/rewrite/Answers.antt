@@ -1,4 +1,4 @@
-use Rattle.std.proofs.Common.{◌≡◌, ◌<◌, All, Some, arith, option_map, slice_get}
+use Rattle.std.proofs.Common.{◌≡◌, ◌<◌, All, Some, arith, option_map, slice_get, rules}
 use Rattle.jc_base.specs.World.{code_of}
 use Rattle.jc_control.specs.ControlFlow.{IsControlFlow}
 use Rattle.jc_control.specs.Method.{Method, IsMethodOf, method_in}
@@ -10,7 +10,7 @@ use Rattle.xf_homes.specs.Answer.{IsTypingOf}
 use Rattle.xf_homes.specs.Order.{AreHomes}
 use Rattle.jc_control.proofs.OwnMethod.{of-method, to-method}
 use Rattle.xf_homes.proofs.Answered.{flaw-never}
-use Rattle.xf_emission.specs.Emission.{IsPlainSize}
+use Rattle.xf_emission.specs.Emission.{AreSymbolsOf, IsPlainSize}
 use Rattle.xf_emission.specs.Live.{KeepsLive}
 use Rattle.xf_emission.specs.Numbers.{HasNumbers}
 use Rattle.law_groups.specs.Matching.{MatchesMethod}
@@ -42,152 +42,46 @@ rewritten-requires-clause-subject c =
     c.requires.typing in
     is-subject _ mo c.method-rec.ensures.links typed.least.typing.formed (c.instructions_are_listed.ensures code)
 
-pub returns-in-Ok-rewritten-clause-live : goal.returns-in-Ok-rewritten-clause-live
-returns-in-Ok-rewritten-clause-live c =
+pub returns-in-Ok-rewritten : goal.returns-in-Ok-rewritten
+returns-in-Ok-rewritten c =
     let w = c.args.world.now in
     let n = c.args.method in
     let rec = c.method-rec.result.now in
     let code = c.of-code.result.bytes.now in
+    let t = c.args.typing.now in
+    let homes = c.args.homes.now in
+    let control = c.in-Ok.control in
+    let symbols = c.in-Ok-rewritten.symbols in
+    let e = c.in-Ok-rewritten.ensures in
     let m : Method = record { number = n; rec = rec; code = code } in
     let bytes : option_map (code_of w.infos) (slice_get w.methods n) ≡ Some code = cc in
-    let mo : IsMethodOf w m = of-method w n rec code c.method-rec.ensures.is bytes (IsMethodOf w) c.in-Ok.ensures.known in
-    let flow : IsControlFlow m c.in-Ok.control = of-method w n rec code c.method-rec.ensures.is bytes (λ m. IsControlFlow m c.in-Ok.control)
-    c.in-Ok.ensures.formed in
-    let typed : IsTypingOf w m c.args.typing.now = of-method w n rec code c.method-rec.ensures.is bytes (λ m. IsTypingOf w m c.args.typing.now)
-    c.requires.typing in
-    to-method w n rec code c.method-rec.ensures.is bytes (λ m. KeepsLive m m.rec.handlers c.in-Ok-rewritten.symbols.ranges)
-    (live-by w m c.args.typing.now c.in-Ok.control c.args.homes.now typed flow (c.instructions_are_placed.ensures m typed.least.typing.formed)
-    (c.instructions_are_listed.ensures code) mo
-    c.method-rec.ensures.links c.are_bytes.ensures c.in-Ok-rewritten.symbols c.in-Ok-rewritten.ensures c.live_are_kept.ensures)
-
-pub returns-in-Ok-rewritten-clause-numbers : goal.returns-in-Ok-rewritten-clause-numbers
-returns-in-Ok-rewritten-clause-numbers c =
-    let w = c.args.world.now in
-    let n = c.args.method in
-    let rec = c.method-rec.result.now in
-    let code = c.of-code.result.bytes.now in
-    let m : Method = record { number = n; rec = rec; code = code } in
-    let bytes : option_map (code_of w.infos) (slice_get w.methods n) ≡ Some code = cc in
-    let flow : IsControlFlow m c.in-Ok.control = of-method w n rec code c.method-rec.ensures.is bytes (λ m. IsControlFlow m c.in-Ok.control)
-    c.in-Ok.ensures.formed in
-    let are : AreHomes w m (state_at c.args.typing.now) c.args.homes.now = of-method w n rec code c.method-rec.ensures.is bytes
-    (λ m. AreHomes w m (state_at c.args.typing.now) c.args.homes.now) c.requires.homes in
-    to-method w n rec code c.method-rec.ensures.is bytes (λ m. HasNumbers m.rec c.args.homes.now c.in-Ok-rewritten.symbols)
-    (has-numbers w m (state_at c.args.typing.now) c.args.homes.now are c.in-Ok-rewritten.symbols
-    (record { leaders = c.in-Ok.control.leaders; marked = flow.leaders; are = c.in-Ok-rewritten.ensures }))
-
-pub returns-in-Ok-rewritten-clause-size : goal.returns-in-Ok-rewritten-clause-size
-returns-in-Ok-rewritten-clause-size c =
-    let w = c.args.world.now in
-    let n = c.args.method in
-    let rec = c.method-rec.result.now in
-    let code = c.of-code.result.bytes.now in
-    let m : Method = record { number = n; rec = rec; code = code } in
-    let bytes : option_map (code_of w.infos) (slice_get w.methods n) ≡ Some code = cc in
-    let flow : IsControlFlow m c.in-Ok.control = of-method w n rec code c.method-rec.ensures.is bytes (λ m. IsControlFlow m c.in-Ok.control)
-    c.in-Ok.ensures.formed in
-    to-method w n rec code c.method-rec.ensures.is bytes
-    (λ m. IsPlainSize w m (state_at c.args.typing.now) c.args.homes.now (plain_size c.in-Ok-rewritten.symbols.items))
-    (has-size w m (state_at c.args.typing.now) c.args.homes.now c.in-Ok-rewritten.symbols
-    (record { leaders = c.in-Ok.control.leaders; marked = flow.leaders; are = c.in-Ok-rewritten.ensures }))
-
-pub returns-in-Ok-rewritten-clause-ranged : goal.returns-in-Ok-rewritten-clause-ranged
-returns-in-Ok-rewritten-clause-ranged c =
-    let w = c.args.world.now in
-    let n = c.args.method in
-    let rec = c.method-rec.result.now in
-    let code = c.of-code.result.bytes.now in
-    let m : Method = record { number = n; rec = rec; code = code } in
-    let bytes : option_map (code_of w.infos) (slice_get w.methods n) ≡ Some code = cc in
-    let mo : IsMethodOf w m = of-method w n rec code c.method-rec.ensures.is bytes (IsMethodOf w) c.in-Ok.ensures.known in
-    let flow : IsControlFlow m c.in-Ok.control = of-method w n rec code c.method-rec.ensures.is bytes (λ m. IsControlFlow m c.in-Ok.control)
-    c.in-Ok.ensures.formed in
-    let typed : IsTypingOf w m c.args.typing.now = of-method w n rec code c.method-rec.ensures.is bytes (λ m. IsTypingOf w m c.args.typing.now)
-    c.requires.typing in
-    ranged-by w m c.args.typing.now c.in-Ok.control c.args.homes.now typed flow (c.instructions_are_placed.ensures m typed.least.typing.formed)
-    (c.instructions_are_listed.ensures code) mo
-    c.method-rec.ensures.links c.are_bytes.ensures c.in-Ok-rewritten.symbols c.in-Ok-rewritten.ensures c.ranges_stand.ensures
-
-pub returns-in-Ok-rewritten-clause-items : goal.returns-in-Ok-rewritten-clause-items
-returns-in-Ok-rewritten-clause-items c =
-    let w = c.args.world.now in
-    let n = c.args.method in
-    let rec = c.method-rec.result.now in
-    let code = c.of-code.result.bytes.now in
-    let m : Method = record { number = n; rec = rec; code = code } in
-    let bytes : option_map (code_of w.infos) (slice_get w.methods n) ≡ Some code = cc in
-    let mo : IsMethodOf w m = of-method w n rec code c.method-rec.ensures.is bytes (IsMethodOf w) c.in-Ok.ensures.known in
-    let flow : IsControlFlow m c.in-Ok.control = of-method w n rec code c.method-rec.ensures.is bytes (λ m. IsControlFlow m c.in-Ok.control)
-    c.in-Ok.ensures.formed in
-    let typed : IsTypingOf w m c.args.typing.now = of-method w n rec code c.method-rec.ensures.is bytes (λ m. IsTypingOf w m c.args.typing.now)
-    c.requires.typing in
-    to-method w n rec code c.method-rec.ensures.is bytes (λ m. All (IsItem m.code c.in-Ok-rewritten.symbols.items) c.in-Ok-rewritten.symbols.items)
-    (items-by w m c.args.typing.now c.in-Ok.control c.args.homes.now typed flow (c.instructions_are_placed.ensures m typed.least.typing.formed)
-    (c.instructions_are_listed.ensures code) mo
-    c.method-rec.ensures.links c.are_bytes.ensures c.in-Ok-rewritten.symbols c.in-Ok-rewritten.ensures c.items_suit.ensures c.are_few.ensures)
-
-pub returns-in-Ok-rewritten-clause-small : goal.returns-in-Ok-rewritten-clause-small
-returns-in-Ok-rewritten-clause-small c =
-    let w = c.args.world.now in
-    let n = c.args.method in
-    let rec = c.method-rec.result.now in
-    let code = c.of-code.result.bytes.now in
-    let m : Method = record { number = n; rec = rec; code = code } in
-    let bytes : option_map (code_of w.infos) (slice_get w.methods n) ≡ Some code = cc in
-    let mo : IsMethodOf w m = of-method w n rec code c.method-rec.ensures.is bytes (IsMethodOf w) c.in-Ok.ensures.known in
-    let flow : IsControlFlow m c.in-Ok.control = of-method w n rec code c.method-rec.ensures.is bytes (λ m. IsControlFlow m c.in-Ok.control)
-    c.in-Ok.ensures.formed in
-    let typed : IsTypingOf w m c.args.typing.now = of-method w n rec code c.method-rec.ensures.is bytes (λ m. IsTypingOf w m c.args.typing.now)
-    c.requires.typing in
-    let are : AreHomes w m (state_at c.args.typing.now) c.args.homes.now = of-method w n rec code c.method-rec.ensures.is bytes
-    (λ m. AreHomes w m (state_at c.args.typing.now) c.args.homes.now) c.requires.homes in
-    small-by w m c.args.typing.now c.in-Ok.control c.args.homes.now typed flow (c.instructions_are_placed.ensures m typed.least.typing.formed)
-    (c.instructions_are_listed.ensures code) mo
-    c.method-rec.ensures.links c.are_bytes.ensures c.in-Ok-rewritten.symbols c.in-Ok-rewritten.ensures c.plain_size_fits.ensures are c.are_few.ensures
-    c.is_a_byte.ensures
-
-pub returns-in-Ok-rewritten-clause-typed : goal.returns-in-Ok-rewritten-clause-typed
-returns-in-Ok-rewritten-clause-typed c =
-    let w = c.args.world.now in
-    let n = c.args.method in
-    let rec = c.method-rec.result.now in
-    let code = c.of-code.result.bytes.now in
-    let m : Method = record { number = n; rec = rec; code = code } in
-    let bytes : option_map (code_of w.infos) (slice_get w.methods n) ≡ Some code = cc in
-    let mo : IsMethodOf w m = of-method w n rec code c.method-rec.ensures.is bytes (IsMethodOf w) c.in-Ok.ensures.known in
-    let flow : IsControlFlow m c.in-Ok.control = of-method w n rec code c.method-rec.ensures.is bytes (λ m. IsControlFlow m c.in-Ok.control)
-    c.in-Ok.ensures.formed in
-    let typed : IsTypingOf w m c.args.typing.now = of-method w n rec code c.method-rec.ensures.is bytes (λ m. IsTypingOf w m c.args.typing.now)
-    c.requires.typing in
-    let derived : AreDerived w m c.args.typing.now = of-method w n rec code c.method-rec.ensures.is bytes (λ m. AreDerived w m c.args.typing.now)
-    c.requires.derived in
-    let are : AreHomes w m (state_at c.args.typing.now) c.args.homes.now = of-method w n rec code c.method-rec.ensures.is bytes
-    (λ m. AreHomes w m (state_at c.args.typing.now) c.args.homes.now) c.requires.homes in
-    to-method w n rec code c.method-rec.ensures.is bytes (λ m. HasTypingByHomes w m c.args.homes.now c.in-Ok-rewritten.symbols)
-    (typed-by w m c.args.typing.now c.in-Ok.control c.args.homes.now typed flow (c.instructions_are_placed.ensures m typed.least.typing.formed)
-    (c.instructions_are_listed.ensures code) mo
-    c.method-rec.ensures.links c.are_bytes.ensures c.in-Ok-rewritten.symbols c.in-Ok-rewritten.ensures c.rewritten_is_typed.ensures derived are
-    c.are_few.ensures)
-
-pub returns-in-Ok-rewritten-clause-matches : goal.returns-in-Ok-rewritten-clause-matches
-returns-in-Ok-rewritten-clause-matches c =
-    let w = c.args.world.now in
-    let n = c.args.method in
-    let rec = c.method-rec.result.now in
-    let code = c.of-code.result.bytes.now in
-    let m : Method = record { number = n; rec = rec; code = code } in
-    let bytes : option_map (code_of w.infos) (slice_get w.methods n) ≡ Some code = cc in
-    let mo : IsMethodOf w m = of-method w n rec code c.method-rec.ensures.is bytes (IsMethodOf w) c.in-Ok.ensures.known in
-    let flow : IsControlFlow m c.in-Ok.control = of-method w n rec code c.method-rec.ensures.is bytes (λ m. IsControlFlow m c.in-Ok.control)
-    c.in-Ok.ensures.formed in
-    let typed : IsTypingOf w m c.args.typing.now = of-method w n rec code c.method-rec.ensures.is bytes (λ m. IsTypingOf w m c.args.typing.now)
-    c.requires.typing in
-    let derived : AreDerived w m c.args.typing.now = of-method w n rec code c.method-rec.ensures.is bytes (λ m. AreDerived w m c.args.typing.now)
-    c.requires.derived in
-    let are : AreHomes w m (state_at c.args.typing.now) c.args.homes.now = of-method w n rec code c.method-rec.ensures.is bytes
-    (λ m. AreHomes w m (state_at c.args.typing.now) c.args.homes.now) c.requires.homes in
-    to-method w n rec code c.method-rec.ensures.is bytes (λ m. MatchesMethod w m (state_at c.args.typing.now) c.args.homes.now c.in-Ok-rewritten.symbols)
-    (matches-by w m c.args.typing.now c.in-Ok.control c.args.homes.now typed flow (c.instructions_are_placed.ensures m typed.least.typing.formed)
-    (c.instructions_are_listed.ensures code) mo
-    c.method-rec.ensures.links c.are_bytes.ensures c.rewritten_matches.ensures derived are c.are_few.ensures
-    (omega (arith, c.is_a_byte.ensures, c.if-rec.false)) c.in-Ok-rewritten.symbols c.in-Ok-rewritten.ensures)
+    let own = λ (P : Method → Type 0). of-method w n rec code c.method-rec.ensures.is bytes P in
+    let whole = λ (P : Method → Type 0). to-method w n rec code c.method-rec.ensures.is bytes P in
+    let mo : IsMethodOf w m = own (IsMethodOf w) c.in-Ok.ensures.known in
+    let flow : IsControlFlow m control = own (λ m. IsControlFlow m control) c.in-Ok.ensures.formed in
+    let typed : IsTypingOf w m t = own (λ m. IsTypingOf w m t) c.requires.typing in
+    let derived : AreDerived w m t = own (λ m. AreDerived w m t) c.requires.derived in
+    let are : AreHomes w m (state_at t) homes = own (λ m. AreHomes w m (state_at t) homes) c.requires.homes in
+    let placed = c.instructions_are_placed.ensures m typed.least.typing.formed in
+    let listed = c.instructions_are_listed.ensures code in
+    let links = c.method-rec.ensures.links in
+    let ab = c.are_bytes.ensures in
+    let few = c.are_few.ensures in
+    let is : AreSymbolsOf w m (state_at t) homes symbols = record { leaders = control.leaders; marked = flow.leaders; are = e } in
+    record {
+      symbols = whole (λ m. AreSymbolsOf w m (state_at t) homes symbols) is;
+      typed = whole (λ m. HasTypingByHomes w m homes symbols)
+          (typed-by w m t control homes typed flow placed listed mo links ab symbols e c.rewritten_is_typed.ensures derived are few);
+      matches = whole (λ m. MatchesMethod w m (state_at t) homes symbols)
+          (matches-by w m t control homes typed flow placed listed mo links ab c.rewritten_matches.ensures derived are few
+          (omega (arith, c.is_a_byte.ensures, c.if-rec.false)) symbols e);
+      live = whole (λ m. KeepsLive m m.rec.handlers symbols.ranges)
+          (live-by w m t control homes typed flow placed listed mo links ab symbols e c.live_are_kept.ensures);
+      items = whole (λ m. All (IsItem m.code symbols.items) symbols.items)
+          (items-by w m t control homes typed flow placed listed mo links ab symbols e c.items_suit.ensures few);
+      ranged = ranged-by w m t control homes typed flow placed listed mo links ab symbols e c.ranges_stand.ensures;
+      numbers = whole (λ m. HasNumbers m.rec homes symbols) (has-numbers w m (state_at t) homes are symbols is);
+      size = whole (λ m. IsPlainSize w m (state_at t) homes (plain_size symbols.items)) (has-size w m (state_at t) homes symbols is);
+      small = small-by w m t control homes typed flow placed listed mo links ab symbols e c.plain_size_fits.ensures are few c.is_a_byte.ensures;
+      limit = search rules;
+    }

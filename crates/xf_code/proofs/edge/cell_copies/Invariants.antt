@@ -1,9 +1,0 @@
-use Rattle.std.proofs.Common.{◌≡◌, ◌++◌, drop}
-use Rattle.xf_homes.specs.PlannedMethod.{source}
-use Rattle.xf_emission.specs.Edge.{cell_copies}
-use Rattle.xf_code.proofs.edge.cell_copies.Given as goal
-
-abbrev pub invariant-cells : goal.invariant-cells
-invariant-cells l =
-    l.items.items ++ cell_copies (source l.plan) (drop l.n l.from) (drop l.n l.to)
-    ≡ l.fn.items.items ++ cell_copies (source l.plan) l.from l.to

@@ -1,7 +1,0 @@
-use Rattle.std.proofs.Common.{◌≡◌, ◌++◌, take, flat_map}
-use Rattle.xf_homes.specs.PlannedMethod.{source}
-use Rattle.xf_emission.specs.Edge.{copy_new}
-use Rattle.xf_code.proofs.edge.copy_all.Given as goal
-
-abbrev pub invariant-needed : goal.invariant-needed
-invariant-needed l = l.items.items ≡ l.fn.items.items ++ flat_map (copy_new (source l.plan) l.from l.there.keys) (take l.home-index l.needed)

@@ -1,9 +1,0 @@
-use Rattle.std.proofs.Common.{◌≡◌, ◌++◌, drop}
-use Rattle.xf_homes.specs.PlannedMethod.{source}
-use Rattle.xf_emission.specs.Emission.{catching_stubs}
-use Rattle.xf_code.proofs.handlers.handler_stubs.Given as goal
-
-abbrev pub invariant-handlers : goal.invariant-handlers
-invariant-handlers l =
-    l.items.items ++ catching_stubs (source l.plan) l.n (drop l.n l.handler-items)
-    ≡ l.fn.items.items ++ catching_stubs (source l.plan) 0 l.handler-items
