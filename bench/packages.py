@@ -1,5 +1,9 @@
 """A package as it is laid into the files of its components, for the makers of examples and of large ones."""
 import os
+import sys
+
+sys.path.insert(0, os.path.join(os.path.dirname(os.path.dirname(os.path.realpath(__file__))), "tools"))
+from formats import distances, u2  # noqa: E402
 
 AID = bytes([0xF0, 1, 2, 3, 4])
 NAMES = {1: "Header", 2: "Directory", 3: "Applet", 4: "Import", 5: "ConstantPool", 6: "Class", 7: "Method",
@@ -8,10 +12,6 @@ INDEX_AID = bytes.fromhex("F06C65726F79")   # of the custom component that is a 
 BOOLEAN, SHORT = 0x8002, 0x8004
 NO_SUPERCLASS = 0xFFFF
 MOST = 65535    # bytes of a component's info
-
-
-def u2(n):
-    return n.to_bytes(2, "big")
 
 
 def file_name(tag):
@@ -46,15 +46,6 @@ def instance_field(token, reference, ty):
 def method(offset, type_offset, code, handlers=0, index=0, token=0, static=True):
     """A method of the Descriptor, with its bytes of code and its entries of the handler table."""
     return bytes([token, 8 if static else 0]) + u2(offset) + u2(type_offset) + u2(code) + u2(handlers) + u2(index)
-
-
-def distances(places):
-    """Rising offsets as distances of one byte, where 255 goes on."""
-    out, last = b"", 0
-    for place in places:
-        out += bytes([255]) * ((place - last) // 255) + bytes([(place - last) % 255])
-        last = place
-    return u2(len(out)) + out
 
 
 class Package:

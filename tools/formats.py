@@ -554,3 +554,16 @@ def write_parts(parts, folder, roles_bytes=None):
         write_file(content, folder, file_name(tag))
     if roles_bytes is not None:
         write_file(roles_bytes, folder, ROLES_FILE)
+
+
+def u2(number):
+    return number.to_bytes(2, "big")
+
+
+def distances(places):
+    """Rising offsets as distances of one byte, where 255 goes on: a list of the RefLocation component."""
+    out, last = b"", 0
+    for place in places:
+        out += bytes([255]) * ((place - last) // 255) + bytes([(place - last) % 255])
+        last = place
+    return u2(len(out)) + out

@@ -6,6 +6,7 @@ it shows: where the method is refused then, and why. JCVM 2.2, chapters 6 and 7,
 import re
 from dataclasses import dataclass, field
 
+from formats import distances, u2
 from instructions import INSTRUCTIONS, KINDS, POOL, POOL_BYTE, SIGNED, SIZES
 
 PUBLIC, PRIVATE, STATIC, ABSTRACT, CONSTRUCTOR = 1, 2, 8, 64, 128
@@ -14,10 +15,6 @@ FIELD_TYPES = {"Z": 0x8002, "B": 0x8003, "S": 0x8004, "I": 0x8005}
 NIBBLES = {"V": "1", "Z": "2", "B": "3", "S": "4", "I": "5", "[Z": "A", "[B": "B", "[S": "C", "[I": "D"}
 BYTES = {"Z": 1, "B": 1, "S": 2, "I": 4}
 INDEX_AID = bytes.fromhex("F06C65726F79")   # of the custom component that is a list of branch targets
-
-
-def u2(number):
-    return number.to_bytes(2, "big")
 
 
 def is_reference(kind):
@@ -351,12 +348,3 @@ class Writer:
     def parts(self):
         """The files of the components by tag."""
         return {tag: bytes([tag]) + u2(len(info)) + info for tag, info in self.infos().items()}
-
-
-def distances(places):
-    """Rising offsets as distances of one byte, where 255 goes on."""
-    out, last = b"", 0
-    for place in places:
-        out += bytes([255]) * ((place - last) // 255) + bytes([(place - last) % 255])
-        last = place
-    return u2(len(out)) + out
