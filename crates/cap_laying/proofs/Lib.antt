@@ -2,6 +2,7 @@ pub mod Appending
 pub mod PlaceLaws
 pub mod HeaderLaws
 pub mod InfoLaws
+pub mod SmallEntries
 pub mod Owned
 pub mod Standing
 pub mod ReferenceLaws

@@ -4,6 +4,7 @@ ghost use Rattle.std.specs.Option.{option_to_list};
 ghost use Rattle.cap_laying.specs.Blocks.{ArePlacedBodies, IsPlacedBody, blocks, entries_of_blocks, firsts, had_none, handler_indexes, total_handlers};
 ghost use Rattle.cap_laying.specs.HandlerTable.{entries_at, table_bytes};
 ghost use Rattle.cap_laying.specs.Member.{AreWithin, handlers_of, lead_size};
+ghost use Rattle.cap_laying.specs.MethodInfo.{AreSmallEntries};
 
 use crate::entries::put_entries;
 use crate::headers::header_size;
@@ -114,7 +115,8 @@ pub(crate) fn put_table(
     out: &mut Vec<u8>,
 ) -> Result<(), AllocError>
     requires { ArePlacedBodies news.now blocks.now }
-    ensures { OnOk result (out.new.items ≡ out.old.items ++ table_bytes (entries_of_blocks news.now blocks.now)) }
+    ensures bytes { OnOk result (out.new.items ≡ out.old.items ++ table_bytes (entries_of_blocks news.now blocks.now)) }
+    ensures small { OnOk result (AreSmallEntries (entries_of_blocks news.now blocks.now)) }
 {
     'members: for block in blocks {
         put_block(news.offset(block.offset), block.body, out)?;
@@ -125,7 +127,8 @@ pub(crate) fn put_table(
 /// Appends the entries of a method that stands at an offset.
 fn put_block(at: u16, body: Body<'_>, out: &mut Vec<u8>) -> Result<(), AllocError>
     requires { IsPlacedBody at body }
-    ensures { OnOk result (out.new.items ≡ out.old.items ++ table_bytes (entries_at (at + lead_size body.entry) (handlers_of body.entry))) }
+    ensures bytes { OnOk result (out.new.items ≡ out.old.items ++ table_bytes (entries_at (at + lead_size body.entry) (handlers_of body.entry))) }
+    ensures small { OnOk result (AreSmallEntries (entries_at (at + lead_size body.entry) (handlers_of body.entry))) }
 {
     match body {
         Body::Code(laid) => {

@@ -1,5 +1,6 @@
 ghost use Rattle.std.specs.Prelude.{◌≡◌, ◌≤◌, ◌<◌, ◌+◌, ◌++◌, List, length, OnOk};
 ghost use Rattle.cap_laying.specs.HandlerTable.{AreInside, IsInside, entries_at, handler_entry, entry_bytes, is_in, stops, table_bytes};
+ghost use Rattle.cap_laying.specs.MethodInfo.{AreSmallEntries, IsSmallEntry};
 
 use jc_decode::LaidHandler;
 use std::alloc::AllocError;
@@ -35,7 +36,8 @@ pub(crate) fn put_entries(
 ) -> Result<(), AllocError>
     requires inside { AreInside size handlers.now }
     requires end { start + size ≤ 65535 }
-    ensures { OnOk result (out.new.items ≡ out.old.items ++ table_bytes (entries_at start handlers.now)) }
+    ensures bytes { OnOk result (out.new.items ≡ out.old.items ++ table_bytes (entries_at start handlers.now)) }
+    ensures small { OnOk result (AreSmallEntries (entries_at start handlers.now)) }
 {
     let mut rest = handlers;
     'handlers: while let Some((handler, later)) = rest.split_first() {
@@ -56,7 +58,8 @@ fn put_entry(
 ) -> Result<(), AllocError>
     requires inside { IsInside size handler }
     requires end { start + size ≤ 65535 }
-    ensures { OnOk result (out.new.items ≡ out.old.items ++ entry_bytes (handler_entry start stop handler)) }
+    ensures bytes { OnOk result (out.new.items ≡ out.old.items ++ entry_bytes (handler_entry start stop handler)) }
+    ensures small { OnOk result (IsSmallEntry (handler_entry start stop handler)) }
 {
     let active = if stop {
         0x8000 + handler.length

@@ -17,7 +17,6 @@ use Rattle.cap_write.specs.Files.{Either, IsFile}
 use Rattle.cap_write.specs.Filed.{AreFiled}
 use Rattle.cap_write.specs.WrittenPackage.{ArePartsOf, AreWritten, IsWritten}
 use Rattle.cap_laying.proofs.Standing.{methods_stand}
-use Rattle.cap_write.specs.Pools.{MembersFit}
 use Rattle.cap_write.proofs.Spread.{references_stand}
 use Rattle.cap_write.proofs.Table.{table_stands}
 
@@ -61,10 +60,10 @@ module _ (p : PackageRecord) (news : List (Option NewMethod)) (methods reference
   }
 
 pub are_written : (p : PackageRecord) (laid : List (Option Laid)) (ms : List WrittenMember) (w : Written) (index : Index) (parts : List Lent)
-    → AreMembersFor p laid ms → MembersFit ms → IsWrittenAs (length p.methods.info) (length p.methods.handlers) ms w
+    → AreMembersFor p laid ms → IsWrittenAs (length p.methods.info) (length p.methods.handlers) ms w
     → AreFiled (IsFile p w.news w.info.items w.references.items index) 256 parts → AreWritten p (length p.methods.info) (length p.methods.handlers) ms
     index parts
-are_written p laid ms w index parts are fit seen f =
+are_written p laid ms w index parts are seen f =
     let size = length p.methods.info in
     let room = length p.methods.handlers in
     let g : AreFiled (IsFile p (new_places size room ms) w.info.items w.references.items index) 256 parts = subst
@@ -76,20 +75,20 @@ are_written p laid ms w index parts are fit seen f =
     record {
       short = seen.short;
       stand = methods_stand size room ms are.may;
-      handlers = table_stands size room ms are.may fit seen.short;
+      handlers = table_stands size room ms are.may seen.small;
       locations = references_stand size room ms seen.short;
       files = parts_of p (new_places size room ms) (written_info size room ms) (written_references size room ms) index parts k;
     }
 
 pub written_of : (p : PackageRecord) (laid : List (Option Laid)) (ms : List WrittenMember) (w : Written) (index : Index) (parts : List Lent)
-    → AreMembersFor p laid ms → MembersFit ms → IsWrittenAs (length p.methods.info) (length p.methods.handlers) ms w
+    → AreMembersFor p laid ms → IsWrittenAs (length p.methods.info) (length p.methods.handlers) ms w
     → IsNewIndex p laid index → AreFiled (IsFile p w.news w.info.items w.references.items index) 256 parts → IsWritten p laid parts
-written_of p laid ms w index parts are fit seen i f = record {
+written_of p laid ms w index parts are seen i f = record {
   members = ms;
   are = are;
   index = index;
   indexed = i;
-  written = are_written p laid ms w index parts are fit seen f;
+  written = are_written p laid ms w index parts are seen f;
 }
 
 pub index_short : (p : PackageRecord) (laid : List (Option Laid)) (index : Index) → IsNewIndex p laid index → IsShortIndex index

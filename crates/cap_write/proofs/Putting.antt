@@ -2,6 +2,7 @@
 use Rattle.std.proofs.Common.{◌≡◌, ℕ, Bool, true, cond, List, [], ◌∷◌, ◌++◌, length, drop, map, Option, refl, sym, ap, ◌∙◌}
 use Rattle.std.proofs.Common.{append_assoc}
 use Rattle.std.proofs.lemmas.List.{append-nil, map_push}
+use Rattle.std.proofs.lemmas.List.Elements.{All-push}
 use Rattle.cap_desc.specs.DescriptorFormat.{MethodDescriptor, ClassDescriptor}
 use Rattle.jc_decode.specs.declared.symbols.Laid.{Laid}
 use Rattle.cap_laying.specs.declared.member.WrittenMember.{WrittenMember}
@@ -37,3 +38,5 @@ one_class set info c cs all laid rest now new whole e n r h =
 pub no_method : (set : ℕ → Bool) (info : List ℕ) (c : ClassDescriptor) (laid : List (Option Laid)) (now : List SeenMember)
     → set c.class_ref ≡ true → now ≡ now ++ seen_class set info c laid
 no_method set info c laid now e = sym (ap (λ b. now ++ cond b [] (seen_methods info c.methods laid)) e ∙ append-nil now)
+
+pub ruleset one_more = (one_method, All-push)

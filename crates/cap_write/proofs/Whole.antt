@@ -46,7 +46,7 @@ use Rattle.law_package.proofs.Lists.{Each, each_at}
 use Rattle.cap_write.specs.Condition.{MayBeLaid}
 use Rattle.cap_write.specs.NewIndex.{Index, IsNewIndex, dropped, has_other_aid, keeps_index, stays, written}
 use Rattle.cap_write.specs.Files.{IsDirectoryFile, IsFramed, index_file, edits_of_methods, sizes_of}
-use Rattle.cap_write.specs.Pools.{StacksFit}
+use Rattle.cap_write.specs.SmallStacks.{HaveSmallStacks}
 use Rattle.cap_write.specs.WrittenMethods.{AreMembersFor}
 use Rattle.cap_write.specs.WrittenPackage.{ArePartsOf, AreWritten, HaveRewritten, locations_of}
 use Rattle.cap_write.proofs.Customs.{found_dropped, found_kept, found_other, found_written, has_tag, tag_found}
@@ -282,7 +282,7 @@ module _ (p : PackageRecord) (laid : List (Option Laid)) (ms : List WrittenMembe
 -- ---- the whole
 
 pub again : RewrittenStands → WritingRewrites → (p : PackageRecord) (laid : List (Option Laid)) (ms : List WrittenMember) (index : Index)
-    (parts : List Lent) → StandsFor p.parts p → MayStand p.header.format p.directory → MayBeLaid p laid → StacksFit ms
+    (parts : List Lent) → StandsFor p.parts p → MayStand p.header.format p.directory → MayBeLaid p laid → HaveSmallStacks ms
     → AreMembersFor p laid ms → IsNewIndex p laid index → AreWritten p (length p.methods.info) (length p.methods.handlers) ms index parts
     → HaveRewritten p laid parts
 again stand rewrite p laid ms index parts s may l fit are i w =

@@ -5,5 +5,5 @@ pub mod WrittenMethods
 pub mod NewIndex
 pub mod Files
 pub mod Filed
-pub mod Pools
+pub mod SmallStacks
 pub mod WrittenPackage

@@ -6,7 +6,9 @@ ghost use Rattle.cap_desc.specs.MemberLists.{methods_left};
 ghost use Rattle.cap_desc.specs.MemberRecords.{method_seen};
 ghost use Rattle.law_package.specs.Written.{lead_bytes};
 ghost use Rattle.cap_write.specs.Described.{seen_body, body_seen, first_of_them, member_seen, seen_class, seen_classes, seen_method, seen_methods};
+ghost use Rattle.cap_write.specs.SmallStacks.{HasSmallStack, HaveSmallStacks};
 
+use crate::facts::is_byte;
 use cap_bytes::View;
 use cap_desc::{DescClass, DescMethods, DescPart, MethodInfo};
 use cap_laying::{Body, WrittenMember};
@@ -24,8 +26,9 @@ pub(crate) fn members<'a>(
     info: View<'a>,
     laid: &'a [Option<Laid>],
 ) -> Result<Vec<WrittenMember<'a>>, AllocError>
-    ensures { IfOk result (λ ms. map member_seen ms.items
+    ensures seen { IfOk result (λ ms. map member_seen ms.items
         ≡ seen_classes (holds interfaces.now) info.entry.bytes.now (descriptor_seen descriptor.now).classes laid.now) }
+    ensures stacks { IfOk result (λ ms. HaveSmallStacks ms.items) }
 {
     let mut out = Vec::new(alloc);
     let mut rest = laid;
@@ -45,9 +48,11 @@ fn put_class<'a>(
     laid: &'a [Option<Laid>],
     out: &mut Vec<WrittenMember<'a>>,
 ) -> Result<(), AllocError>
-    ensures { OnOk result (map member_seen out.new.items
+    requires stacks { HaveSmallStacks out.old.items }
+    ensures seen { OnOk result (map member_seen out.new.items
         ≡ map member_seen out.old.items
         ++ seen_class (holds interfaces.now) info.entry.bytes.now (described_class_seen class.now) laid.now) }
+    ensures stacks { OnOk result (HaveSmallStacks out.new.items) }
 {
     if interfaces.has(class.class_ref()) {
         return Ok(());
@@ -67,15 +72,17 @@ fn after<'a>(laid: &'a [Option<Laid>], count: usize) -> &'a [Option<Laid>]
 }
 
 /// Appends the methods of a class.
-#[tactic(auto, using(crate::proofs::Putting::one_method))]
+#[tactic(auto, using(crate::proofs::Putting::one_more))]
 fn put_methods<'a>(
     methods: DescMethods<'_>,
     info: View<'a>,
     laid: &'a [Option<Laid>],
     out: &mut Vec<WrittenMember<'a>>,
 ) -> Result<(), AllocError>
-    ensures { OnOk result (map member_seen out.new.items
+    requires stacks { HaveSmallStacks out.old.items }
+    ensures seen { OnOk result (map member_seen out.new.items
         ≡ map member_seen out.old.items ++ seen_methods info.entry.bytes.now (methods_left methods.entry) laid.now) }
+    ensures stacks { OnOk result (HaveSmallStacks out.new.items) }
 {
     let mut rest = laid;
     'methods: for method in methods {
@@ -87,7 +94,8 @@ fn put_methods<'a>(
 
 /// A method with the first element of the list.
 fn member<'a>(method: &MethodInfo, info: View<'a>, laid: &'a [Option<Laid>]) -> WrittenMember<'a>
-    ensures { member_seen result ≡ seen_method info.entry.bytes.now (method_seen method.now) (first_of_them laid.now) }
+    ensures seen { member_seen result ≡ seen_method info.entry.bytes.now (method_seen method.now) (first_of_them laid.now) }
+    ensures stack { HasSmallStack result.body }
 {
     WrittenMember {
         offset: method.method_offset,
@@ -102,10 +110,14 @@ fn member<'a>(method: &MethodInfo, info: View<'a>, laid: &'a [Option<Laid>]) -> 
 
 /// What it is written as.
 fn body<'a>(info: View<'a>, offset: u16, laid: &'a [Option<Laid>]) -> Body<'a>
-    ensures { body_seen result ≡ seen_body info.entry.bytes.now offset (first_of_them laid.now) }
+    ensures seen { body_seen result ≡ seen_body info.entry.bytes.now offset (first_of_them laid.now) }
+    ensures stack { HasSmallStack result }
 {
     match laid.first() {
-        Some(Some(laid)) => Body::Code(laid),
+        Some(Some(laid)) => {
+            is_byte(laid.max_stack);
+            Body::Code(laid)
+        }
         _ => Body::Header(lead(info, offset)),
     }
 }

@@ -2,6 +2,7 @@ ghost use Rattle.std.specs.Prelude.{◌≡◌, ◌≤◌, length, IfOk, IfErr};
 ghost use Rattle.cap_laying.specs.Members.{MayBeWritten};
 ghost use Rattle.cap_laying.specs.WrittenSeen.{IsWrittenAs};
 ghost use Rattle.cap_write.specs.Condition.{MayBeLaid};
+ghost use Rattle.cap_write.specs.SmallStacks.{HaveSmallStacks};
 ghost use Rattle.cap_write.specs.WrittenMethods.{AreMembersFor, TellsLong};
 
 use crate::described::members;
@@ -20,7 +21,8 @@ pub(crate) fn members_of<'a>(
     laid: &'a [Option<Laid>],
 ) -> Result<Vec<WrittenMember<'a>>, AllocError>
     requires { MayBeLaid «package».now laid.now }
-    ensures { IfOk result (λ ms. AreMembersFor «package».now laid.now ms.items) }
+    ensures are { IfOk result (λ ms. AreMembersFor «package».now laid.now ms.items) }
+    ensures stacks { IfOk result (λ ms. HaveSmallStacks ms.items) }
 {
     let _parts = package.parts();
     let methods = package.methods();

@@ -3,7 +3,7 @@ ghost use Rattle.cap_write.specs.Condition.{MayBeLaid};
 ghost use Rattle.cap_write.specs.WrittenPackage.{HaveRewritten, IsWritten, TellsWriteEnd};
 
 use crate::end::WriteEnd;
-use crate::facts::{directory_fits, members_fit};
+use crate::facts::directory_fits;
 use crate::index::new_index;
 use crate::methods::{members_of, write_methods};
 use crate::parts::all_parts;
@@ -37,7 +37,6 @@ pub fn write_package(
     writing_rewrites();
     rewritten_is_a_package();
     let members = members_of(alloc, package, laid)?;
-    members_fit(&members);
     let written = write_methods(alloc, package, &members)?;
     let index = new_index(alloc, package, laid)?;
     let parts = all_parts(alloc, package, &written, &index)?;

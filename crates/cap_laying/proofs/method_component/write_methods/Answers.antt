@@ -2,6 +2,7 @@ use Rattle.std.proofs.Common.{◌≡◌, ◌≤◌, ◌+◌, ◌*◌, ◌++◌, 
 use Rattle.cap_laying.specs.Blocks.{blocks, entries_of_blocks, handler_indexes, total_handlers}
 use Rattle.cap_laying.specs.HandlerTable.{table_bytes}
 use Rattle.cap_laying.specs.Member.{bodies, by_offset, methods_end_from}
+use Rattle.cap_laying.specs.MethodInfo.{AreSmallEntries}
 use Rattle.cap_laying.specs.NewPlaces.{news_from}
 use Rattle.cap_laying.specs.Members.{new_places, written_info, written_size}
 use Rattle.cap_laying.specs.References.{references_info, written_references}
@@ -49,7 +50,7 @@ returns c =
     let entries = entries_of_blocks (news_from (handler_indexes size (blocks room ms)) (1 + 8 * total_handlers (blocks room ms)) (by_offset size ms))
     (blocks room ms) in
     let third : c.put_table.new.out.items ≡ c.push.new.self.items ++ table_bytes entries =
-    c.in_ok-put_table.ensures ∙ ap (λ n. c.push.new.self.items ++ table_bytes (entries_of_blocks n c.deref-6.result.now)) news
+    c.in_ok-put_table.ensures.bytes ∙ ap (λ n. c.push.new.self.items ++ table_bytes (entries_of_blocks n c.deref-6.result.now)) news
     ∙ ap
     (λ b. c.push.new.self.items ++ table_bytes
     (entries_of_blocks (news_from (handler_indexes size (blocks room ms)) (1 + 8 * total_handlers (blocks room ms)) (by_offset size ms)) b)) six in
@@ -58,6 +59,9 @@ returns c =
     let count : c.handler_total-total.result ≡ length entries = total
     ∙ sym (length_table (news_from (handler_indexes size (blocks room ms)) (1 + 8 * total_handlers (blocks room ms)) (by_offset size ms))
     (blocks room ms)) in
+    let small = subst (λ b. AreSmallEntries (entries_of_blocks
+        (news_from (handler_indexes size (blocks room ms)) (1 + 8 * total_handlers (blocks room ms)) (by_offset size ms)) b)) six
+        (subst (λ n. AreSmallEntries (entries_of_blocks n c.deref-6.result.now)) news c.in_ok-put_table.ensures.small) in
     record {
       info =
           info_steps c.handler_total-total.result c.in_ok-info.info.items c.push.new.self.items c.put_table.new.out.items c.put_bodies.new.out.items entries
@@ -66,6 +70,7 @@ returns c =
           c.in_ok-references.ensures ∙ ap (λ t. references_info start t c.deref-9.result.now) eight
           ∙ ap (λ b. references_info start (by_offset size ms) b) nine ∙ ap (λ k. references_info k (by_offset size ms) (blocks room ms)) begins;
       news = news;
+      small = small;
       short =
           subst (λ k. methods_end_from k (by_offset size ms) ≤ 65535) begins
           (subst (λ t. methods_end_from start t ≤ 65535) two (subst (λ e. e ≤ 65535) c.in-Some.ensures.0 c.in-Some.ensures.1));

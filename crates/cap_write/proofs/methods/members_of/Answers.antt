@@ -12,8 +12,8 @@ use Rattle.cap_write.proofs.Numbers.{few_members}
 use Rattle.cap_write.proofs.Sources.{members_are}
 use Rattle.cap_write.proofs.methods.members_of.Goals as goal
 
-pub returns : goal.returns
-returns c =
+pub returns-clause-are : goal.returns-clause-are
+returns-clause-are c =
     let p = c.args.package.now in
     let ls = c.args.laid.now in
     let ms = c.in_ok-members.members.items in
@@ -24,7 +24,7 @@ returns c =
     let items : (descriptor_seen c.descriptor.result).classes ≡ p.description.items.classes = ap (λ (d : Description). d.items.classes)
     c.descriptor.ensures in
     let are : map member_seen ms ≡ seen_package p ls =
-    c.in_ok-members.ensures ∙ ap (λ (s : ℕ → Bool). seen_classes s c.info.result.bytes.now (descriptor_seen c.descriptor.result).classes ls) set
+    c.in_ok-members.ensures.seen ∙ ap (λ (s : ℕ → Bool). seen_classes s c.info.result.bytes.now (descriptor_seen c.descriptor.result).classes ls) set
     ∙ ap (λ (b : List ℕ). seen_classes (names_interface p.classes) b (descriptor_seen c.descriptor.result).classes ls) bytes
     ∙ ap (λ (cs : List ClassDescriptor). seen_classes (names_interface p.classes) p.methods.info cs ls) items in
     record {
