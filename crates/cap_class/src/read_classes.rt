@@ -63,20 +63,11 @@ impl<'a> Iterator for ClassInfos<'a> {
     #[tactic(auto, using(cap_bytes::proofs::Loops::yielding))]
     #[inline(always)]
     fn next(&mut self) -> Option<ClassInfo<'a>> {
-        if self.left == 0 {
-            return None;
-        }
+        let left = self.left.checked_sub(1)?;
         let mut items = self.items;
-        match record(&mut items, false) {
-            Ok(class) => {
-                *self = ClassInfos {
-                    items,
-                    left: self.left - 1,
-                };
-                Some(class)
-            }
-            Err(_) => None,
-        }
+        let class = record(&mut items, false).ok()?;
+        *self = ClassInfos { items, left };
+        Some(class)
     }
 }
 

@@ -2,7 +2,7 @@ ghost use Rattle.std.specs.Prelude.{◌≡◌, ◌≤◌, [], length, IfOk};
 ghost use Rattle.std.specs.Iterator.{YieldsFirstBy, item_count};
 ghost use Rattle.cap_bytes.specs.Grammar.{repeat, table};
 ghost use Rattle.cap_bytes.specs.Table.{numbers};
-ghost use Rattle.cap_bytes.specs.Taking.{Takes, PassesOver};
+ghost use Rattle.cap_bytes.specs.Taking.{Takes};
 ghost use Rattle.cap_class.specs.ClassFormat.{interface_info, instance_info, tables_info, record_info, beyond_first, is_interface, class_flags};
 ghost use Rattle.cap_class.specs.Lists.{interface_seen, interfaces_left};
 ghost use Rattle.cap_class.specs.ClassPart.{instance_seen, tables_seen, class_seen};
@@ -29,19 +29,8 @@ fn interface<'a>(items: &mut Cursor<'a>, extended: bool) -> Result<Implemented<'
     Ok(Implemented { class_ref, tokens })
 }
 
-/// Passes over so many interfaces.
-#[tactic(auto, using(cap_bytes::proofs::Loops::passing))]
-fn pass_interfaces(items: &mut Cursor<'_>, count: u8, extended: bool) -> Result<(), FormFault>
-    ensures { PassesOver (repeat count (interface_info extended)) items.old result items.new }
-{
-    'interfaces: for _ in 0..count {
-        interface(items, extended)?;
-    }
-    Ok(())
-}
-
 /// The next so many interfaces.
-#[tactic(auto, using(cap_bytes::proofs::Loops::yielding))]
+#[tactic(auto, using(cap_bytes::proofs::Loops::passing, cap_bytes::proofs::Loops::yielding))]
 #[inline(always)]
 fn interfaces<'a>(
     items: &mut Cursor<'a>,
@@ -51,7 +40,9 @@ fn interfaces<'a>(
     ensures { Takes interfaces_left (repeat left (interface_info extended)) items.old result items.new }
 {
     let first = *items;
-    pass_interfaces(items, left, extended)?;
+    'interfaces: for _ in 0..left {
+        interface(items, extended)?;
+    }
     Ok(Interfaces {
         items: first,
         left,
@@ -200,20 +191,14 @@ impl<'a> Iterator for Interfaces<'a> {
     #[tactic(auto, using(cap_bytes::proofs::Loops::yielding))]
     #[inline(always)]
     fn next(&mut self) -> Option<Implemented<'a>> {
-        if self.left == 0 {
-            return None;
-        }
+        let left = self.left.checked_sub(1)?;
         let mut items = self.items;
-        match interface(&mut items, self.extended) {
-            Ok(interface) => {
-                *self = Interfaces {
-                    items,
-                    left: self.left - 1,
-                    extended: self.extended,
-                };
-                Some(interface)
-            }
-            Err(_) => None,
-        }
+        let interface = interface(&mut items, self.extended).ok()?;
+        *self = Interfaces {
+            items,
+            left,
+            extended: self.extended,
+        };
+        Some(interface)
     }
 }

@@ -1,6 +1,6 @@
 -- The format of the Descriptor component (JCVM 2.2, section 6.13): what it tells of the classes, fields
 -- and methods of the package, and of the types of the constant pool's entries.
-use Rattle.std.specs.Prelude.{ℕ, List}
+use Rattle.std.specs.Prelude.{ℕ, List, slice_index}
 use Rattle.std.specs.Int.RustNames.{bit_and}
 use Rattle.cap_bytes.specs.Grammar.{Grammar, u1, u2, piece, repeat, table, counted, place, give, ◌>>=◌}
 
@@ -35,6 +35,10 @@ pub record Descriptor : Type 0 where
   pub classes : List ClassDescriptor
   pub types_start : ℕ
   pub pool_types : List ℕ
+
+-- the token of an instance field, the last byte of its field_ref
+abbrev pub instance_token : FieldDescriptor → ℕ
+instance_token f = slice_index f.bytes 2
 
 -- the bits of a field's access flags that have a name: public, private, protected, static, final
 abbrev pub field_flags : ℕ → ℕ

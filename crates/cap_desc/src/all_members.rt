@@ -1,12 +1,12 @@
+ghost use Rattle.std.specs.Iterator.{YieldsFirstBy, item_count};
+ghost use Rattle.cap_desc.specs.MemberRecords.{field_seen, method_seen};
+ghost use Rattle.cap_desc.specs.MembersLeft.{methods_of_left, methods_but_left, fields_of_left};
+
 use crate::members::{FieldsOf, MethodsBut, MethodsOf};
 use crate::records::{FieldInfo, MethodInfo};
 
 impl Iterator for MethodsOf<'_> {
     type Item = MethodInfo;
-
-    ghost use Rattle.std.specs.Iterator.{YieldsFirstBy, item_count};
-    ghost use Rattle.cap_desc.specs.MemberRecords.{method_seen};
-    ghost use Rattle.cap_desc.specs.MembersLeft.{methods_of_left};
 
     ghost next_gives = { YieldsFirstBy method_seen methods_of_left };
 
@@ -26,10 +26,6 @@ impl Iterator for MethodsOf<'_> {
 
 impl Iterator for MethodsBut<'_, '_> {
     type Item = MethodInfo;
-
-    ghost use Rattle.std.specs.Iterator.{YieldsFirstBy, item_count};
-    ghost use Rattle.cap_desc.specs.MemberRecords.{method_seen};
-    ghost use Rattle.cap_desc.specs.MembersLeft.{methods_but_left};
 
     ghost next_gives = { YieldsFirstBy method_seen methods_but_left };
 
@@ -51,10 +47,6 @@ impl Iterator for MethodsBut<'_, '_> {
 
 impl Iterator for FieldsOf<'_> {
     type Item = FieldInfo;
-
-    ghost use Rattle.std.specs.Iterator.{YieldsFirstBy, item_count};
-    ghost use Rattle.cap_desc.specs.MemberRecords.{field_seen};
-    ghost use Rattle.cap_desc.specs.MembersLeft.{fields_of_left};
 
     ghost next_gives = { YieldsFirstBy field_seen fields_of_left };
 

@@ -1,3 +1,8 @@
+ghost use Rattle.std.specs.Iterator.{YieldsFirstBy, item_count};
+ghost use Rattle.cap_desc.specs.ClassRecords.{described_class_seen, described_left};
+ghost use Rattle.cap_desc.specs.MemberRecords.{field_seen, method_seen};
+ghost use Rattle.cap_desc.specs.MemberLists.{fields_left, methods_left};
+
 use crate::class::DescClass;
 use crate::lists::{DescClasses, DescFields, DescMethods};
 use crate::records::{FieldInfo, MethodInfo};
@@ -6,10 +11,6 @@ use crate::take;
 impl Iterator for DescFields<'_> {
     type Item = FieldInfo;
 
-    ghost use Rattle.std.specs.Iterator.{YieldsFirstBy, item_count};
-    ghost use Rattle.cap_desc.specs.MemberRecords.{field_seen};
-    ghost use Rattle.cap_desc.specs.MemberLists.{fields_left};
-
     ghost next_gives = { YieldsFirstBy field_seen fields_left };
 
     ghost remaining = { item_count fields_left };
@@ -17,29 +18,16 @@ impl Iterator for DescFields<'_> {
     #[tactic(auto, using(cap_bytes::proofs::Loops::yielding))]
     #[inline(always)]
     fn next(&mut self) -> Option<FieldInfo> {
-        if self.left == 0 {
-            return None;
-        }
+        let left = self.left.checked_sub(1)?;
         let mut items = self.items;
-        match take::field_descriptor_info(&mut items) {
-            Ok(field) => {
-                *self = DescFields {
-                    items,
-                    left: self.left - 1,
-                };
-                Some(field)
-            }
-            Err(_) => None,
-        }
+        let field = take::field_descriptor_info(&mut items).ok()?;
+        *self = DescFields { items, left };
+        Some(field)
     }
 }
 
 impl Iterator for DescMethods<'_> {
     type Item = MethodInfo;
-
-    ghost use Rattle.std.specs.Iterator.{YieldsFirstBy, item_count};
-    ghost use Rattle.cap_desc.specs.MemberRecords.{method_seen};
-    ghost use Rattle.cap_desc.specs.MemberLists.{methods_left};
 
     ghost next_gives = { YieldsFirstBy method_seen methods_left };
 
@@ -48,28 +36,16 @@ impl Iterator for DescMethods<'_> {
     #[tactic(auto, using(cap_bytes::proofs::Loops::yielding))]
     #[inline(always)]
     fn next(&mut self) -> Option<MethodInfo> {
-        if self.left == 0 {
-            return None;
-        }
+        let left = self.left.checked_sub(1)?;
         let mut items = self.items;
-        match take::method_descriptor_info(&mut items) {
-            Ok(method) => {
-                *self = DescMethods {
-                    items,
-                    left: self.left - 1,
-                };
-                Some(method)
-            }
-            Err(_) => None,
-        }
+        let method = take::method_descriptor_info(&mut items).ok()?;
+        *self = DescMethods { items, left };
+        Some(method)
     }
 }
 
 impl<'a> Iterator for DescClasses<'a> {
     type Item = DescClass<'a>;
-
-    ghost use Rattle.std.specs.Iterator.{YieldsFirstBy, item_count};
-    ghost use Rattle.cap_desc.specs.ClassRecords.{described_class_seen, described_left};
 
     ghost next_gives = { YieldsFirstBy described_class_seen described_left };
 
@@ -78,19 +54,10 @@ impl<'a> Iterator for DescClasses<'a> {
     #[tactic(auto, using(cap_bytes::proofs::Loops::yielding))]
     #[inline(always)]
     fn next(&mut self) -> Option<DescClass<'a>> {
-        if self.left == 0 {
-            return None;
-        }
+        let left = self.left.checked_sub(1)?;
         let mut items = self.items;
-        match take::class_descriptor_info(&mut items) {
-            Ok(class) => {
-                *self = DescClasses {
-                    items,
-                    left: self.left - 1,
-                };
-                Some(class)
-            }
-            Err(_) => None,
-        }
+        let class = take::class_descriptor_info(&mut items).ok()?;
+        *self = DescClasses { items, left };
+        Some(class)
     }
 }

@@ -2,7 +2,7 @@ ghost use Rattle.std.specs.Prelude.{◌≡◌, ◌≤◌, length, IfOk, IfErr};
 ghost use Rattle.cap_bytes.specs.Grammar.{repeat};
 ghost use Rattle.cap_bytes.specs.Exact.{IsExact};
 ghost use Rattle.cap_bytes.specs.Spelling.{info_of, Stands, Breaks};
-ghost use Rattle.cap_bytes.specs.Taking.{Takes, PassesOver, Reads};
+ghost use Rattle.cap_bytes.specs.Taking.{Takes, Reads};
 ghost use Rattle.cap_desc.specs.DescriptorFormat.{class_descriptor_info, descriptor_info};
 ghost use Rattle.cap_desc.specs.ClassRecords.{described_left};
 ghost use Rattle.cap_desc.specs.Descriptors.{descriptor_seen};
@@ -15,24 +15,15 @@ use cap_bytes::{Cursor, FormFault, View};
 /// The tag of the Descriptor component.
 const DESCRIPTOR: u8 = 11;
 
-/// Passes over so many classes.
-#[tactic(auto, using(cap_bytes::proofs::Loops::passing))]
-fn pass_classes(items: &mut Cursor<'_>, count: u8) -> Result<(), FormFault>
-    ensures { PassesOver (repeat count class_descriptor_info) items.old result items.new }
-{
-    'classes: for _ in 0..count {
-        take::class_descriptor_info(items)?;
-    }
-    Ok(())
-}
-
 /// The next so many classes.
-#[tactic(auto, using(cap_bytes::proofs::Loops::yielding))]
+#[tactic(auto, using(cap_bytes::proofs::Loops::passing, cap_bytes::proofs::Loops::yielding))]
 fn classes<'a>(items: &mut Cursor<'a>, count: u8) -> Result<DescClasses<'a>, FormFault>
     ensures { Takes described_left (repeat count class_descriptor_info) items.old result items.new }
 {
     let first = *items;
-    pass_classes(items, count)?;
+    'classes: for _ in 0..count {
+        take::class_descriptor_info(items)?;
+    }
     Ok(DescClasses {
         items: first,
         left: count,

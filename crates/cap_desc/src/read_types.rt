@@ -102,12 +102,15 @@ impl Nibbles<'_> {
 fn is_type(nibble: u8) -> bool
     ensures { result ≡ is_type nibble }
 {
-    matches!(nibble, 1..=6 | 10..=14)
+    matches!(
+        nibble,
+        TypeItem::VOID..=TypeItem::REFERENCE | TypeItem::BOOLEAN_ARRAY..=TypeItem::REFERENCE_ARRAY
+    )
 }
 
 /// Whether a class reference stands after a type's nibble.
 fn names_class(nibble: u8) -> bool
     ensures { result ≡ names_class nibble }
 {
-    nibble == 6 || nibble == 14
+    nibble == TypeItem::REFERENCE || nibble == TypeItem::REFERENCE_ARRAY
 }

@@ -1,3 +1,7 @@
+ghost use Rattle.std.specs.Prelude.{◌≡◌};
+ghost use Rattle.cap_desc.specs.DescriptorFormat.{instance_token};
+ghost use Rattle.cap_desc.specs.MemberRecords.{field_seen};
+
 use crate::access_flags::AccessFlags;
 
 /// A field as the Descriptor tells it: a `field_descriptor_info`.
@@ -10,6 +14,16 @@ pub struct FieldInfo {
     pub bytes: [u8; 3],
     /// 0x8002 boolean, 0x8003 byte, 0x8004 short, 0x8005 int, or the offset of its type descriptor.
     pub ty: u16,
+}
+
+impl FieldInfo {
+    /// The token of an instance field in its class.
+    #[inline(always)]
+    pub fn instance_token(self) -> u8
+        ensures { result ≡ instance_token (field_seen self) }
+    {
+        self.bytes[2]
+    }
 }
 
 /// A method as the Descriptor tells it: a `method_descriptor_info`.

@@ -7,3 +7,28 @@ pub struct TypeItem {
     /// The class reference of a reference or an array of references, and 0 of every other type.
     pub class_ref: u16,
 }
+
+/// The nibbles of types.
+impl TypeItem {
+    pub const VOID: u8 = 1;
+
+    pub const BOOLEAN: u8 = 2;
+
+    pub const BYTE: u8 = 3;
+
+    pub const SHORT: u8 = 4;
+
+    pub const INT: u8 = 5;
+
+    pub const REFERENCE: u8 = 6;
+
+    pub const BOOLEAN_ARRAY: u8 = 10;
+
+    pub const BYTE_ARRAY: u8 = 11;
+
+    pub const SHORT_ARRAY: u8 = 12;
+
+    pub const INT_ARRAY: u8 = 13;
+
+    pub const REFERENCE_ARRAY: u8 = 14;
+}

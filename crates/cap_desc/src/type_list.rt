@@ -1,4 +1,5 @@
 ghost use Rattle.std.specs.Prelude.{◌≡◌, ◌<◌, length, Some};
+ghost use Rattle.std.specs.Iterator.{YieldsFirst, item_count};
 ghost use Rattle.std.specs.List.{slice_get};
 ghost use Rattle.cap_desc.specs.TypeLists.{types_left};
 
@@ -8,9 +9,6 @@ use crate::types::Types;
 impl Iterator for Types<'_> {
     type Item = TypeItem;
 
-    ghost use Rattle.std.specs.Iterator.{YieldsFirst, item_count};
-    ghost use Rattle.cap_desc.specs.TypeLists.{types_left};
-
     ghost next_gives = { YieldsFirst types_left };
 
     ghost remaining = { item_count types_left };
@@ -18,14 +16,12 @@ impl Iterator for Types<'_> {
     #[tactic(auto, unfolding(crate::specs::TypeFormat::gives_types, crate::specs::TypeFormat::given_types))]
     #[inline(always)]
     fn next(&mut self) -> Option<TypeItem> {
-        if self.left == 0 {
-            return None;
-        }
+        let left = self.left.checked_sub(1)?;
         let (item, at) = self.nibbles.type_item(self.at)?;
         *self = Types {
             nibbles: self.nibbles,
             at,
-            left: self.left - 1,
+            left,
         };
         Some(item)
     }

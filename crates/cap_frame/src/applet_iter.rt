@@ -14,19 +14,10 @@ impl<'a> Iterator for AppletInfos<'a> {
 
     #[tactic(auto, using(cap_bytes::proofs::Loops::yielding))]
     fn next(&mut self) -> Option<AppletInfo<'a>> {
-        if self.left == 0 {
-            return None;
-        }
+        let left = self.left.checked_sub(1)?;
         let mut items = self.items;
-        match applet_info(&mut items) {
-            Ok(applet) => {
-                *self = AppletInfos {
-                    items,
-                    left: self.left - 1,
-                };
-                Some(applet)
-            }
-            Err(_) => None,
-        }
+        let applet = applet_info(&mut items).ok()?;
+        *self = AppletInfos { items, left };
+        Some(applet)
     }
 }

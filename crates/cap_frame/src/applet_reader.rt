@@ -1,8 +1,7 @@
 ghost use Rattle.std.specs.Prelude.{◌≡◌, ◌≤◌, length, IfOk, IfErr};
-ghost use Rattle.cap_bytes.specs.Grammar.{repeat};
 ghost use Rattle.cap_bytes.specs.Exact.{IsExact};
 ghost use Rattle.cap_bytes.specs.Spelling.{info_of, Stands, Breaks};
-ghost use Rattle.cap_bytes.specs.Taking.{Takes, PassesOver, Reads};
+ghost use Rattle.cap_bytes.specs.Taking.{Takes, Reads};
 ghost use Rattle.cap_frame.specs.AppletFormat.{applet_info, applets_info};
 ghost use Rattle.cap_frame.specs.Applets.{applet_seen, applets_of};
 
@@ -26,7 +25,7 @@ pub fn applets(info: View<'_>) -> Result<Applets<'_>, FormFault>
 }
 
 /// The items of the component.
-#[tactic(auto, using(cap_bytes::proofs::Loops::yielding), unfolding(cap_bytes::specs::Reading::reading))]
+#[tactic(auto, using(cap_bytes::proofs::Loops::passing, cap_bytes::proofs::Loops::yielding), unfolding(cap_bytes::specs::Reading::reading))]
 fn read(info: View<'_>) -> Result<Applets<'_>, FormFault>
     requires { length info.bytes.now ≤ 65535 }
     ensures value { Reads applets_of (info_of 3) applets_info info.entry.bytes.now result }
@@ -35,20 +34,11 @@ fn read(info: View<'_>) -> Result<Applets<'_>, FormFault>
     let mut items = Cursor::of(info, APPLET);
     let left = items.u1()?;
     let applets = AppletInfos { items, left };
-    pass_applets(&mut items, left)?;
+    'applets: for _ in 0..left {
+        applet_info(&mut items)?;
+    }
     items.end()?;
     Ok(Applets { info, applets })
-}
-
-/// Passes over so many applets.
-#[tactic(auto, using(cap_bytes::proofs::Loops::passing))]
-fn pass_applets(items: &mut Cursor<'_>, count: u8) -> Result<(), FormFault>
-    ensures { PassesOver (repeat count applet_info) items.old result items.new }
-{
-    'applets: for _ in 0..count {
-        applet_info(items)?;
-    }
-    Ok(())
 }
 
 /// The next applet.

@@ -14,19 +14,10 @@ impl<'a> Iterator for CustomEntries<'a> {
 
     #[tactic(auto, using(cap_bytes::proofs::Loops::yielding))]
     fn next(&mut self) -> Option<CustomEntry<'a>> {
-        if self.left == 0 {
-            return None;
-        }
+        let left = self.left.checked_sub(1)?;
         let mut items = self.items;
-        match custom_info(&mut items) {
-            Ok(custom) => {
-                *self = CustomEntries {
-                    items,
-                    left: self.left - 1,
-                };
-                Some(custom)
-            }
-            Err(_) => None,
-        }
+        let custom = custom_info(&mut items).ok()?;
+        *self = CustomEntries { items, left };
+        Some(custom)
     }
 }

@@ -1,10 +1,9 @@
 ghost use Rattle.std.specs.Prelude.{◌≡◌, ◌≤◌, length, IfOk, IfErr};
-ghost use Rattle.cap_bytes.specs.Grammar.{each};
 ghost use Rattle.cap_bytes.specs.Exact.{IsExact};
 ghost use Rattle.cap_bytes.specs.Spelling.{info_of, Stands, Breaks};
-ghost use Rattle.cap_bytes.specs.Taking.{Takes, PassesOver, Reads};
+ghost use Rattle.cap_bytes.specs.Taking.{Takes, Reads};
 ghost use Rattle.cap_frame.specs.Directory.{custom_seen, customs_left, image_sizes_seen, directory_items};
-ghost use Rattle.cap_frame.specs.DirectoryFormat.{custom_info, after_tag, customs_info, and_that_of, none, size_count, image_sizes_info, directory_info};
+ghost use Rattle.cap_frame.specs.DirectoryFormat.{custom_info, after_tag, customs_info, none, size_count, image_sizes_info, directory_info};
 ghost use Rattle.cap_frame.specs.Tags.{named_in};
 
 use crate::directory_record::{CustomEntry, Directory, ImageSizes};
@@ -74,28 +73,19 @@ fn image_sizes(items: &mut Cursor<'_>) -> Result<ImageSizes, FormFault>
     })
 }
 
-/// The custom components after the byte that counts them.
-#[tactic(auto, using(cap_bytes::proofs::Loops::yielding, crate::proofs::Customs::customs_known))]
+/// The custom components after the byte that counts them, no two of one tag.
+#[tactic(auto, using(cap_bytes::proofs::Loops::yielding, crate::proofs::Customs::naming, crate::proofs::Customs::customs_known))]
 fn customs<'a>(items: &mut Cursor<'a>) -> Result<CustomEntries<'a>, FormFault>
     ensures { Takes customs_left customs_info items.old result items.new }
 {
     let left = items.u1()?;
     let first = *items;
-    pass_customs(items, left)?;
-    Ok(CustomEntries { items: first, left })
-}
-
-/// Passes over so many custom components, no two of one tag.
-#[tactic(auto, using(crate::proofs::Customs::naming))]
-fn pass_customs(items: &mut Cursor<'_>, count: u8) -> Result<(), FormFault>
-    ensures { PassesOver (each count custom_info and_that_of none) items.old result items.new }
-{
     let mut named = [false; 256];
-    'customs: for _ in 0..count {
+    'customs: for _ in 0..left {
         let custom = new_custom(items, &named)?;
         named[custom.tag as usize] = true;
     }
-    Ok(())
+    Ok(CustomEntries { items: first, left })
 }
 
 /// The next custom component, whose tag is none of those that are named.

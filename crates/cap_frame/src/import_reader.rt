@@ -7,7 +7,7 @@ ghost use Rattle.cap_frame.specs.Imports.{packages};
 
 use crate::import_record::Imports;
 use crate::lists::PackageInfos;
-use crate::package_items::pass_packages;
+use crate::package_items::package_info;
 use cap_bytes::{Cursor, FormFault, View};
 
 /// The tag of the component.
@@ -26,7 +26,7 @@ pub fn imports(info: View<'_>) -> Result<Imports<'_>, FormFault>
 }
 
 /// The items of the component.
-#[tactic(auto, using(cap_bytes::proofs::Loops::yielding), unfolding(cap_bytes::specs::Reading::reading))]
+#[tactic(auto, using(cap_bytes::proofs::Loops::passing, cap_bytes::proofs::Loops::yielding), unfolding(cap_bytes::specs::Reading::reading))]
 fn read(info: View<'_>) -> Result<Imports<'_>, FormFault>
     requires { length info.bytes.now ≤ 65535 }
     ensures value { Reads packages (info_of 4) imports_info info.entry.bytes.now result }
@@ -35,7 +35,9 @@ fn read(info: View<'_>) -> Result<Imports<'_>, FormFault>
     let mut items = Cursor::of(info, IMPORT);
     let left = items.u1()?;
     let packages = PackageInfos { items, left };
-    pass_packages(&mut items, left)?;
+    'packages: for _ in 0..left {
+        package_info(&mut items)?;
+    }
     items.end()?;
     Ok(Imports { info, packages })
 }

@@ -1,6 +1,5 @@
 ghost use Rattle.std.specs.Iterator.{YieldsFirstBy, item_count};
-ghost use Rattle.cap_bytes.specs.Grammar.{repeat};
-ghost use Rattle.cap_bytes.specs.Taking.{Takes, PassesOver};
+ghost use Rattle.cap_bytes.specs.Taking.{Takes};
 ghost use Rattle.cap_frame.specs.PackageFormat.{package_info};
 ghost use Rattle.cap_frame.specs.Packages.{package_seen, packages_left};
 
@@ -18,17 +17,6 @@ pub(crate) fn package_info<'a>(items: &mut Cursor<'a>) -> Result<PackageInfo<'a>
     Ok(PackageInfo { minor, major, aid })
 }
 
-/// Passes over so many packages.
-#[tactic(auto, using(cap_bytes::proofs::Loops::passing))]
-pub(crate) fn pass_packages(items: &mut Cursor<'_>, count: u8) -> Result<(), FormFault>
-    ensures { PassesOver (repeat count package_info) items.old result items.new }
-{
-    'packages: for _ in 0..count {
-        package_info(items)?;
-    }
-    Ok(())
-}
-
 impl<'a> Iterator for PackageInfos<'a> {
     type Item = PackageInfo<'a>;
 
@@ -38,19 +26,10 @@ impl<'a> Iterator for PackageInfos<'a> {
 
     #[tactic(auto, using(cap_bytes::proofs::Loops::yielding))]
     fn next(&mut self) -> Option<PackageInfo<'a>> {
-        if self.left == 0 {
-            return None;
-        }
+        let left = self.left.checked_sub(1)?;
         let mut items = self.items;
-        match package_info(&mut items) {
-            Ok(package) => {
-                *self = PackageInfos {
-                    items,
-                    left: self.left - 1,
-                };
-                Some(package)
-            }
-            Err(_) => None,
-        }
+        let package = package_info(&mut items).ok()?;
+        *self = PackageInfos { items, left };
+        Some(package)
     }
 }

@@ -81,20 +81,11 @@ impl<'a> Iterator for HandlerEntries<'a> {
 
     #[tactic(auto, using(cap_bytes::proofs::Loops::yielding))]
     fn next(&mut self) -> Option<HandlerInfo> {
-        if self.left == 0 {
-            return None;
-        }
+        let left = self.left.checked_sub(1)?;
         let mut items = self.items;
-        match handler(&mut items) {
-            Ok(handler) => {
-                *self = HandlerEntries {
-                    items,
-                    left: self.left - 1,
-                };
-                Some(handler)
-            }
-            Err(_) => None,
-        }
+        let handler = handler(&mut items).ok()?;
+        *self = HandlerEntries { items, left };
+        Some(handler)
     }
 }
 

@@ -2,8 +2,7 @@ ghost use Rattle.std.specs.Prelude.{◌≡◌, ◌≤◌, length, IfOk, IfErr, o
 ghost use Rattle.std.specs.Iterator.{YieldsFirstBy, item_count};
 ghost use Rattle.cap_bytes.specs.Exact.{IsExact};
 ghost use Rattle.cap_bytes.specs.Spelling.{info_of, Stands, Breaks};
-ghost use Rattle.cap_bytes.specs.Taking.{Takes, PassesOver, Reads, bytes};
-ghost use Rattle.cap_bytes.specs.Grammar.{repeat};
+ghost use Rattle.cap_bytes.specs.Taking.{Takes, Reads, bytes};
 ghost use Rattle.cap_method.specs.StaticFormat.{is_primitive, is_whole, array_init_info, array_inits, non_default_values, statics_info};
 ghost use Rattle.cap_method.specs.StaticPart.{array_seen, arrays_left, statics_seen};
 
@@ -44,19 +43,8 @@ fn array_init<'a>(items: &mut Cursor<'a>) -> Result<ArrayInit<'a>, FormFault>
     Ok(ArrayInit { kind, values })
 }
 
-/// Passes over so many initial arrays.
-#[tactic(auto, using(cap_bytes::proofs::Loops::passing))]
-fn pass_arrays(items: &mut Cursor<'_>, count: u16) -> Result<(), FormFault>
-    ensures { PassesOver (repeat count array_init_info) items.old result items.new }
-{
-    'arrays: for _ in 0..count {
-        array_init(items)?;
-    }
-    Ok(())
-}
-
 /// The initial arrays after their count, which no more than the references can be.
-#[tactic(auto, using(cap_bytes::proofs::Loops::yielding))]
+#[tactic(auto, using(cap_bytes::proofs::Loops::passing, cap_bytes::proofs::Loops::yielding))]
 fn array_inits<'a>(
     items: &mut Cursor<'a>,
     reference_count: u16,
@@ -69,7 +57,9 @@ fn array_inits<'a>(
         return Err(place.fault(FormKind::BadValue));
     }
     let first = *items;
-    pass_arrays(items, left)?;
+    'arrays: for _ in 0..left {
+        array_init(items)?;
+    }
     Ok(ArrayInits { items: first, left })
 }
 
@@ -127,20 +117,11 @@ impl<'a> Iterator for ArrayInits<'a> {
 
     #[tactic(auto, using(cap_bytes::proofs::Loops::yielding))]
     fn next(&mut self) -> Option<ArrayInit<'a>> {
-        if self.left == 0 {
-            return None;
-        }
+        let left = self.left.checked_sub(1)?;
         let mut items = self.items;
-        match array_init(&mut items) {
-            Ok(array) => {
-                *self = ArrayInits {
-                    items,
-                    left: self.left - 1,
-                };
-                Some(array)
-            }
-            Err(_) => None,
-        }
+        let array = array_init(&mut items).ok()?;
+        *self = ArrayInits { items, left };
+        Some(array)
     }
 }
 

@@ -15,20 +15,24 @@ use Rattle.cap_pool.specs.declared.pool_reference.StaticReference.TheVariants.{I
 abbrev pub class_in : List ℕ → ClassReference
 class_in bytes = reference_of (slice_index bytes 0 * 256 + slice_index bytes 1)
 
+-- the token of a member in the last byte
+abbrev pub token_in : List ℕ → ℕ
+token_in bytes = slice_index bytes 2
+
 -- a static field or a method without dispatch: where the high bit of the first byte is clear, the other two are the
 -- internal_ref, an offset; where it is set, the three are the external_ref, the tokens of a package, a class and a member
 abbrev pub static_in : List ℕ → StaticReference
 static_in bytes = if nat_lt (slice_index bytes 0) 128
     then Internal (slice_index bytes 1 * 256 + slice_index bytes 2)
-    else External (slice_index bytes 0 - 128) (slice_index bytes 1) (slice_index bytes 2)
+    else External (slice_index bytes 0 - 128) (slice_index bytes 1) (token_in bytes)
 
 -- by the tag, which is from 1 to 6
 unfoldable pub referred : Entry → PoolReference
 referred e =
     if e.tag == 1 then Class (class_in e.bytes)
-    else (if e.tag == 2 then InstanceField (class_in e.bytes) (slice_index e.bytes 2)
-    else (if e.tag == 3 then VirtualMethod (class_in e.bytes) (slice_index e.bytes 2)
-    else (if e.tag == 4 then SuperMethod (class_in e.bytes) (slice_index e.bytes 2)
+    else (if e.tag == 2 then InstanceField (class_in e.bytes) (token_in e.bytes)
+    else (if e.tag == 3 then VirtualMethod (class_in e.bytes) (token_in e.bytes)
+    else (if e.tag == 4 then SuperMethod (class_in e.bytes) (token_in e.bytes)
     else (if e.tag == 5 then StaticField (static_in e.bytes)
     else StaticMethod (static_in e.bytes)))))
 

@@ -1,6 +1,5 @@
 ghost use Rattle.std.specs.Iterator.{YieldsFirstBy, item_count};
-ghost use Rattle.cap_bytes.specs.Grammar.{repeat};
-ghost use Rattle.cap_bytes.specs.Taking.{Takes, PassesOver};
+ghost use Rattle.cap_bytes.specs.Taking.{Takes};
 ghost use Rattle.cap_pool.specs.Export.{exported_class_seen, exported_left};
 ghost use Rattle.cap_pool.specs.ExportFormat.{class_export_info};
 
@@ -28,17 +27,6 @@ pub(crate) fn class<'a>(items: &mut Cursor<'a>) -> Result<ExportedClass<'a>, For
     })
 }
 
-/// Passes over so many classes.
-#[tactic(auto, using(cap_bytes::proofs::Loops::passing))]
-pub(crate) fn pass_classes(items: &mut Cursor<'_>, count: u8) -> Result<(), FormFault>
-    ensures { PassesOver (repeat count class_export_info) items.old result items.new }
-{
-    'classes: for _ in 0..count {
-        class(items)?;
-    }
-    Ok(())
-}
-
 impl<'a> Iterator for ExportedClasses<'a> {
     type Item = ExportedClass<'a>;
 
@@ -49,19 +37,10 @@ impl<'a> Iterator for ExportedClasses<'a> {
     #[tactic(auto, using(cap_bytes::proofs::Loops::yielding))]
     #[inline(always)]
     fn next(&mut self) -> Option<ExportedClass<'a>> {
-        if self.left == 0 {
-            return None;
-        }
+        let left = self.left.checked_sub(1)?;
         let mut items = self.items;
-        match class(&mut items) {
-            Ok(class) => {
-                *self = ExportedClasses {
-                    items,
-                    left: self.left - 1,
-                };
-                Some(class)
-            }
-            Err(_) => None,
-        }
+        let class = class(&mut items).ok()?;
+        *self = ExportedClasses { items, left };
+        Some(class)
     }
 }

@@ -5,7 +5,7 @@ ghost use Rattle.cap_bytes.specs.Taking.{Reads};
 ghost use Rattle.cap_pool.specs.Export.{export_seen};
 ghost use Rattle.cap_pool.specs.ExportFormat.{export_info};
 
-use crate::export_items::pass_classes;
+use crate::export_items::class;
 use crate::export_record::Export;
 use crate::lists::ExportedClasses;
 use cap_bytes::{Cursor, FormFault, View};
@@ -26,7 +26,7 @@ pub fn export(info: View<'_>) -> Result<Export<'_>, FormFault>
 }
 
 /// The items of the component.
-#[tactic(auto, using(cap_bytes::proofs::Loops::yielding), unfolding(cap_bytes::specs::Reading::reading))]
+#[tactic(auto, using(cap_bytes::proofs::Loops::passing, cap_bytes::proofs::Loops::yielding), unfolding(cap_bytes::specs::Reading::reading))]
 fn read(info: View<'_>) -> Result<Export<'_>, FormFault>
     requires { length info.bytes.now ≤ 65535 }
     ensures value { Reads export_seen (info_of 10) export_info info.entry.bytes.now result }
@@ -35,7 +35,9 @@ fn read(info: View<'_>) -> Result<Export<'_>, FormFault>
     let mut items = Cursor::of(info, EXPORT);
     let left = items.u1()?;
     let classes = ExportedClasses { items, left };
-    pass_classes(&mut items, left)?;
+    'classes: for _ in 0..left {
+        class(&mut items)?;
+    }
     items.end()?;
     Ok(Export { info, classes })
 }

@@ -1,6 +1,5 @@
 ghost use Rattle.std.specs.Iterator.{YieldsFirstBy, item_count};
-ghost use Rattle.cap_bytes.specs.Grammar.{repeat};
-ghost use Rattle.cap_bytes.specs.Taking.{Takes, PassesOver};
+ghost use Rattle.cap_bytes.specs.Taking.{Takes};
 ghost use Rattle.cap_pool.specs.Pool.{entries_left, entry_seen};
 ghost use Rattle.cap_pool.specs.PoolFormat.{entry_info};
 
@@ -22,17 +21,6 @@ pub(crate) fn entry(items: &mut Cursor<'_>) -> Result<PoolEntry, FormFault>
     Ok(PoolEntry { tag, bytes })
 }
 
-/// Passes over so many entries.
-#[tactic(auto, using(cap_bytes::proofs::Loops::passing))]
-pub(crate) fn pass_entries(items: &mut Cursor<'_>, count: u16) -> Result<(), FormFault>
-    ensures { PassesOver (repeat count entry_info) items.old result items.new }
-{
-    'entries: for _ in 0..count {
-        entry(items)?;
-    }
-    Ok(())
-}
-
 impl Iterator for PoolEntries<'_> {
     type Item = PoolEntry;
 
@@ -43,19 +31,10 @@ impl Iterator for PoolEntries<'_> {
     #[tactic(auto, using(cap_bytes::proofs::Loops::yielding))]
     #[inline(always)]
     fn next(&mut self) -> Option<PoolEntry> {
-        if self.left == 0 {
-            return None;
-        }
+        let left = self.left.checked_sub(1)?;
         let mut items = self.items;
-        match entry(&mut items) {
-            Ok(entry) => {
-                *self = PoolEntries {
-                    items,
-                    left: self.left - 1,
-                };
-                Some(entry)
-            }
-            Err(_) => None,
-        }
+        let entry = entry(&mut items).ok()?;
+        *self = PoolEntries { items, left };
+        Some(entry)
     }
 }

@@ -6,7 +6,7 @@ ghost use Rattle.cap_pool.specs.Pool.{entries};
 ghost use Rattle.cap_pool.specs.PoolFormat.{pool_info};
 
 use crate::lists::PoolEntries;
-use crate::pool_items::pass_entries;
+use crate::pool_items::entry;
 use crate::pool_record::Pool;
 use cap_bytes::{Cursor, FormFault, View};
 
@@ -26,7 +26,7 @@ pub fn pool(info: View<'_>) -> Result<Pool<'_>, FormFault>
 }
 
 /// The items of the component.
-#[tactic(auto, using(cap_bytes::proofs::Loops::yielding), unfolding(cap_bytes::specs::Reading::reading))]
+#[tactic(auto, using(cap_bytes::proofs::Loops::passing, cap_bytes::proofs::Loops::yielding), unfolding(cap_bytes::specs::Reading::reading))]
 fn read(info: View<'_>) -> Result<Pool<'_>, FormFault>
     requires { length info.bytes.now ≤ 65535 }
     ensures value { Reads entries (info_of 5) pool_info info.entry.bytes.now result }
@@ -35,7 +35,9 @@ fn read(info: View<'_>) -> Result<Pool<'_>, FormFault>
     let mut items = Cursor::of(info, CONSTANT_POOL);
     let left = items.u2()?;
     let entries = PoolEntries { items, left };
-    pass_entries(&mut items, left)?;
+    'entries: for _ in 0..left {
+        entry(&mut items)?;
+    }
     items.end()?;
     Ok(Pool { info, entries })
 }

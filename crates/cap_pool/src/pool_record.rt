@@ -1,6 +1,6 @@
 ghost use Rattle.std.specs.Prelude.{◌≡◌, length, slice_get, option_map};
 ghost use Rattle.cap_pool.specs.Pool.{entries, entries_left, entry_seen};
-ghost use Rattle.cap_pool.specs.PoolReference.{class_in, referred, static_in};
+ghost use Rattle.cap_pool.specs.PoolReference.{class_in, referred, static_in, token_in};
 
 use crate::lists::PoolEntries;
 use crate::pool_items::entry;
@@ -39,6 +39,14 @@ fn static_in(bytes: [u8; 3]) -> StaticReference
 }
 
 impl PoolEntry {
+    /// The token in the last byte, where the entry names a member by its token.
+    #[inline(always)]
+    pub fn token(self) -> u8
+        ensures { result ≡ token_in (entry_seen self).bytes }
+    {
+        self.bytes[2]
+    }
+
     /// What the entry refers to.
     #[tactic(auto, unfolding(crate::specs::PoolReference::referred))]
     #[inline(always)]
@@ -46,7 +54,7 @@ impl PoolEntry {
         ensures { result ≡ referred (entry_seen self) }
     {
         let PoolEntry { tag, bytes } = self;
-        let token = bytes[2];
+        let token = self.token();
         match tag {
             1 => PoolReference::Class(class_in(bytes)),
             2 => PoolReference::InstanceField {

@@ -1,9 +1,9 @@
 use Rattle.std.proofs.Common.{rules}
 use Rattle.cap_frame.specs.Directory.{custom_seen}
 use Rattle.cap_frame.proofs.Customs.{named_more}
-use Rattle.cap_frame.proofs.directory_reader.pass_customs.Goals as goal
+use Rattle.cap_frame.proofs.directory_reader.customs.Goals as goal
 
 pub customs-preserved : goal.customs-preserved
 customs-preserved c =
-    named_more c.args.count c.args.items.now c.customs.counter c.customs.items c.customs.named (custom_seen c.in_ok-custom.custom) c.new_custom.new.items
+    named_more _ _ c.customs.counter c.customs.items c.customs.named (custom_seen c.in_ok-custom.custom) c.new_custom.new.items
     c.customs.invariant c.customs-test.true c.in_ok-custom.ensures (search rules)

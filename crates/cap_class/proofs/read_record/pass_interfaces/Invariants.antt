@@ -1,6 +1,0 @@
-use Rattle.cap_bytes.proofs.Loops.{HasPassed}
-use Rattle.cap_class.specs.ClassFormat.{interface_info}
-use Rattle.cap_class.proofs.read_record.pass_interfaces.Given as goal
-
-abbrev pub invariant-interfaces : goal.invariant-interfaces
-invariant-interfaces l = HasPassed (interface_info l.extended) l.count l.initial.items l.counter l.items

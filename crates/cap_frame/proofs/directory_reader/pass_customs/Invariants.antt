@@ -1,5 +1,0 @@
-use Rattle.cap_frame.proofs.Customs.{HasNamed}
-use Rattle.cap_frame.proofs.directory_reader.pass_customs.Given as goal
-
-abbrev pub invariant-customs : goal.invariant-customs
-invariant-customs l = HasNamed l.count l.initial.items l.counter l.items l.named
