@@ -13,10 +13,10 @@ use Rattle.cap_package.specs.PackageRecord.{PackageRecord}
 use Rattle.jc_resolve.specs.declared.fault.LinkFault.{LinkFault}
 use Rattle.jc_resolve.specs.Fault.{link_place}
 use Rattle.first_fault.specs.Least.{lesser, least_from}
-use Rattle.jc_resolve.specs.Conditions.{named_after, import_tokens, no_package_fault, import_fault, reference_fault, super_references, references_of_class}
+use Rattle.jc_resolve.specs.Conditions.{named_after, import_tokens, no_package_fault, import_fault, super_references, references_of_class}
 use Rattle.jc_resolve.specs.Conditions.{references_of_classes, reference_of_field, references_of_record, reference_of_type, references_of_field_type}
 use Rattle.jc_resolve.specs.Conditions.{references_of_method, references_of_types, references_described}
-use Rattle.jc_resolve.specs.LookedUp.{references_with_methods, references_of_field_types, references_for_classes, references_without_methods}
+use Rattle.jc_resolve.specs.LookedUp.{references_with_methods, references_of_field_types, references_for_classes, references_without_methods, least_named}
 
 pub range_step : (a n : ℕ) → a < n → range_with_len a (n - a) ≡ a ∷ range_with_len (a + 1) (n - (a + 1))
 range_step a n lt = let e : n - a ≡ suc (n - (a + 1)) = omega arith in ap (range_with_len a) e
@@ -42,7 +42,7 @@ least_imports all k p ps before = least_after (no_package_fault all) import_toke
 module _ (all : List PackageRecord) (k : ℕ) where
   -- the least fault of references, beside one that was seen before
   abbrev in_order : Option LinkFault → List ℕ → Option LinkFault
-  in_order before = least_from link_place before (reference_fault all k)
+  in_order = least_named all k
 
   pub least_class : (c : Class) (before : Option LinkFault) → in_order before (references_of_class c)
       ≡ in_order (in_order before (super_references c.super_ref)) (map (λ (i : Interface). i.class_ref) c.interfaces)

@@ -14,5 +14,6 @@ pub mod Described
 pub mod TypedFields
 pub mod Conditions
 pub mod LookedUp
+pub mod Homes
 pub mod Names
 pub mod OwnPlaces

@@ -1,10 +1,17 @@
 -- Where class references are looked up: where the records of methods, fields and classes are made, and the others alone.
-use Rattle.std.specs.Prelude.{ℕ, List, ◌∷◌, ◌++◌, flat_map}
+use Rattle.std.specs.Prelude.{ℕ, List, ◌∷◌, ◌++◌, flat_map, Option}
 use Rattle.cap_desc.specs.DescriptorFormat.{ClassDescriptor}
 use Rattle.cap_desc.specs.Members.{fields_of}
 use Rattle.cap_package.specs.Descriptions.{Description}
 use Rattle.cap_package.specs.PackageRecord.{PackageRecord}
-use Rattle.jc_resolve.specs.Conditions.{reference_of_field, references_of_classes, references_of_field_type, references_of_method}
+use Rattle.first_fault.specs.Least.{least_from}
+use Rattle.jc_resolve.specs.declared.fault.LinkFault.{LinkFault}
+use Rattle.jc_resolve.specs.Conditions.{reference_of_field, references_of_classes, references_of_field_type, references_of_method, reference_fault}
+use Rattle.jc_resolve.specs.Fault.{link_place}
+
+-- the least fault of a package's class references, beside one that was seen before
+abbrev pub least_named : List PackageRecord → ℕ → Option LinkFault → List ℕ → Option LinkFault
+least_named ps k before = least_from link_place before (reference_fault ps k)
 
 -- methods need the class of each record, and the types of its methods
 abbrev pub references_with_methods : Description → ClassDescriptor → List ℕ

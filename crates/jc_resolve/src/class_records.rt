@@ -4,15 +4,16 @@ ghost use Rattle.cap_class.specs.ClassFormat.{Interface};
 ghost use Rattle.cap_class.specs.ClassPart.{class_seen, classes_left};
 ghost use Rattle.cap_class.specs.Lists.{interfaces_left};
 ghost use Rattle.first_fault.specs.Least.{least_from};
-ghost use Rattle.jc_resolve.specs.Conditions.{super_references, references_of_class, references_of_classes, reference_fault, no_class_fault, named_in};
+ghost use Rattle.jc_resolve.specs.Conditions.{super_references, references_of_class, references_of_classes, no_class_fault, named_in};
 ghost use Rattle.jc_resolve.specs.Described.{IsDescribedOnce};
 ghost use Rattle.jc_resolve.specs.Fault.{link_place};
+ghost use Rattle.jc_resolve.specs.Homes.{object_at, description_at, records_at, least_at, resolved_at, named_class_at, classes_at};
 ghost use Rattle.jc_resolve.specs.LookedUp.{references_for_classes};
 ghost use Rattle.jc_resolve.specs.Named.{IsByteTable, IsSized};
 ghost use Rattle.jc_resolve.specs.NamedClasses.{instance_fields, cells_of_fields, dispatch_entry, dispatch_table, no_table, parent_named, implemented_interfaces, interface_with, named_proper, named_class};
-ghost use Rattle.jc_resolve.specs.Numbering.{numbered_class, numbered_classes, numbered_classes_of};
+ghost use Rattle.jc_resolve.specs.Numbering.{numbered_class, numbered_classes};
 ghost use Rattle.jc_resolve.specs.OwnFields.{cells_of_own, own_with_token, cells_over, tokens_end};
-ghost use Rattle.jc_resolve.specs.TypedFields.{fields_resolved, fields_after};
+ghost use Rattle.jc_resolve.specs.TypedFields.{fields_after};
 
 use crate::class_index::Index;
 use crate::fault::LinkFault;
@@ -30,30 +31,33 @@ use std::alloc::{AllocError, Global};
 
 /// An entry of a dispatch table.
 #[tactic(auto, unfolding(crate::specs::NamedClasses::dispatch_entry))]
-fn entry_of(index: &Index<'_, '_, '_>, package: u16, offset: u16) -> Option<u16>
-    ensures { result ≡ dispatch_entry index.now «package» offset }
+fn entry_of(home: Home<'_, '_, '_, '_>, offset: u16) -> Option<u16>
+    ensures { result ≡ dispatch_entry home.entry.index.now home.entry.number offset }
 {
     if offset == 0xFFFF {
         return None;
     }
-    index.method_at(RecordPlace { package, offset })
+    home.index.method_at(RecordPlace {
+        package: home.number,
+        offset,
+    })
 }
 
 /// A dispatch table of a class.
 fn table_of(
     alloc: Global,
-    index: &Index<'_, '_, '_>,
-    package: u16,
+    home: Home<'_, '_, '_, '_>,
     base: u8,
     offsets: cap_bytes::Table<'_>,
 ) -> Result<DispatchTable, AllocError>
     requires { length (numbers offsets) ≤ 255 }
-    ensures is { IfOk result (λ t. t ≡ dispatch_table index.now «package» base (numbers offsets.entry)) }
+    ensures is { IfOk result
+        (λ t. t ≡ dispatch_table home.entry.index.now home.entry.number base (numbers offsets.entry)) }
     ensures sized { IfOk result IsByteTable }
 {
     let mut entries = Vec::with_capacity(alloc, offsets.len() as usize)?;
     'entries: for offset in offsets {
-        entries.push(entry_of(index, package, offset))?;
+        entries.push(entry_of(home, offset))?;
     }
     Ok(DispatchTable {
         base,
@@ -63,39 +67,39 @@ fn table_of(
 
 /// The superclass of a record; 0xFFFF is none.
 fn parent_named(
-    index: &Index<'_, '_, '_>,
-    package: u16,
+    home: Home<'_, '_, '_, '_>,
     super_ref: u16,
     least: &mut Option<LinkFault>,
 ) -> Option<u16>
-    ensures is { result ≡ parent_named index.now «package» super_ref }
-    ensures least { least.new ≡ least_from link_place least.old (reference_fault index.now «package») (super_references super_ref) }
+    ensures is { result ≡ parent_named home.entry.index.now home.entry.number super_ref }
+    ensures least { least.new ≡ least_at home.entry least.old (super_references super_ref) }
 {
     if super_ref == 0xFFFF {
         return None;
     }
-    class_or_fault(index, package, super_ref, least)
+    class_or_fault(home, super_ref, least)
 }
 
 /// The interfaces of a record.
 #[tactic(auto, unfolding(crate::specs::NamedClasses::interface_named))]
 fn implemented_interfaces(
     alloc: Global,
-    index: &Index<'_, '_, '_>,
-    package: u16,
+    home: Home<'_, '_, '_, '_>,
     interfaces: Interfaces<'_>,
     least: &mut Option<LinkFault>,
 ) -> Result<Vec<Iface>, AllocError>
-    ensures is { IfOk result (λ v. v.items ≡ implemented_interfaces index.now «package» (interfaces_left interfaces.entry)) }
+    ensures is { IfOk result
+        (λ v.
+        v.items
+        ≡ implemented_interfaces home.entry.index.now home.entry.number (interfaces_left interfaces.entry)) }
     ensures least { OnOk result
         (least.new
-        ≡ least_from link_place least.old
-        (reference_fault index.now «package»)
+        ≡ least_at home.entry least.old
         (map (λ (i : Interface). i.class_ref) (interfaces_left interfaces.entry))) }
 {
     let mut named = Vec::new(alloc);
     'interfaces: for interface in interfaces {
-        if let Some(class) = class_or_fault(index, package, interface.class_ref, least) {
+        if let Some(class) = class_or_fault(home, interface.class_ref, least) {
             let tokens = Items::of(Vec::from_slice(alloc, interface.tokens)?);
             named.push(Iface { class, tokens })?;
         }
@@ -162,16 +166,14 @@ fn own_cells(
     fields: &PackageFields,
     class: ClassInfo<'_>,
 ) -> Result<Vec<Ty>, AllocError>
-    requires fields { fields.now ≡ fields_resolved home.index.now (slice_index home.roles 0) home.number home.of_package.now }
-    requires once { IsDescribedOnce home.of_package.now.description.items.classes (class_seen class) }
+    requires fields { fields.now ≡ resolved_at home }
+    requires once { IsDescribedOnce (records_at home) (class_seen class) }
     ensures { IfOk result
         (λ v.
         v.items
-        ≡ cells_of_fields home.entry.index.now
-        (slice_index home.entry.roles 0) home.entry.number home.entry.of_package.now.description
-        (instance_fields
-        home.entry.of_package.now.description.items.classes
-        (class_seen class.entry).offset)) }
+        ≡ cells_of_fields home.entry.index.now (object_at home.entry) home.entry.number
+        (description_at home.entry)
+        (instance_fields (records_at home.entry) (class_seen class.entry).offset)) }
 {
     let cells = cells_of_fields(alloc, fields.own_at(class.offset()))?;
     Ok(cells)
@@ -212,34 +214,24 @@ fn named_proper(
     parent: Option<u16>,
     interfaces: Vec<Iface>,
 ) -> Result<NamedClass, AllocError>
-    requires fields { fields.now ≡ fields_resolved home.index.now (slice_index home.roles 0) home.number home.of_package.now }
-    requires once { IsDescribedOnce home.of_package.now.description.items.classes (class_seen class) }
+    requires fields { fields.now ≡ resolved_at home }
+    requires once { IsDescribedOnce (records_at home) (class_seen class) }
     requires parent { parent ≡ parent_named home.index.now home.number (class_seen class).super_ref }
     requires interfaces { interfaces.items ≡ implemented_interfaces home.index.now home.number (class_seen class).interfaces }
     ensures is { IfOk result
         (λ c.
         c
-        ≡ named_proper home.entry.index.now
-        (slice_index home.entry.roles 0)
-        (numbered_class home.entry.number home.entry.of_package.now
-        (class_seen class.entry))) }
+        ≡ named_proper home.entry.index.now (object_at home.entry)
+        (numbered_class home.entry.number home.entry.of_package.now (class_seen class.entry))) }
     ensures sized { IfOk result IsSized }
 {
-    let index = home.index;
-    let number = home.number;
     // It has no more fields than a component can tell.
     let _descriptor = home.of_package.descriptor();
-    let public = table_of(alloc, index, number, class.public_base(), class.publics())?;
-    let visible = table_of(
-        alloc,
-        index,
-        number,
-        class.package_base(),
-        class.package_table(),
-    )?;
+    let public = table_of(alloc, home, class.public_base(), class.publics())?;
+    let visible = table_of(alloc, home, class.package_base(), class.package_table())?;
     let own = own_cells(alloc, home, fields, class)?;
     Ok(NamedClass {
-        package: number,
+        package: home.number,
         interface: false,
         parent,
         interfaces: Items::of(interfaces),
@@ -258,28 +250,17 @@ fn named_class(
     class: ClassInfo<'_>,
     least: &mut Option<LinkFault>,
 ) -> Result<NamedClass, AllocError>
-    requires fields { fields.now ≡ fields_resolved home.index.now (slice_index home.roles 0) home.number home.of_package.now }
-    requires once { IsDescribedOnce home.of_package.now.description.items.classes (class_seen class) }
-    ensures is { IfOk result
-        (λ c.
-        c
-        ≡ named_class home.entry.index.now
-        (slice_index home.entry.roles 0)
-        (numbered_class home.entry.number home.entry.of_package.now
-        (class_seen class.entry))) }
+    requires fields { fields.now ≡ resolved_at home }
+    requires once { IsDescribedOnce (records_at home) (class_seen class) }
+    ensures is { IfOk result (λ c. c ≡ named_class_at home.entry (class_seen class.entry)) }
     ensures sized { IfOk result IsSized }
     ensures least { OnOk result
-        (least.new
-        ≡ least_from link_place least.old
-        (reference_fault home.entry.index.now home.entry.number)
-        (references_of_class (class_seen class.entry))) }
+        (least.new ≡ least_at home.entry least.old (references_of_class (class_seen class.entry))) }
 {
-    let index = home.index;
-    let number = home.number;
-    let parent = parent_named(index, number, class.super_ref(), least);
-    let interfaces = implemented_interfaces(alloc, index, number, class.interfaces(), least)?;
+    let parent = parent_named(home, class.super_ref(), least);
+    let interfaces = implemented_interfaces(alloc, home, class.interfaces(), least)?;
     if class.flags().is_interface() {
-        Ok(interface_with(alloc, number, interfaces))
+        Ok(interface_with(alloc, home.number, interfaces))
     } else {
         named_proper(alloc, home, fields, class, parent, interfaces)
     }
@@ -295,17 +276,13 @@ fn push_classes(
     least: &mut Option<LinkFault>,
 ) -> Result<(), AllocError>
     requires sized { All IsSized named.old.items }
-    requires fields { fields.now ≡ fields_resolved home.index.now (slice_index home.roles 0) home.number home.of_package.now }
+    requires fields { fields.now ≡ resolved_at home }
     ensures is { OnOk result
         (named.new.items
-        ≡ named.old.items ++ map (named_class home.entry.index.now (slice_index home.entry.roles 0))
-        (numbered_classes_of home.entry.number home.entry.of_package.now)) }
+        ≡ named.old.items ++ classes_at home.entry home.entry.of_package.now.classes) }
     ensures sized { OnOk result (All IsSized named.new.items) }
     ensures least { OnOk result
-        (least.new
-        ≡ least_from link_place least.old
-        (reference_fault home.entry.index.now home.entry.number)
-        (references_of_classes home.entry.of_package.now)) }
+        (least.new ≡ least_at home.entry least.old (references_of_classes home.entry.of_package.now)) }
 {
     // Its parts stand for it, so each class is described once.
     let _parts = home.of_package.parts();

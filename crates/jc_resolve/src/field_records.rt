@@ -1,14 +1,11 @@
-ghost use Rattle.std.specs.Prelude.{◌≡◌, ◌++◌, Some, filter_map, flat_map, slice_index, IfOk, OnOk};
+ghost use Rattle.std.specs.Prelude.{◌≡◌, ◌++◌, Some, filter_map, flat_map, IfOk, OnOk};
 ghost use Rattle.std.specs.Option.{option_to_list};
 ghost use Rattle.cap_desc.specs.ClassRecords.{described_class_seen};
 ghost use Rattle.cap_desc.specs.MemberRecords.{field_seen};
-ghost use Rattle.first_fault.specs.Least.{least_from};
-ghost use Rattle.jc_resolve.specs.Conditions.{reference_fault, references_of_field_type};
+ghost use Rattle.jc_resolve.specs.Conditions.{references_of_field_type};
 ghost use Rattle.jc_resolve.specs.Described.{spot_of_record};
-ghost use Rattle.jc_resolve.specs.Fault.{link_place};
+ghost use Rattle.jc_resolve.specs.Homes.{description_at, least_at, static_type_at, own_field_at, fields_at, resolved_at};
 ghost use Rattle.jc_resolve.specs.LookedUp.{references_of_field_types};
-ghost use Rattle.jc_resolve.specs.OwnFields.{own_field};
-ghost use Rattle.jc_resolve.specs.TypedFields.{static_type, fields_of_record, fields_resolved};
 
 use crate::fault::LinkFault;
 use crate::home::Home;
@@ -16,7 +13,7 @@ use crate::numbers::Numbers;
 use crate::own_field::OwnField;
 use crate::package_fields::PackageFields;
 use crate::place::RecordPlace;
-use crate::world_types::{kind_of, type_checked};
+use crate::world_types::{kind_of, type_of};
 use cap_desc::{DescClass, FieldInfo};
 use cap_package::field_type;
 use jc_base::{Items, Ty};
@@ -40,27 +37,20 @@ fn keep_field(
 ) -> Result<(), AllocError>
     ensures statics { OnOk result
         (statics.new.items
-        ≡ statics.old.items ++ option_to_list
-        (static_type home.entry.index.now
-        (slice_index home.entry.roles 0) home.entry.number home.entry.of_package.now.description
-        (field_seen field))) }
+        ≡ statics.old.items ++ option_to_list (static_type_at home.entry (field_seen field))) }
     ensures own { OnOk result
         (own.new.items
-        ≡ own.old.items ++ option_to_list
-        (own_field home.entry.index.now
-        (slice_index home.entry.roles 0) home.entry.number home.entry.of_package.now.description
-        (field_seen field))) }
+        ≡ own.old.items ++ option_to_list (own_field_at home.entry (field_seen field))) }
     ensures least { OnOk result
         (least.new
-        ≡ least_from link_place least.old
-        (reference_fault home.entry.index.now home.entry.number)
-        (references_of_field_type home.entry.of_package.now.description (field_seen field))) }
+        ≡ least_at home.entry least.old
+        (references_of_field_type (description_at home.entry) (field_seen field))) }
 {
     let item = match field_type(&home.of_package.descriptor(), field.ty) {
         Some(item) => item,
         None => return Ok(()),
     };
-    let ty = type_checked(home.index, home.roles[0] as u16, home.number, item, least);
+    let ty = type_of(home, item, least);
     if field.flags.is_static() {
         statics.push(ty)?;
     } else {
@@ -83,23 +73,16 @@ fn fields_of_record(
     least: &mut Option<LinkFault>,
 ) -> Result<Items<OwnField>, AllocError>
     ensures is { IfOk result
-        (λ own.
-        own
-        ≡ fields_of_record home.entry.index.now
-        (slice_index home.entry.roles 0) home.entry.number home.entry.of_package.now.description
-        (described_class_seen described.entry)) }
+        (λ own. own ≡ fields_at home.entry (described_class_seen described.entry)) }
     ensures statics { OnOk result
         (statics.new.items
-        ≡ statics.old.items ++ filter_map
-        (static_type home.entry.index.now
-        (slice_index home.entry.roles 0) home.entry.number home.entry.of_package.now.description)
+        ≡ statics.old.items ++ filter_map (static_type_at home.entry)
         (described_class_seen described.entry).fields) }
     ensures least { OnOk result
         (least.new
-        ≡ least_from link_place least.old
-        (reference_fault home.entry.index.now home.entry.number)
+        ≡ least_at home.entry least.old
         (flat_map
-        (references_of_field_type home.entry.of_package.now.description)
+        (references_of_field_type (description_at home.entry))
         (described_class_seen described.entry).fields)) }
 {
     let mut own = Vec::with_capacity(alloc, described.field_count() as usize)?;
@@ -116,17 +99,11 @@ pub(crate) fn fields_of_package(
     home: Home<'_, '_, '_, '_>,
     least: &mut Option<LinkFault>,
 ) -> Result<PackageFields, AllocError>
-    ensures is { IfOk result
-        (λ fields.
-        fields
-        ≡ fields_resolved home.entry.index.now
-        (slice_index home.entry.roles 0) home.entry.number home.entry.of_package.now) }
+    ensures is { IfOk result (λ fields. fields ≡ resolved_at home.entry) }
     // The type of each field is looked up once.
     ensures least { OnOk result
         (least.new
-        ≡ least_from link_place least.old
-        (reference_fault home.entry.index.now home.entry.number)
-        (references_of_field_types home.entry.of_package.now)) }
+        ≡ least_at home.entry least.old (references_of_field_types home.entry.of_package.now)) }
 {
     let descriptor = home.of_package.descriptor();
     let count = descriptor.class_count() as usize;

@@ -1,19 +1,19 @@
-ghost use Rattle.std.specs.Prelude.{◌≡◌, ◌+◌, ◌≤◌, ◌<◌, ◌++◌, length, map, take, drop, slice_index, All, IfOk, IfSome, OnOk, flat_map};
+ghost use Rattle.std.specs.Prelude.{◌≡◌, ◌+◌, ◌≤◌, ◌<◌, [], ◌∷◌, ◌++◌, length, map, take, drop, All, IfOk, IfSome, OnOk, flat_map};
 ghost use Rattle.offset_set.specs.Bits.{holds};
 ghost use Rattle.cap_desc.specs.ClassRecords.{described_class_seen, described_left};
 ghost use Rattle.cap_desc.specs.MemberLists.{methods_left};
 ghost use Rattle.cap_desc.specs.MemberRecords.{method_seen};
 ghost use Rattle.cap_method.specs.MethodPart.{handlers_left, header_seen};
 ghost use Rattle.cap_package.specs.PackageRecord.{PackageRecord, names_interface};
-ghost use Rattle.cap_pool.specs.Pool.{entries};
-ghost use Rattle.first_fault.specs.Least.{lesser, least_from};
-ghost use Rattle.jc_resolve.specs.Conditions.{reference_fault, references_of_method, no_class_fault, named_in};
+ghost use Rattle.first_fault.specs.Least.{least_from};
+ghost use Rattle.jc_resolve.specs.Conditions.{references_of_method, no_class_fault, named_in};
 ghost use Rattle.jc_resolve.specs.Fault.{link_place};
+ghost use Rattle.jc_resolve.specs.Homes.{throwable_at, description_at, records_at, class_named_at, least_at};
+ghost use Rattle.jc_resolve.specs.Homes.{handler_at, described_at, headers_at, methods_at, methods_from};
 ghost use Rattle.jc_resolve.specs.LookedUp.{references_with_methods, references_for_methods};
 ghost use Rattle.jc_resolve.specs.Named.{IsAgreed};
-ghost use Rattle.jc_resolve.specs.NamedMethods.{HasFewHandlers, class_or_none, caught_class, handler_named, offset_in_info, no_body, body_after, body_of, class_described, have_headers, is_init, named_method};
-ghost use Rattle.jc_resolve.specs.Numbering.{numbered_method, numbered_classes, numbered_methods, methods_of_class, methods_of_classes};
-ghost use Rattle.jc_resolve.specs.References.{class_named};
+ghost use Rattle.jc_resolve.specs.NamedMethods.{HasFewHandlers, class_or_none, caught_class, offset_in_info, no_body, body_after, body_of, is_init, named_method};
+ghost use Rattle.jc_resolve.specs.Numbering.{numbered_method, numbered_classes, numbered_methods};
 
 use crate::class_index::Index;
 use crate::fault::LinkFault;
@@ -24,7 +24,7 @@ use bitflags::Flags;
 use cap_desc::{AccessFlags, DescClass, MethodInfo};
 use cap_method::{HandlerEntries, HandlerInfo, MethodHeader};
 use cap_package::{Packages, header, interface_offsets};
-use cap_pool::{Pool, PoolReference};
+use cap_pool::PoolReference;
 use jc_base::{Handler, Items, MethodRec, Sig};
 use offset_set::Offsets;
 use std::alloc::{AllocError, Global};
@@ -42,12 +42,14 @@ fn class_or_none(home: Home<'_, '_, '_, '_>, reference: PoolReference) -> u16
 }
 
 /// The class that a handler catches, by its catch_type_index.
-fn caught(home: Home<'_, '_, '_, '_>, pool: &Pool<'_>, catch_type: u16) -> u16
-    ensures { result ≡ caught_class home.entry.index.now (slice_index home.entry.roles 1) home.entry.number (entries pool.now) catch_type }
+fn caught(home: Home<'_, '_, '_, '_>, catch_type: u16) -> u16
+    ensures { result
+        ≡ caught_class home.entry.index.now (throwable_at home.entry) home.entry.number home.entry.of_package.now.pool catch_type }
 {
     if catch_type == 0 {
         return home.roles[1] as u16;
     }
+    let pool = home.of_package.pool();
     match pool.at(catch_type) {
         Some(entry) => class_or_none(home, entry.reference()),
         None => 0,
@@ -56,15 +58,8 @@ fn caught(home: Home<'_, '_, '_, '_>, pool: &Pool<'_>, catch_type: u16) -> u16
 
 /// A handler with its places counted from the start of its method's code.
 #[tactic(auto, unfolding(crate::specs::NamedMethods::handler_named))]
-fn handler_named(
-    home: Home<'_, '_, '_, '_>,
-    pool: &Pool<'_>,
-    code_at: u16,
-    handler: HandlerInfo,
-) -> Handler
-    ensures { result
-        ≡ handler_named home.entry.index.now
-        (slice_index home.entry.roles 1) home.entry.number (entries pool.now) code_at handler }
+fn handler_named(home: Home<'_, '_, '_, '_>, code_at: u16, handler: HandlerInfo) -> Handler
+    ensures { result ≡ handler_at home.entry code_at handler }
 {
     Handler {
         start: handler.start.saturating_sub(code_at),
@@ -74,7 +69,7 @@ fn handler_named(
             .saturating_sub(code_at),
         entry: handler.entry.saturating_sub(code_at),
         index: handler.index,
-        class: caught(home, pool, handler.index),
+        class: caught(home, handler.index),
     }
 }
 
@@ -109,7 +104,6 @@ fn handlers_of<'a>(handlers: HandlerEntries<'a>, first: u16, count: u16) -> Hand
 fn handlers_named(
     alloc: Global,
     home: Home<'_, '_, '_, '_>,
-    pool: &Pool<'_>,
     code_at: u16,
     handlers: HandlerEntries<'_>,
     count: u16,
@@ -117,17 +111,14 @@ fn handlers_named(
     ensures { IfOk result
         (λ v.
         v.items
-        ≡ map
-        (handler_named home.entry.index.now
-        (slice_index home.entry.roles 1) home.entry.number (entries pool.now) code_at)
-        (take count (handlers_left handlers.entry))) }
+        ≡ map (handler_at home.entry code_at) (take count (handlers_left handlers.entry))) }
 {
     let mut named = Vec::new(alloc);
     let mut rest = handlers;
     'handlers: for _ in 0..count {
         match rest.next() {
             Some(handler) => {
-                named.push(handler_named(home, pool, code_at, handler))?;
+                named.push(handler_named(home, code_at, handler))?;
             }
             None => return Ok(named),
         }
@@ -178,16 +169,14 @@ fn body_after(
     ensures { IfOk result
         (λ b.
         b
-        ≡ body_after home.entry.index.now
-        (slice_index home.entry.roles 1) home.entry.number home.entry.of_package.now
+        ≡ body_after home.entry.index.now (throwable_at home.entry) home.entry.number home.entry.of_package.now
         (method_seen method.now) (header_seen header)
         (offset_in_info (method.now.method_offset + header.size))) }
 {
     let code_at = method.method_offset.saturating_add(header.size as u16);
     let all = home.of_package.methods().handlers();
     let farther = handlers_of(all, method.handler_index, method.handler_count);
-    let pool = home.of_package.pool();
-    let handlers = handlers_named(alloc, home, &pool, code_at, farther, method.handler_count)?;
+    let handlers = handlers_named(alloc, home, code_at, farther, method.handler_count)?;
     Ok(Body {
         is_abstract: header.flags.is_abstract(),
         nargs: header.nargs,
@@ -211,8 +200,7 @@ fn body_of(
     ensures { IfOk result
         (λ b.
         b
-        ≡ body_of home.entry.index.now
-        (slice_index home.entry.roles 1) home.entry.number home.entry.of_package.now
+        ≡ body_of home.entry.index.now (throwable_at home.entry) home.entry.number home.entry.of_package.now
         (method_seen method.now) sig.now has_header) }
 {
     if !has_header {
@@ -243,9 +231,9 @@ fn have_headers(
     named: Option<u16>,
 ) -> bool
     requires interfaces { holds interfaces.now ≡ names_interface home.of_package.now.classes }
-    requires named { named ≡ class_named home.index.now home.number (described_class_seen class).class_ref }
+    requires named { named ≡ class_named_at home (described_class_seen class).class_ref }
     requires below { IfSome named (λ c. c < length (numbered_classes home.index.now)) }
-    ensures { result ≡ have_headers home.entry.index.now home.entry.number home.entry.of_package.now (described_class_seen class.entry) }
+    ensures { result ≡ headers_at home.entry (described_class_seen class.entry) }
 {
     if interfaces.has(class.class_ref()) {
         return false;
@@ -268,15 +256,11 @@ fn of_class<'a>(
     requires { holds interfaces.now ≡ names_interface home.of_package.now.classes }
     ensures number { result.class_no ≡ class_no }
     ensures record_is { described_class_seen result.record ≡ described_class_seen record.entry }
-    ensures class { result.class ≡ class_described home.entry.index.now home.entry.number (described_class_seen record.entry) }
-    ensures headers { result.has_headers
-        ≡ have_headers home.entry.index.now home.entry.number home.entry.of_package.now (described_class_seen record.entry) }
-    ensures least { least.new
-        ≡ lesser link_place least.old
-        (reference_fault home.entry.index.now home.entry.number
-        (described_class_seen record.entry).class_ref) }
+    ensures class { result.class ≡ described_at home.entry (described_class_seen record.entry) }
+    ensures headers { result.has_headers ≡ headers_at home.entry (described_class_seen record.entry) }
+    ensures least { least.new ≡ least_at home.entry least.old ((described_class_seen record.entry).class_ref ∷ []) }
 {
-    let named = class_or_fault(home.index, home.number, record.class_ref(), least);
+    let named = class_or_fault(home, record.class_ref(), least);
     OfClass {
         class_no,
         record,
@@ -302,9 +286,8 @@ fn method_record(
     method: MethodInfo,
     least: &mut Option<LinkFault>,
 ) -> Result<MethodRec, AllocError>
-    requires class { of_class.class ≡ class_described home.index.now home.number (described_class_seen of_class.record) }
-    requires headers { of_class.has_headers
-        ≡ have_headers home.index.now home.number home.of_package.now (described_class_seen of_class.record) }
+    requires class { of_class.class ≡ described_at home (described_class_seen of_class.record) }
+    requires headers { of_class.has_headers ≡ headers_at home (described_class_seen of_class.record) }
     ensures is { IfOk result
         (λ m.
         m
@@ -313,19 +296,10 @@ fn method_record(
         (described_class_seen of_class.entry.record) method_no (method_seen method))) }
     ensures least { OnOk result
         (least.new
-        ≡ least_from link_place least.old
-        (reference_fault home.entry.index.now home.entry.number)
-        (references_of_method home.entry.of_package.now.description (method_seen method))) }
+        ≡ least_at home.entry least.old
+        (references_of_method (description_at home.entry) (method_seen method))) }
 {
-    let sig = signature_of(
-        alloc,
-        home.index,
-        home.roles[0] as u16,
-        home.number,
-        &home.of_package.descriptor(),
-        method.type_offset,
-        least,
-    )?;
+    let sig = signature_of(alloc, home, method.type_offset, least)?;
     let body = body_of(alloc, home, &method, &sig, of_class.has_headers)?;
     Ok(MethodRec {
         package: home.number,
@@ -355,20 +329,17 @@ fn push_methods(
     of_class: OfClass<'_>,
     least: &mut Option<LinkFault>,
 ) -> Result<(), AllocError>
-    requires class { of_class.class ≡ class_described home.index.now home.number (described_class_seen of_class.record) }
-    requires headers { of_class.has_headers
-        ≡ have_headers home.index.now home.number home.of_package.now (described_class_seen of_class.record) }
+    requires class { of_class.class ≡ described_at home (described_class_seen of_class.record) }
+    requires headers { of_class.has_headers ≡ headers_at home (described_class_seen of_class.record) }
     ensures is { OnOk result
         (methods.new.items
-        ≡ methods.old.items ++ map (named_method home.entry.index.now home.entry.roles)
-        (methods_of_class home.entry.number home.entry.of_package.now of_class.entry.class_no (described_class_seen of_class.entry.record) 0
-        (described_class_seen of_class.entry.record).methods)) }
+        ≡ methods.old.items ++ methods_at home.entry of_class.entry.class_no (described_class_seen of_class.entry.record) 0
+        (described_class_seen of_class.entry.record).methods) }
     ensures least { OnOk result
         (least.new
-        ≡ least_from link_place least.old
-        (reference_fault home.entry.index.now home.entry.number)
+        ≡ least_at home.entry least.old
         (flat_map
-        (references_of_method home.entry.of_package.now.description)
+        (references_of_method (description_at home.entry))
         (described_class_seen of_class.entry.record).methods)) }
 {
     // Their number is one that `method_count` can answer.
@@ -394,14 +365,12 @@ fn push_class(
     requires { holds interfaces.now ≡ names_interface home.of_package.now.classes }
     ensures is { OnOk result
         (methods.new.items
-        ≡ methods.old.items ++ map (named_method home.entry.index.now home.entry.roles)
-        (methods_of_class home.entry.number home.entry.of_package.now class_no (described_class_seen class.entry) 0
-        (described_class_seen class.entry).methods)) }
+        ≡ methods.old.items ++ methods_at home.entry class_no (described_class_seen class.entry) 0
+        (described_class_seen class.entry).methods) }
     ensures least { OnOk result
         (least.new
-        ≡ least_from link_place least.old
-        (reference_fault home.entry.index.now home.entry.number)
-        (references_with_methods home.entry.of_package.now.description (described_class_seen class.entry))) }
+        ≡ least_at home.entry least.old
+        (references_with_methods (description_at home.entry) (described_class_seen class.entry))) }
 {
     let of_class = of_class(home, interfaces, class_no, class, least);
     push_methods(methods, alloc, home, of_class, least)
@@ -417,15 +386,11 @@ fn push_package(
 ) -> Result<(), AllocError>
     ensures named { OnOk result
         (methods.new.items
-        ≡ methods.old.items ++ map (named_method home.entry.index.now home.entry.roles)
-        (methods_of_classes home.entry.number home.entry.of_package.now 0 home.entry.of_package.now.description.items.classes)) }
+        ≡ methods.old.items ++ methods_from home.entry 0 (records_at home.entry)) }
     ensures agreed { IsAgreed home.entry.of_package.now }
     ensures few { HasFewHandlers home.entry.of_package.now }
     ensures least { OnOk result
-        (least.new
-        ≡ least_from link_place least.old
-        (reference_fault home.entry.index.now home.entry.number)
-        (references_for_methods home.entry.of_package.now)) }
+        (least.new ≡ least_at home.entry least.old (references_for_methods home.entry.of_package.now)) }
 {
     // Its parts stand for it, and the number of its handlers is one that `handler_count` can answer.
     let _parts = home.of_package.parts();

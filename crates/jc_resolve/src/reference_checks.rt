@@ -3,15 +3,16 @@ ghost use Rattle.cap_bytes.specs.Table.{numbers};
 ghost use Rattle.cap_desc.specs.ClassRecords.{described_class_seen as record_seen, described_left as records_left};
 ghost use Rattle.cap_desc.specs.MemberLists.{fields_left};
 ghost use Rattle.jc_resolve.specs.Conditions.{reference_fault, reference_of_field, no_class_fault, named_in};
-ghost use Rattle.jc_resolve.specs.LookedUp.{references_without_methods, references_besides};
+ghost use Rattle.jc_resolve.specs.Homes.{class_named_at};
+ghost use Rattle.jc_resolve.specs.LookedUp.{least_named, references_without_methods, references_besides};
 ghost use Rattle.jc_resolve.specs.Fault.{link_place};
 ghost use Rattle.first_fault.specs.Least.{lesser, least_from};
 ghost use Rattle.jc_resolve.specs.NamedMethods.{reference_in};
 ghost use Rattle.jc_resolve.specs.Numbering.{numbered_classes};
-ghost use Rattle.jc_resolve.specs.References.{class_named};
 
 use crate::class_index::Index;
 use crate::fault::LinkFault;
+use crate::home::Home;
 use byteorder::{BigEndian, ByteOrder};
 use cap_bytes::Table;
 use cap_desc::{DescClass, DescClasses, DescFields};
@@ -31,19 +32,19 @@ fn reference_fault(index: &Index<'_, '_, '_>, package: u16, reference: u16) -> O
 /// The class that a reference of a package names; one that names none is counted in the least fault so far.
 #[tactic(auto, unfolding(crate::specs::Conditions::no_class_fault, first_fault::specs::Least::lesser))]
 pub(crate) fn class_or_fault(
-    index: &Index<'_, '_, '_>,
-    package: u16,
+    home: Home<'_, '_, '_, '_>,
     reference: u16,
     least: &mut Option<LinkFault>,
 ) -> Option<u16>
-    ensures is { result ≡ class_named index.now «package» reference }
-    ensures below { IfSome result (λ c. c < length (numbered_classes index.now)) }
-    ensures least { least.new ≡ lesser link_place least.old (reference_fault index.now «package» reference) }
+    ensures is { result ≡ class_named_at home.entry reference }
+    ensures below { IfSome result (λ c. c < length (numbered_classes home.entry.index.now)) }
+    ensures least { least.new
+        ≡ lesser link_place least.old (reference_fault home.entry.index.now home.entry.number reference) }
 {
-    match index.class_named(package, reference) {
+    match home.index.class_named(home.number, reference) {
         Some(class) => Some(class),
         None => {
-            *least = lesser(*least, Some(LinkFault::NoClass(package, reference)));
+            *least = lesser(*least, Some(LinkFault::NoClass(home.number, reference)));
             None
         }
     }
@@ -64,7 +65,7 @@ fn table_named(
     table: Table<'_>,
     least: Option<LinkFault>,
 ) -> Option<LinkFault>
-    ensures { result ≡ least_from link_place least (reference_fault index.now «package») (numbers table.entry) }
+    ensures { result ≡ least_named index.now «package» least (numbers table.entry) }
 {
     least_from(least, table, |reference| {
         reference_fault(index, package, reference)
@@ -80,9 +81,7 @@ fn fields_named(
     least: Option<LinkFault>,
 ) -> Option<LinkFault>
     ensures { result
-        ≡ least_from link_place least
-        (reference_fault index.now «package»)
-        (flat_map reference_of_field (fields_left fields.entry)) }
+        ≡ least_named index.now «package» least (flat_map reference_of_field (fields_left fields.entry)) }
 {
     let mut least = least;
     'fields: for field in fields {
@@ -105,9 +104,7 @@ fn record_besides(
     least: Option<LinkFault>,
 ) -> Option<LinkFault>
     ensures { result
-        ≡ least_from link_place least
-        (reference_fault index.now «package»)
-        (references_without_methods (record_seen described.entry)) }
+        ≡ least_named index.now «package» least (references_without_methods (record_seen described.entry)) }
 {
     let interfaces = table_named(index, package, described.interfaces(), least);
     fields_named(index, package, described.fields(), interfaces)
@@ -122,8 +119,7 @@ fn least_of_records(
     least: Option<LinkFault>,
 ) -> Option<LinkFault>
     ensures { result
-        ≡ least_from link_place least
-        (reference_fault index.now «package»)
+        ≡ least_named index.now «package» least
         (flat_map references_without_methods (records_left records.entry)) }
 {
     let mut least = least;

@@ -1,17 +1,15 @@
-ghost use Rattle.std.specs.Prelude.{◌≡◌, ◌<◌, ◌++◌, IfOk, IfSome, OnOk, flat_map, length};
+ghost use Rattle.std.specs.Prelude.{◌≡◌, ◌<◌, ◌∷◌, [], ◌++◌, IfOk, IfSome, OnOk, flat_map, length};
 ghost use Rattle.cap_desc.specs.TypeLists.{types_left};
-ghost use Rattle.cap_package.specs.Descriptions.{description};
-ghost use Rattle.first_fault.specs.Least.{lesser, least_from};
 ghost use Rattle.jc_base.specs.Cell.{width};
-ghost use Rattle.jc_resolve.specs.Conditions.{reference_fault, reference_of_type, references_of_types_at};
-ghost use Rattle.jc_resolve.specs.Fault.{link_place};
+ghost use Rattle.jc_resolve.specs.Conditions.{reference_of_type, references_of_types_at};
+ghost use Rattle.jc_resolve.specs.Homes.{object_at, description_at, least_at, type_class_at, type_at};
 ghost use Rattle.jc_resolve.specs.Numbering.{numbered_classes};
-ghost use Rattle.jc_resolve.specs.WorldTypes.{class_or_object, type_class, type_of, cells_with, kind_of, signature_in, declared_signature};
+ghost use Rattle.jc_resolve.specs.WorldTypes.{class_or_object, cells_with, kind_of, signature_in, declared_signature};
 
-use crate::class_index::Index;
 use crate::fault::LinkFault;
+use crate::home::Home;
 use crate::reference_checks::class_or_fault;
-use cap_desc::{DescPart, TypeItem, Types};
+use cap_desc::{TypeItem, Types};
 use jc_base::{Items, Kind, Sig, Ty};
 use std::alloc::{AllocError, Global};
 
@@ -39,13 +37,14 @@ const INT_ARRAY: u8 = 13;
 const REFERENCE_ARRAY: u8 = 14;
 
 /// The class as which a type knows what was named: object where that is an interface, or no class.
-fn class_or_object(index: &Index<'_, '_, '_>, object: u16, named: Option<u16>) -> u16
-    requires { IfSome named (λ c. c < length (numbered_classes index.now)) }
-    ensures { result ≡ class_or_object index.now object named }
+fn class_or_object(home: Home<'_, '_, '_, '_>, named: Option<u16>) -> u16
+    requires { IfSome named (λ c. c < length (numbered_classes home.index.now)) }
+    ensures { result ≡ class_or_object home.entry.index.now (object_at home.entry) named }
 {
+    let object = home.roles[0] as u16;
     match named {
         Some(class) => {
-            if index.is_interface(class) {
+            if home.index.is_interface(class) {
                 object
             } else {
                 class
@@ -55,70 +54,34 @@ fn class_or_object(index: &Index<'_, '_, '_>, object: u16, named: Option<u16>) -
     }
 }
 
-/// The class as which a type knows what a reference names.
-fn type_class(index: &Index<'_, '_, '_>, object: u16, package: u16, reference: u16) -> u16
-    ensures { result ≡ type_class index.now object «package» reference }
+/// The class as which a type knows what a reference names; one that names no class is counted in the least fault so far.
+fn type_class(home: Home<'_, '_, '_, '_>, reference: u16, least: &mut Option<LinkFault>) -> u16
+    ensures is { result ≡ type_class_at home.entry reference }
+    ensures least { least.new ≡ least_at home.entry least.old (reference ∷ []) }
 {
-    class_or_object(index, object, index.class_named(package, reference))
+    let named = class_or_fault(home, reference, least);
+    class_or_object(home, named)
 }
 
-/// The same; a reference that names no class is counted in the least fault so far.
-fn type_class_checked(
-    index: &Index<'_, '_, '_>,
-    object: u16,
-    package: u16,
-    reference: u16,
-    least: &mut Option<LinkFault>,
-) -> u16
-    ensures is { result ≡ type_class index.now object «package» reference }
-    ensures least { least.new ≡ lesser link_place least.old (reference_fault index.now «package» reference) }
-{
-    let named = class_or_fault(index, package, reference, least);
-    class_or_object(index, object, named)
-}
-
-/// The type of a value; void has none.
+/// The type of a value; void has none. A reference in it that names no class is counted in the least fault so far.
 #[tactic(auto, unfolding(crate::specs::WorldTypes::type_of))]
-fn type_of(index: &Index<'_, '_, '_>, object: u16, package: u16, item: TypeItem) -> Ty
-    ensures { result ≡ type_of index.now object «package» item }
+pub(crate) fn type_of(
+    home: Home<'_, '_, '_, '_>,
+    item: TypeItem,
+    least: &mut Option<LinkFault>,
+) -> Ty
+    ensures is { result ≡ type_at home.entry item }
+    ensures least { least.new ≡ least_at home.entry least.old (reference_of_type item) }
 {
     match item.nibble {
         INT => Ty::IntHigh,
-        REFERENCE => Ty::Class(type_class(index, object, package, item.class_ref)),
+        REFERENCE => Ty::Class(type_class(home, item.class_ref, least)),
         BOOLEAN_ARRAY => Ty::ArrBool,
         BYTE_ARRAY => Ty::ArrByte,
         SHORT_ARRAY => Ty::ArrShort,
         INT_ARRAY => Ty::ArrInt,
-        REFERENCE_ARRAY => Ty::ArrRef(type_class(index, object, package, item.class_ref)),
+        REFERENCE_ARRAY => Ty::ArrRef(type_class(home, item.class_ref, least)),
         _ => Ty::Short,
-    }
-}
-
-/// The type of a value; a reference in it that names no class is counted in the least fault so far.
-#[tactic(auto, unfolding(crate::specs::WorldTypes::type_of))]
-pub(crate) fn type_checked(
-    index: &Index<'_, '_, '_>,
-    object: u16,
-    package: u16,
-    item: TypeItem,
-    least: &mut Option<LinkFault>,
-) -> Ty
-    ensures is { result ≡ type_of index.now object «package» item }
-    ensures least { least.new
-        ≡ least_from link_place least.old
-        (reference_fault index.now «package»)
-        (reference_of_type item) }
-{
-    match item.nibble {
-        REFERENCE => Ty::Class(type_class_checked(index, object, package, item.class_ref, least)),
-        REFERENCE_ARRAY => Ty::ArrRef(type_class_checked(
-            index,
-            object,
-            package,
-            item.class_ref,
-            least,
-        )),
-        _ => type_of(index, object, package, item),
     }
 }
 
@@ -163,18 +126,18 @@ fn push_cells(cells: &mut Vec<Ty>, item: TypeItem, ty: Ty) -> Result<(), AllocEr
 #[tactic(auto, using(crate::proofs::NamedFaults::least_types))]
 fn signature_in(
     alloc: Global,
-    index: &Index<'_, '_, '_>,
-    object: u16,
-    package: u16,
+    home: Home<'_, '_, '_, '_>,
     types: Types<'_>,
     least: &mut Option<LinkFault>,
 ) -> Result<Sig, AllocError>
-    ensures is { IfOk result (λ s. s ≡ signature_in index.now object «package» (types_left types.entry)) }
+    ensures is { IfOk result
+        (λ s.
+        s
+        ≡ signature_in home.entry.index.now (object_at home.entry) home.entry.number
+        (types_left types.entry)) }
     ensures least { OnOk result
         (least.new
-        ≡ least_from link_place least.old
-        (reference_fault index.now «package»)
-        (flat_map reference_of_type (types_left types.entry))) }
+        ≡ least_at home.entry least.old (flat_map reference_of_type (types_left types.entry))) }
 {
     let mut args = Vec::new(alloc);
     let mut rest = types;
@@ -188,11 +151,11 @@ fn signature_in(
         }
     };
     'types: while let Some(next) = rest.next() {
-        let ty = type_checked(index, object, package, last, least);
+        let ty = type_of(home, last, least);
         push_cells(&mut args, last, ty)?;
         last = next;
     }
-    let ty = type_checked(index, object, package, last, least);
+    let ty = type_of(home, last, least);
     let result = if last.nibble == VOID { None } else { Some(ty) };
     Ok(Sig {
         args: Items::of(args),
@@ -204,22 +167,22 @@ fn signature_in(
 #[tactic(auto, unfolding(crate::specs::WorldTypes::declared_signature))]
 pub(crate) fn signature_of(
     alloc: Global,
-    index: &Index<'_, '_, '_>,
-    object: u16,
-    package: u16,
-    descriptor: &DescPart<'_>,
+    home: Home<'_, '_, '_, '_>,
     offset: u16,
     least: &mut Option<LinkFault>,
 ) -> Result<Sig, AllocError>
-    ensures is { IfOk result (λ s. s ≡ declared_signature index.now object «package» (description descriptor.now) offset) }
+    ensures is { IfOk result
+        (λ s.
+        s
+        ≡ declared_signature home.entry.index.now (object_at home.entry) home.entry.number
+        (description_at home.entry) offset) }
     ensures least { OnOk result
         (least.new
-        ≡ least_from link_place least.old
-        (reference_fault index.now «package»)
-        (references_of_types_at (description descriptor.now) offset)) }
+        ≡ least_at home.entry least.old (references_of_types_at (description_at home.entry) offset)) }
 {
+    let descriptor = home.of_package.descriptor();
     match descriptor.types_at(offset) {
-        Some(types) => signature_in(alloc, index, object, package, types, least),
+        Some(types) => signature_in(alloc, home, types, least),
         None => Ok(Sig {
             args: Items::of(Vec::new(alloc)),
             result: None,

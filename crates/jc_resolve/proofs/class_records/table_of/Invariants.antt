@@ -5,5 +5,5 @@ use Rattle.jc_resolve.proofs.class_records.table_of.Given as goal
 
 abbrev pub invariant-entries : goal.invariant-entries
 invariant-entries l =
-    l.entries.items ++ map (dispatch_entry l.index l.«package») (numbers l.offset-iterator) ≡ map (dispatch_entry l.index l.«package»)
-    (numbers l.fn.offsets)
+    l.entries.items ++ map (dispatch_entry l.home.index.now l.home.number) (numbers l.offset-iterator)
+    ≡ map (dispatch_entry l.home.index.now l.home.number) (numbers l.fn.offsets)

@@ -1,14 +1,11 @@
 use Rattle.std.proofs.Common.{◌≡◌, List, [], ◌∷◌, ◌++◌, append_assoc, map, filter_map, flat_map, length, ap, sym, ◌∙◌, arith}
-use Rattle.std.specs.Prelude.{slice_index}
-use Rattle.first_fault.specs.Least.{least_from}
 use Rattle.cap_desc.specs.ClassRecords.{described_class_seen, described_left}
 use Rattle.cap_desc.specs.DescriptorFormat.{ClassDescriptor}
 use Rattle.cap_desc.specs.Members.{fields_of}
-use Rattle.jc_resolve.specs.Conditions.{reference_fault, references_of_field_type}
+use Rattle.jc_resolve.specs.Conditions.{references_of_field_type}
 use Rattle.jc_resolve.specs.Described.{spot_of_record}
-use Rattle.jc_resolve.specs.Fault.{link_place}
+use Rattle.jc_resolve.specs.Homes.{description_at, least_at, static_type_at, fields_at}
 use Rattle.jc_resolve.specs.Numbers.{Numbered, with_next, with_all}
-use Rattle.jc_resolve.specs.TypedFields.{static_type, fields_of_record}
 use Rattle.jc_resolve.proofs.NamedFaults.{least_record_types}
 use Rattle.jc_resolve.proofs.TypedFields.{record_step}
 use Rattle.jc_resolve.proofs.field_records.fields_of_package.Goals as goal
@@ -16,9 +13,9 @@ use Rattle.jc_resolve.proofs.field_records.fields_of_package.Goals as goal
 pub records-preserved : goal.records-preserved
 records-preserved c =
     let home = c.args.home in
-    let d = home.of_package.now.description in
-    let f = static_type home.index.now (slice_index home.roles 0) home.number d in
-    let g = fields_of_record home.index.now (slice_index home.roles 0) home.number d in
+    let d = description_at home in
+    let f = static_type_at home in
+    let g = fields_at home in
     let x = described_class_seen c.in-Some.described in
     let others = described_left c.next.new.self in
     let is : described_left c.records.described-iterator ≡ x ∷ others = c.in-Some.ensures.steps in
@@ -41,11 +38,8 @@ records-preserved c =
           ∙ c.records.invariant.numbers;
       next = omega (arith, c.in_ok-push.ensures.next, ap length is, c.records.invariant.next);
       least =
-          ap
-          (λ before. least_from link_place before (reference_fault home.index.now home.number)
-          (flat_map (references_of_field_type d) (fields_of others))) c.in_ok-fields_of_record.ensures.least
+          ap (λ before. least_at home before (flat_map (references_of_field_type d) (fields_of others))) c.in_ok-fields_of_record.ensures.least
           ∙ sym (least_record_types home.index.now home.number d x others c.records.least)
-          ∙ ap (λ (ds : List ClassDescriptor). least_from link_place c.records.least (reference_fault home.index.now home.number)
-          (flat_map (references_of_field_type d) (fields_of ds))) (sym is)
+          ∙ ap (λ (ds : List ClassDescriptor). least_at home c.records.least (flat_map (references_of_field_type d) (fields_of ds))) (sym is)
           ∙ c.records.invariant.least;
     }
