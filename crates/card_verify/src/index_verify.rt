@@ -21,7 +21,6 @@ use crate::listed::Listed;
 use crate::order::bad_entry;
 use crate::over_index::index_laws;
 use crate::scan::{Lacking, first_lacking};
-use cap_bytes::View;
 use card_typing::{CardFault, CardKind, card_laws};
 use jc_base::{Steps, TargetIndex, Ty, World};
 use jc_decode::instructions_are_listed;
@@ -71,14 +70,7 @@ pub fn verify_indexed<L: Ledger>(
         → length index.now < 2 ^ digits
         → steps.new ≤ steps.old + step_bound world.now m (length index.now) digits) }
 {
-    let rec = world.method(method);
-    let code = View::of(world.code(method));
-    let verifier = Verifier {
-        world,
-        number: method,
-        rec,
-        code,
-    };
+    let verifier = Verifier::of(world, method);
     let indexed = Indexed { verifier, index };
     indexed.verify(regs, stack, steps)
 }

@@ -1,4 +1,4 @@
-ghost use Rattle.std.specs.Prelude.{◌≡◌, ◌↔◌, ℕ, ◌+◌, ◌*◌, ◌<◌, ◌≤◌, length, slice_get, sum_by, IsSomeAnd, IfErr, OnOk, OnErr};
+ghost use Rattle.std.specs.Prelude.{◌≡◌, ◌↔◌, ℕ, ◌+◌, ◌*◌, ◌<◌, ◌≤◌, length, Some, slice_get, sum_by, IsSomeAnd, IfErr, OnOk, OnErr};
 ghost use Rattle.jc_base.specs.Order.{rises_left};
 ghost use Rattle.jc_base.specs.declared.ty.Ty.TheVariants.{Bottom};
 ghost use Rattle.jc_control.specs.Method.{IsMethodOf, method_in};
@@ -53,14 +53,7 @@ pub fn verify_method(
     ensures flawed { IsSomeAnd (method_in world.now method) (λ m. IfErr result (λ fault. IsFlawKind fault.kind ↔ ¬ (IsWellFormed m))) }
     ensures as_before { IfErr result (λ fault. IsFlawKind fault.kind → (regs.new ≡ regs.old) × (stack.new ≡ stack.old)) }
 {
-    let rec = world.method(method);
-    let code = View::of(world.code(method));
-    let verifier = Verifier {
-        world,
-        number: method,
-        rec,
-        code,
-    };
+    let verifier = Verifier::of(world, method);
     verifier.verify(regs, stack)
 }
 
@@ -84,6 +77,26 @@ fn fault_of(flaw: Flaw) -> CardFault
             depth: 0,
             kind: CardKind::BadHandler(number),
         },
+    }
+}
+
+impl<'w> Verifier<'w> {
+    /// The verifier of a method of a number.
+    pub(crate) fn of(world: &'w World<'w>, number: u16) -> Verifier<'w>
+        requires { IsSomeAnd (slice_get world.now.methods number) (λ m. 0 < m.code_len) }
+        ensures world { world_of result ≡ world.now }
+        ensures rec { slice_get world.now.methods number ≡ Some result.rec.now }
+        ensures is { method_in world.now number ≡ Some (method result) }
+        ensures known { IsMethodOf (world_of result) (method result) }
+    {
+        let rec = world.method(number);
+        let code = View::of(world.code(number));
+        Verifier {
+            world,
+            number,
+            rec,
+            code,
+        }
     }
 }
 

@@ -6,7 +6,7 @@ use Rattle.jc_rules.specs.Typing.{state_at}
 use Rattle.jc_flow.proofs.Answered.{number-below}
 use Rattle.xf_homes.specs.Walk.{argument_homes, code_events, with_events}
 use Rattle.xf_homes.specs.Answer.{IsTypingOf}
-use Rattle.jc_control.proofs.OwnMethod.{of-method, to-method}
+use Rattle.jc_control.proofs.OwnMethod.{method-is}
 use Rattle.xf_homes.proofs.Answered.{flaw-never, answered-homes, answered-end, code-short}
 use Rattle.xf_homes.proofs.finding.homes.Goals as goal
 
@@ -22,57 +22,40 @@ method-rec-requires c = number-below (λ m. 0 < m.code_len) c.args.world.now.met
 pub code-requires : goal.code-requires
 code-requires c = number-below (λ m. 0 < m.code_len) c.args.world.now.methods c.args.method c.requires.code
 
-pub returns-clause-homes : goal.returns-clause-homes
-returns-clause-homes c =
+pub returns : goal.returns
+returns c =
     let w = c.args.world.now in
     let n = c.args.method in
     let rec = c.method-rec.result.now in
     let code = c.of.result.bytes.now in
     let m : Method = record { number = n; rec = rec; code = code } in
     let bytes : option_map (code_of w.infos) (slice_get w.methods n) ≡ Some code = cc in
-    let mo : IsMethodOf w m = of-method w n rec code c.method-rec.ensures.is bytes (IsMethodOf w) c.in-Ok.ensures.known in
-    let typed : IsTypingOf w m c.args.typing.now = of-method w n rec code c.method-rec.ensures.is bytes (λ m. IsTypingOf w m c.args.typing.now)
-    c.requires.typing in
-    let flow : IsControlFlow m c.in-Ok.control = of-method w n rec code c.method-rec.ensures.is bytes (λ m. IsControlFlow m c.in-Ok.control)
-    c.in-Ok.ensures.formed in
+    let there : method_in w n ≡ Some m = method-is w n rec code c.method-rec.ensures.is bytes in
+    let mo : IsMethodOf w m = rw there at c.in-Ok.ensures.known in
+    let typed : IsTypingOf w m c.args.typing.now = rw there at c.requires.typing in
+    let flow : IsControlFlow m c.in-Ok.control = rw there at c.in-Ok.ensures.formed in
     let is : c.find.new.homes.keys ≡ with_events (argument_homes rec) (code_events w m (state_at c.args.typing.now) c.in-Ok.control.leaders) =
     c.in_ok-find.ensures ∙ ap (λ hs. with_events hs (code_events w m (state_at c.args.typing.now) c.in-Ok.control.leaders)) c.in_ok-homes.ensures in
-    to-method w n rec code c.method-rec.ensures.is bytes _
-    (answered-homes w m c.args.typing.now typed c.in-Ok.control flow (c.instructions_are_placed.ensures m typed.least.typing.formed)
-    (c.instructions_are_listed.ensures code) mo
-    c.method-rec.ensures.links c.types_are_ordered.ensures.same c.find.new.homes.keys is c.counted.result c.counted.ensures.homes)
+    record {
+      homes =
+          rw there
+          (answered-homes w m c.args.typing.now typed c.in-Ok.control flow (c.instructions_are_placed.ensures m typed.least.typing.formed)
+          (c.instructions_are_listed.ensures code) mo
+          c.method-rec.ensures.links c.types_are_ordered.ensures.same c.find.new.homes.keys is c.counted.result c.counted.ensures.homes);
+      end =
+          rw there
+          (answered-end w m c.args.typing.now typed c.in-Ok.control flow (c.instructions_are_placed.ensures m typed.least.typing.formed)
+          (c.instructions_are_listed.ensures code) mo
+          c.method-rec.ensures.links c.types_are_ordered.ensures.same c.find.new.homes.keys is c.counted.result c.counted.ensures.end);
+    }
 
-pub returns-clause-end : goal.returns-clause-end
-returns-clause-end c =
+pub find-requires : goal.find-requires
+find-requires c =
     let w = c.args.world.now in
     let n = c.args.method in
     let rec = c.method-rec.result.now in
-    let code = c.of.result.bytes.now in
-    let m : Method = record { number = n; rec = rec; code = code } in
-    let bytes : option_map (code_of w.infos) (slice_get w.methods n) ≡ Some code = cc in
-    let mo : IsMethodOf w m = of-method w n rec code c.method-rec.ensures.is bytes (IsMethodOf w) c.in-Ok.ensures.known in
-    let typed : IsTypingOf w m c.args.typing.now = of-method w n rec code c.method-rec.ensures.is bytes (λ m. IsTypingOf w m c.args.typing.now)
-    c.requires.typing in
-    let flow : IsControlFlow m c.in-Ok.control = of-method w n rec code c.method-rec.ensures.is bytes (λ m. IsControlFlow m c.in-Ok.control)
-    c.in-Ok.ensures.formed in
-    let is : c.find.new.homes.keys ≡ with_events (argument_homes rec) (code_events w m (state_at c.args.typing.now) c.in-Ok.control.leaders) =
-    c.in_ok-find.ensures ∙ ap (λ hs. with_events hs (code_events w m (state_at c.args.typing.now) c.in-Ok.control.leaders)) c.in_ok-homes.ensures in
-    to-method w n rec code c.method-rec.ensures.is bytes _
-    (answered-end w m c.args.typing.now typed c.in-Ok.control flow (c.instructions_are_placed.ensures m typed.least.typing.formed)
-    (c.instructions_are_listed.ensures code) mo
-    c.method-rec.ensures.links c.types_are_ordered.ensures.same c.find.new.homes.keys is c.counted.result c.counted.ensures.end)
-
-pub find-requires-clause-method : goal.find-requires-clause-method
-find-requires-clause-method c =
-    let w = c.args.world.now in
-    let bytes : option_map (code_of w.infos) (slice_get w.methods c.args.method) ≡ Some c.of.result.bytes.now = cc in
-    of-method w c.args.method c.method-rec.result.now c.of.result.bytes.now c.method-rec.ensures.is bytes (IsMethodOf w) c.in-Ok.ensures.known
-
-pub find-requires-clause-short : goal.find-requires-clause-short
-find-requires-clause-short c =
-    let w = c.args.world.now in
-    let bytes : option_map (code_of w.infos) (slice_get w.methods c.args.method) ≡ Some c.of.result.bytes.now = cc in
-    let m : Method = record { number = c.args.method; rec = c.method-rec.result.now; code = c.of.result.bytes.now } in
-    let short = code-short w m (of-method w c.args.method c.method-rec.result.now c.of.result.bytes.now c.method-rec.ensures.is bytes (IsMethodOf w)
-    c.in-Ok.ensures.known) c.method-rec.ensures.links in
-    omega (arith, short)
+    let m : Method = record { number = n; rec = rec; code = c.of.result.bytes.now } in
+    let bytes : option_map (code_of w.infos) (slice_get w.methods n) ≡ Some c.of.result.bytes.now = cc in
+    let mo : IsMethodOf w m = rw (method-is w n rec c.of.result.bytes.now c.method-rec.ensures.is bytes) at c.in-Ok.ensures.known in
+    let short = code-short w m mo c.method-rec.ensures.links in
+    record { method = mo; short = omega (arith, short) }
