@@ -10,6 +10,8 @@ use crate::search::led_to;
 use std::alloc::{AllocError, Global};
 
 /// The least vertex below a number that is `from` or is led to by it, and leads to itself.
+///
+/// The ranks that are hints only make it fast: best no edge raises them, and one that does not lower them is on a cycle.
 pub fn least_recurring(
     alloc: Global,
     graph: &Digraph,
@@ -22,29 +24,12 @@ pub fn least_recurring(
         ((v : ℕ) → v < bound → ¬ (Recurs (Edge graph.now) from v)) (IsLeastRecurring (Edge graph.now) from bound)) }
 {
     let hints = look_over(alloc, graph)?;
-    least_ranked(alloc, graph, from, bound, &hints.ranks)
-}
-
-/// The same. The `ranks` only make it fast: best no edge raises them, and one that does not lower them is on a cycle.
-fn least_ranked(
-    alloc: Global,
-    graph: &Digraph,
-    from: u32,
-    bound: u32,
-    ranks: &[u32],
-) -> Result<Option<u32>, AllocError>
-    requires from { from < length graph.now }
-    requires bound { bound ≤ length graph.now }
-    ensures { IfOk result (λ answer. MatchOption answer
-        ((v : ℕ) → v < bound → ¬ (Recurs (Edge graph.now) from v)) (IsLeastRecurring (Edge graph.now) from bound)) }
-{
+    let ranks = hints.ranks.as_slice();
     let reached = led_to(alloc, graph, from)?;
     let ranked = are_ranks(graph, ranks);
     'vertices: for v in 0..bound {
-        match recurs(alloc, graph, from, &reached, ranks, ranked, v) {
-            Err(error) => return Err(error),
-            Ok(true) => return Ok(Some(v)),
-            Ok(false) => {}
+        if recurs(alloc, graph, from, &reached, ranks, ranked, v)? {
+            return Ok(Some(v));
         }
     }
     Ok(None)

@@ -68,10 +68,7 @@ impl Walk {
 
     /// When a vertex was opened, counted from 1.
     fn opened_at(&self, v: u32) -> u32 {
-        match self.opened.get(v as usize) {
-            Some(n) => *n,
-            None => 0,
-        }
+        self.opened.get(v as usize).copied().unwrap_or(0)
     }
 
     /// Opens a vertex.
@@ -96,18 +93,14 @@ impl Walk {
         if open.vertex >= graph.len() {
             return Ok(());
         }
-        match graph.row(open.vertex).get(open.followed as usize) {
-            None => self.close(open),
-            Some(to) => {
-                let to = *to;
-                self.path.push(Open {
-                    vertex: open.vertex,
-                    opened: open.opened,
-                    followed: open.followed.wrapping_add(1),
-                })?;
-                self.meet(to)
-            }
-        }
+        let Some(to) = graph.row(open.vertex).get(open.followed as usize).copied() else {
+            return self.close(open);
+        };
+        self.path.push(Open {
+            followed: open.followed.wrapping_add(1),
+            ..open
+        })?;
+        self.meet(to)
     }
 
     /// Opens the vertex at the end of an edge; one that is open, or leads to one, joins all groups from its own on.
@@ -130,26 +123,18 @@ impl Walk {
 
     /// Whether a vertex has a rank.
     fn has_rank(&self, v: u32) -> bool {
-        match self.hints.ranks.get(v as usize) {
-            Some(rank) => *rank != u32::MAX,
-            None => true,
-        }
+        self.hints.ranks.get(v as usize).copied().unwrap_or(0) != u32::MAX
     }
 
     /// Closes a vertex. Where a group begins with it, all without a rank from it on are one.
     fn close(&mut self, open: Open) -> Result<(), AllocError> {
         self.hints.order.push(open.vertex)?;
         match self.starts.pop() {
-            None => Ok(()),
-            Some(start) if start != open.opened => {
-                self.starts.push(start)?;
-                Ok(())
-            }
-            Some(_) => {
-                self.rank(open.vertex);
-                Ok(())
-            }
+            Some(start) if start == open.opened => self.rank(open.vertex),
+            Some(start) => self.starts.push(start)?,
+            None => {}
         }
+        Ok(())
     }
 
     /// Ranks the vertices that were opened last, down to this one.

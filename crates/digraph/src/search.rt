@@ -13,9 +13,7 @@ pub fn led_to(alloc: Global, graph: &Digraph, from: u32) -> Result<Vec<bool>, Al
     let mut marks = vec![in alloc; false; graph.len() as usize]?;
     let mut pending = vec![in alloc; from]?;
     'work: while let Some(v) = pending.pop() {
-        if let Err(error) = mark_all(&mut marks, &mut pending, graph.row(v)) {
-            return Err(error);
-        }
+        mark_all(&mut marks, &mut pending, graph.row(v))?;
     }
     Ok(marks)
 }
@@ -26,9 +24,7 @@ fn mark_all(marks: &mut Vec<bool>, pending: &mut Vec<u32>, row: &[u32]) -> Resul
     ensures { OnOk result (Marks row.now marks.old.items pending.old.items marks.new.items pending.new.items) }
 {
     'row: for v in row {
-        if let Err(error) = mark(marks, pending, *v) {
-            return Err(error);
-        }
+        mark(marks, pending, *v)?;
     }
     Ok(())
 }

@@ -1,4 +1,4 @@
-ghost use Rattle.std.specs.Prelude.{◌≡◌, ◌<◌, ◌≤◌, ◌^◌, length, sum, IfOk, IfSome, MatchOption, All, max};
+ghost use Rattle.std.specs.Prelude.{◌≡◌, ◌<◌, ◌≤◌, ◌^◌, length, sum, IfOk, IfSome, MatchOption, All};
 ghost use Rattle.digraph.specs.Graph.{next};
 ghost use Rattle.digraph.specs.Settled.{IsTable, IsSumFrom, IsMostOf, HasUnknown, Settles, known_at};
 
@@ -8,6 +8,8 @@ use std::alloc::{AllocError, Global};
 
 /// The greatest sum of the weights of the vertices of a way from a vertex; none exactly where a way from it comes to a
 /// vertex again.
+///
+/// The order that is a hint only makes it fast: best are first those to which others lead.
 pub fn greatest(
     alloc: Global,
     graph: &Digraph,
@@ -21,25 +23,8 @@ pub fn greatest(
     ensures most { IfOk result (λ answer. IfSome answer (λ b. b ≤ sum weights.now)) }
 {
     let hints = look_over(alloc, graph)?;
-    greatest_along(alloc, graph, weights, from, &hints.order)
-}
-
-/// The same. The `order` only makes it fast: best are first those to which others lead.
-fn greatest_along(
-    alloc: Global,
-    graph: &Digraph,
-    weights: &[u32],
-    from: u32,
-    order: &[u32],
-) -> Result<Option<u32>, AllocError>
-    requires from { from < length graph.now }
-    requires weights { length weights.now ≡ length graph.now }
-    requires small { sum weights.now < 2 ^ 32 }
-    ensures answer { IfOk result (IsSumFrom graph.now weights.now from) }
-    ensures most { IfOk result (λ answer. IfSome answer (λ b. b ≤ sum weights.now)) }
-{
     let mut known = vec![in alloc; None; graph.len() as usize]?;
-    along(graph, weights, &mut known, order);
+    along(graph, weights, &mut known, &hints.order);
     'passes: while known[from as usize].is_none() {
         if !settle_one(graph, weights, &mut known) {
             return Ok(None);
@@ -100,14 +85,12 @@ fn settle(graph: &Digraph, weights: &[u32], known: &mut Vec<Option<u32>>, v: u32
     if known[v as usize].is_some() {
         return false;
     }
-    match most_of(known, graph.row(v)) {
-        None => false,
-        Some(best) => {
-            let sum = weights[v as usize] + best;
-            known[v as usize] = Some(sum);
-            true
-        }
-    }
+    let Some(best) = most_of(known, graph.row(v)) else {
+        return false;
+    };
+    let sum = weights[v as usize] + best;
+    known[v as usize] = Some(sum);
+    true
 }
 
 /// The greatest of the sums that are known of these vertices; none where one is not.
@@ -115,19 +98,12 @@ fn most_of(known: &Vec<Option<u32>>, row: &[u32]) -> Option<u32>
     requires { All (λ v. v < length known.now.items) row.now }
     ensures { MatchOption result (HasUnknown known.now.items row.now) (IsMostOf known.now.items row.now) }
 {
-    let mut best = 0;
+    let mut best = 0u32;
     'row: for v in row {
         match known[*v as usize] {
             None => return None,
-            Some(sum) => best = greater(best, sum),
+            Some(sum) => best = best.max(sum),
         }
     }
     Some(best)
-}
-
-/// The greater of two numbers.
-fn greater(a: u32, b: u32) -> u32
-    ensures { result ≡ max a b }
-{
-    if a < b { b } else { a }
 }

@@ -3,7 +3,7 @@ ghost use Rattle.jc_decode.specs.Layout.{operand_width};
 ghost use Rattle.std.specs.List.{range_with_len};
 ghost use Rattle.std.specs.Int.{w16};
 ghost use Rattle.jc_decode.specs.Decoding.{decoded, pair_width, range_count};
-ghost use Rattle.jc_decode.specs.Cases.{offset_at, cases, range_case, pair_case, HasTable, is_switch, is_from_115};
+ghost use Rattle.jc_decode.specs.Cases.{offset_at, cases, range_case, pair_case, HasTable, is_switch};
 ghost use Rattle.jc_decode.specs.Listing.{falls, is_branch, jumps, target, targets};
 
 use crate::insn::{Case, Insn, Placed};
@@ -19,10 +19,11 @@ impl Insn {
     }
 
     /// Whether this is a switch.
+    #[tactic(auto, using(crate::proofs::Switches::switch_facts))]
     pub fn is_switch(self) -> bool
         ensures { result ≡ is_switch self.op }
     {
-        is_switch_opcode(self.op)
+        115 <= self.op && self.op <= 118
     }
 
     /// Whether this names places to go to.
@@ -40,19 +41,6 @@ impl Insn {
     }
 }
 
-#[tactic(auto, using(crate::proofs::Switches::switch_facts))]
-fn is_switch_opcode(op: u8) -> bool
-    ensures { result ≡ is_switch op }
-{
-    is_from_115(op)
-}
-
-fn is_from_115(op: u8) -> bool
-    ensures { result ≡ is_from_115 op }
-{
-    115 <= op && op <= 118
-}
-
 /// The n-th case of the switch `insn` at a place, by the table's order: none where there are not more
 /// than n cases or `insn` is no switch. The default's offset may differ from the one in the code.
 #[tactic(auto, unfolding(crate::specs::Cases::cases))]
@@ -61,9 +49,8 @@ pub fn case(code: View, at: u16, insn: Insn, n: u32) -> Option<Case>
     requires table { HasTable code.bytes.now at insn }
     ensures { result ≡ slice_get (cases code.entry.bytes.now at insn) n }
 {
-    let layout = match Layout::of(insn.op) {
-        Ok(layout) => layout,
-        Err(_) => return None,
+    let Ok(layout) = Layout::of(insn.op) else {
+        return None;
     };
     let table = u32::from(at) + 1 + layout.width();
     match layout.cases {
@@ -111,10 +98,7 @@ pub(crate) fn pair_case(code: View, table: u32, key: Operand, n: u32) -> Case
 fn offset(code: View, at: u32) -> i16
     ensures { result ≡ offset_at code.entry.bytes.now at }
 {
-    match code.u2(at) {
-        Some(offset) => offset.cast_signed(),
-        None => 0,
-    }
+    code.u2(at).unwrap_or(0).cast_signed()
 }
 
 /// The n-th place that an instruction may jump to, as a distance from the code's first byte: a
@@ -134,10 +118,8 @@ pub fn target(code: View, placed: Placed, n: u32) -> Option<i32>
     if n == 0 {
         return Some(hop(placed.place, insn.x));
     }
-    match case(code, placed.place, insn, n - 1) {
-        Some(case) => Some(hop(placed.place, i32::from(case.offset))),
-        None => None,
-    }
+    let case = case(code, placed.place, insn, n - 1)?;
+    Some(hop(placed.place, i32::from(case.offset)))
 }
 
 /// The place so far from another.

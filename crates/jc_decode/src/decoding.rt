@@ -1,8 +1,8 @@
-ghost use Rattle.std.specs.Prelude.{◌≤ℤ◌, IsTrue, ◌≡◌, ◌+◌, ◌*◌, ◌^◌, ◌<◌, ◌≤◌, ◌-◌, length, IfOk, IfErr, Ok, Err, pos, if◌then◌else◌};
+ghost use Rattle.std.specs.Prelude.{◌≤ℤ◌, IsTrue, ◌≡◌, ◌+◌, ◌*◌, ◌^◌, ◌<◌, ◌≤◌, ◌-◌, length, IfOk, IfErr, Ok, Err};
 ghost use Rattle.cap_bytes.specs.Number.{number_at};
 ghost use Rattle.jc_decode.specs.Layout.{layout_of, one, operand_width};
 ghost use Rattle.cap_bytes.specs.Bytes.{AreBytes};
-ghost use Rattle.jc_decode.specs.Decoding.{is_dup_words, is_swap_words, is_array_type, is_tested_type, or_cut, within_bytes, bad_operand, operand_at, pair_width, key_at, rises, pairs_end, table_end, decoded, decoded_as, decoded_by, is_tested, with_operands_or, Begins, FitsLayout, FitsOperand, IsWithin};
+ghost use Rattle.jc_decode.specs.Decoding.{allows, or_cut, within_bytes, bad_operand, operand_at, pair_width, key_at, rises, pairs_end, table_end, decoded, decoded_as, decoded_by, is_tested, with_operands_or, Begins, FitsLayout, FitsOperand, IsWithin};
 ghost use Rattle.jc_decode.specs.Cases.{cases, is_table_switch, KeysRise};
 ghost use Rattle.jc_decode.specs.Refusal.{RefusesBytes};
 ghost use Rattle.jc_decode.specs.Encoding.{IsAllowed};
@@ -43,10 +43,7 @@ fn insn_at(code: View, at: u32) -> Result<Insn, CodeEnd>
     ensures { result ≡ decoded code.entry.bytes.now at }
 {
     let op = u1(code, at)?;
-    match operands(code, at, op) {
-        Ok(operands) => Ok(operands.of_opcode(op)),
-        Err(end) => Err(end),
-    }
+    Ok(operands(code, at, op)?.of_opcode(op))
 }
 
 /// The operands of an opcode at a place.
@@ -109,30 +106,14 @@ fn with_more(code: View, at: u32, op: u8) -> Result<Operands, CodeEnd>
 fn u1(code: View, at: u32) -> Result<u8, CodeEnd>
     ensures { result ≡ or_cut (number_at 1 at code.entry.bytes.now) }
 {
-    match code.u1(at) {
-        Some(byte) => Ok(byte),
-        None => Err(CodeEnd::Cut),
-    }
+    code.u1(at).ok_or(CodeEnd::Cut)
 }
 
 #[inline(always)]
 fn u2(code: View, at: u32) -> Result<u16, CodeEnd>
     ensures { result ≡ or_cut (number_at 2 at code.entry.bytes.now) }
 {
-    match code.u2(at) {
-        Some(number) => Ok(number),
-        None => Err(CodeEnd::Cut),
-    }
-}
-
-#[inline(always)]
-fn u4(code: View, at: u32) -> Result<u32, CodeEnd>
-    ensures { result ≡ or_cut (number_at 4 at code.entry.bytes.now) }
-{
-    match code.u4(at) {
-        Some(number) => Ok(number),
-        None => Err(CodeEnd::Cut),
-    }
+    code.u2(at).ok_or(CodeEnd::Cut)
 }
 
 /// The place, if the code reaches to it.
@@ -154,46 +135,7 @@ pub(crate) fn reach(code: View, end: u64) -> Result<u32, CodeEnd>
 fn refusal(code: View, at: u32) -> CodeEnd
     ensures { result ≡ bad_operand code.entry.bytes.now at }
 {
-    match code.u1(at) {
-        Some(byte) => CodeEnd::BadOperand(byte),
-        None => CodeEnd::Cut,
-    }
-}
-
-fn allows_dup_x(byte: u8) -> bool
-    ensures { result ≡ is_dup_words byte }
-{
-    let (m, n) = (byte / 16, byte % 16);
-    1 <= m && m <= 4 && (n == 0 || m <= n && n <= m + 4)
-}
-
-fn allows_swap_x(byte: u8) -> bool
-    ensures { result ≡ is_swap_words byte }
-{
-    let (m, n) = (byte / 16, byte % 16);
-    1 <= m && m <= 2 && 1 <= n && n <= 2
-}
-
-fn allows_array(byte: u8) -> bool
-    ensures { result ≡ is_array_type byte }
-{
-    10 <= byte && byte <= 13
-}
-
-fn allows_type(byte: u8) -> bool
-    ensures { result ≡ is_tested_type byte }
-{
-    byte == 0 || 10 <= byte && byte <= 14
-}
-
-fn allowed(byte: u8, is_allowed: bool) -> Result<i32, CodeEnd>
-    ensures { result ≡ (if is_allowed then Ok (pos byte) else Err (CodeEnd.BadOperand byte)) }
-{
-    if is_allowed {
-        Ok(i32::from(byte))
-    } else {
-        Err(CodeEnd::BadOperand(byte))
-    }
+    code.u1(at).map_or(CodeEnd::Cut, CodeEnd::BadOperand)
 }
 
 impl Operand {
@@ -233,23 +175,29 @@ impl Operand {
             Operand::U2 => Ok(i32::from(u2(code, at)?)),
             Operand::S1 => Ok(i32::from(u1(code, at)?.cast_signed())),
             Operand::S2 => Ok(i32::from(u2(code, at)?.cast_signed())),
-            Operand::S4 => Ok(u4(code, at)?.cast_signed()),
-            Operand::DupWords => {
+            Operand::S4 => Ok(code.u4(at).ok_or(CodeEnd::Cut)?.cast_signed()),
+            Operand::DupWords | Operand::SwapWords | Operand::ArrayType | Operand::TestedType => {
                 let byte = u1(code, at)?;
-                allowed(byte, allows_dup_x(byte))
+                if self.allows(byte) {
+                    Ok(i32::from(byte))
+                } else {
+                    Err(CodeEnd::BadOperand(byte))
+                }
             }
-            Operand::SwapWords => {
-                let byte = u1(code, at)?;
-                allowed(byte, allows_swap_x(byte))
-            }
-            Operand::ArrayType => {
-                let byte = u1(code, at)?;
-                allowed(byte, allows_array(byte))
-            }
-            Operand::TestedType => {
-                let byte = u1(code, at)?;
-                allowed(byte, allows_type(byte))
-            }
+        }
+    }
+
+    /// Whether this may be the byte of the operand.
+    fn allows(self, byte: u8) -> bool
+        ensures { result ≡ allows self byte }
+    {
+        let (m, n) = (byte / 16, byte % 16);
+        match self {
+            Operand::DupWords => 1 <= m && m <= 4 && (n == 0 || m <= n && n <= m + 4),
+            Operand::SwapWords => 1 <= m && m <= 2 && 1 <= n && n <= 2,
+            Operand::ArrayType => 10 <= byte && byte <= 13,
+            Operand::TestedType => byte == 0 || 10 <= byte && byte <= 14,
+            _ => true,
         }
     }
 
@@ -258,10 +206,7 @@ impl Operand {
         requires { table + pair_width self * n < 2 ^ 32 }
         ensures { result ≡ key_at self code.entry.bytes.now table n }
     {
-        match self.read(code, table + (self.width() + 2) * n) {
-            Ok(key) => key,
-            Err(_) => 0,
-        }
+        self.read(code, table + (self.width() + 2) * n).unwrap_or(0)
     }
 
     /// Whether the n-th key of a table of pairs is above the one before it.
@@ -305,9 +250,8 @@ fn end_of_pairs(key: Operand, code: View, table: u32, count: u32) -> Result<u32,
     let width = key.width() + 2;
     let end = reach(code, u64::from(table) + u64::from(width) * u64::from(count))?;
     'pairs: for n in 1..count {
-        let place = table + width * n;
         if !key.is_risen(code, table, n) {
-            return Err(refusal(code, place));
+            return Err(refusal(code, table + width * n));
         }
     }
     Ok(end)

@@ -42,9 +42,8 @@ fn append(insn: Insn, code: View, at: u16, to: &mut Vec<u8>) -> Result<(), Alloc
     ensures appended { OnOk result (to.new.items ≡ to.old.items ++ encoding code.entry.bytes.now at insn) }
     ensures begun { OnErr result (take (length to.old.items) to.new.items ≡ to.old.items) }
 {
-    let layout = match Layout::of(insn.op) {
-        Ok(layout) => layout,
-        Err(_) => return Ok(()),
+    let Ok(layout) = Layout::of(insn.op) else {
+        return Ok(());
     };
     append_head(layout, insn, to)?;
     append_table(layout, insn, code, at, to)

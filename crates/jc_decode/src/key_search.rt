@@ -20,9 +20,8 @@ pub fn case_of_key(code: View, at: u16, insn: Insn, key: i32) -> Option<Case>
     ensures { result ≡ find (has_key key) (cases code.entry.bytes.now at insn) }
 {
     are_bytes(code.bytes);
-    let layout = match Layout::of(insn.op) {
-        Ok(layout) => layout,
-        Err(_) => return None,
+    let Ok(layout) = Layout::of(insn.op) else {
+        return None;
     };
     let table = u32::from(at) + 1 + layout.width();
     match layout.cases {

@@ -8,7 +8,7 @@ ghost use Rattle.jc_decode.specs.Untested.{untested_operand, untested_end, untes
 
 use crate::decoding::reach;
 use crate::insn::{Insn, Operands};
-use crate::layout::{Cases, Layout, Operand};
+use crate::layout::{Cases, Layout, NO_OPERANDS, Operand};
 use crate::reading::Reading;
 use cap_bytes::View;
 
@@ -39,15 +39,7 @@ fn insn_known(code: View, at: u32) -> Insn
 fn layout_known(op: u8) -> Layout
     ensures { result ≡ known_layout (layout_of op) }
 {
-    match Layout::of(op) {
-        Ok(layout) => layout,
-        Err(_) => Layout {
-            x: Operand::Absent,
-            y: Operand::Absent,
-            z: Operand::Absent,
-            cases: Cases::Absent,
-        },
-    }
+    Layout::of(op).unwrap_or(NO_OPERANDS)
 }
 
 #[inline(always)]
@@ -128,10 +120,7 @@ fn reached(code: View, table: u32, end: u64) -> u32
     ensures value { result ≡ result_unwrap_or (within_bytes code.entry.bytes.now end) table }
     ensures after { table ≤ result }
 {
-    match reach(code, end) {
-        Ok(end) => end,
-        Err(_) => table,
-    }
+    reach(code, end).unwrap_or(table)
 }
 
 impl Operand {
@@ -164,7 +153,7 @@ impl Operand {
             Operand::U2 => i32::from(two(code, at)),
             Operand::S1 => i32::from(byte(code, at).cast_signed()),
             Operand::S2 => i32::from(two(code, at).cast_signed()),
-            Operand::S4 => four(code, at).cast_signed(),
+            Operand::S4 => code.u4(at).unwrap_or(0).cast_signed(),
             Operand::U1
             | Operand::DupWords
             | Operand::SwapWords
@@ -179,10 +168,7 @@ impl Operand {
 fn byte(code: View, at: u32) -> u8
     ensures { result ≡ unwrap_or (number_at 1 at code.entry.bytes.now) 0 }
 {
-    match code.u1(at) {
-        Some(byte) => byte,
-        None => 0,
-    }
+    code.u1(at).unwrap_or(0)
 }
 
 /// The number of two bytes at a place, or 0 where they do not reach.
@@ -190,19 +176,5 @@ fn byte(code: View, at: u32) -> u8
 fn two(code: View, at: u32) -> u16
     ensures { result ≡ unwrap_or (number_at 2 at code.entry.bytes.now) 0 }
 {
-    match code.u2(at) {
-        Some(number) => number,
-        None => 0,
-    }
-}
-
-/// The number of four bytes at a place, or 0 where they do not reach.
-#[inline(always)]
-fn four(code: View, at: u32) -> u32
-    ensures { result ≡ unwrap_or (number_at 4 at code.entry.bytes.now) 0 }
-{
-    match code.u4(at) {
-        Some(number) => number,
-        None => 0,
-    }
+    code.u2(at).unwrap_or(0)
 }

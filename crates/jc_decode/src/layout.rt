@@ -116,60 +116,50 @@ const RESERVED: Opcode = Opcode::Reserved;
 
 const UNUSED: Opcode = Opcode::Unused;
 
-const PLAIN: Opcode = Opcode::Instruction(Layout {
+pub(crate) const NO_OPERANDS: Layout = Layout {
     x: Absent,
     y: Absent,
     z: Absent,
     cases: Cases::Absent,
-});
+};
+
+const PLAIN: Opcode = Opcode::Instruction(NO_OPERANDS);
 
 const U1: Opcode = Opcode::Instruction(Layout {
     x: Operand::U1,
-    y: Absent,
-    z: Absent,
-    cases: Cases::Absent,
+    ..NO_OPERANDS
 });
 
 const U2: Opcode = Opcode::Instruction(Layout {
     x: Operand::U2,
-    y: Absent,
-    z: Absent,
-    cases: Cases::Absent,
+    ..NO_OPERANDS
 });
 
 const S1: Opcode = Opcode::Instruction(Layout {
     x: Operand::S1,
-    y: Absent,
-    z: Absent,
-    cases: Cases::Absent,
+    ..NO_OPERANDS
 });
 
 const S2: Opcode = Opcode::Instruction(Layout {
     x: Operand::S2,
-    y: Absent,
-    z: Absent,
-    cases: Cases::Absent,
+    ..NO_OPERANDS
 });
 
 const S4: Opcode = Opcode::Instruction(Layout {
     x: Operand::S4,
-    y: Absent,
-    z: Absent,
-    cases: Cases::Absent,
+    ..NO_OPERANDS
 });
 
 const U1_S1: Opcode = Opcode::Instruction(Layout {
     x: Operand::U1,
     y: Operand::S1,
-    z: Absent,
-    cases: Cases::Absent,
+    ..NO_OPERANDS
 });
 
 const U1_S2: Opcode = Opcode::Instruction(Layout {
     x: Operand::U1,
     y: Operand::S2,
-    z: Absent,
-    cases: Cases::Absent,
+    ..NO_OPERANDS
 });
 
 const U1_U2_U1: Opcode = Opcode::Instruction(Layout {
@@ -181,30 +171,23 @@ const U1_U2_U1: Opcode = Opcode::Instruction(Layout {
 
 const DUP_X: Opcode = Opcode::Instruction(Layout {
     x: DupWords,
-    y: Absent,
-    z: Absent,
-    cases: Cases::Absent,
+    ..NO_OPERANDS
 });
 
 const SWAP_X: Opcode = Opcode::Instruction(Layout {
     x: SwapWords,
-    y: Absent,
-    z: Absent,
-    cases: Cases::Absent,
+    ..NO_OPERANDS
 });
 
 const ARRAY: Opcode = Opcode::Instruction(Layout {
     x: ArrayType,
-    y: Absent,
-    z: Absent,
-    cases: Cases::Absent,
+    ..NO_OPERANDS
 });
 
 const TYPE_U2: Opcode = Opcode::Instruction(Layout {
     x: TestedType,
     y: Operand::U2,
-    z: Absent,
-    cases: Cases::Absent,
+    ..NO_OPERANDS
 });
 
 const TABLE_SHORT: Opcode = Opcode::Instruction(Layout {

@@ -2,7 +2,7 @@ ghost use Rattle.std.specs.Prelude.{◌≡◌, ◌<◌, ◌+◌, ℕ, List, Ok, 
 ghost use Rattle.cap_bytes.specs.Number.{number_at};
 ghost use Rattle.jc_decode.specs.Decoding.{decoded};
 ghost use Rattle.jc_decode.specs.Encoding.{IsAllowed};
-ghost use Rattle.jc_decode.specs.PoolIndex.{pool_index, first_index, second_index, bytes_of_index, has_short_index, has_index, has_second_index};
+ghost use Rattle.jc_decode.specs.PoolIndex.{pool_index, bytes_of_index, has_short_index, has_index, has_second_index};
 
 use crate::insn::Insn;
 
@@ -42,38 +42,26 @@ impl Insn {
         ensures { result ≡ pool_index self }
     {
         if has_short_index(self.op) {
-            Some(first_index(self.x, IndexWidth::One))
+            Some(index(1, IndexWidth::One, self.x))
         } else if has_index(self.op) {
-            Some(first_index(self.x, IndexWidth::Two))
+            Some(index(1, IndexWidth::Two, self.x))
         } else if has_second_index(self) {
-            Some(second_index(self.y))
+            Some(index(2, IndexWidth::Two, self.y))
         } else {
             None
         }
     }
 }
 
-/// The index that is the first operand.
-fn first_index(x: i32, width: IndexWidth) -> PoolIndex
-    requires { unsigned_abs x < 65536 }
-    ensures { result ≡ first_index x width }
+/// The index that is an operand at a distance from the opcode.
+fn index(at: u8, width: IndexWidth, operand: i32) -> PoolIndex
+    requires { unsigned_abs operand < 65536 }
+    ensures { result ≡ record { at = at; width = width; entry = unsigned_abs operand } }
 {
     PoolIndex {
-        at: 1,
+        at,
         width,
-        entry: x.unsigned_abs() as u16,
-    }
-}
-
-/// The index that is the second operand, after one of one byte.
-fn second_index(y: i32) -> PoolIndex
-    requires { unsigned_abs y < 65536 }
-    ensures { result ≡ second_index y }
-{
-    PoolIndex {
-        at: 2,
-        width: IndexWidth::Two,
-        entry: y.unsigned_abs() as u16,
+        entry: operand.unsigned_abs() as u16,
     }
 }
 

@@ -138,16 +138,9 @@ fn static_callee(world: &World<'_>, package: u16, pool: u16) -> Result<Callee, R
     requires { «package» < length world.now.infos }
     ensures { result ≡ static_callee world.now pool (member_at world.now «package» pool) }
 {
-    match member(world, package, pool) {
-        Some(Member::StaticCall { method: number }) => static_method(world, pool, number),
-        _ => Err(RuleFault::BadMember(pool)),
-    }
-}
-
-fn static_method(world: &World<'_>, pool: u16, number: u16) -> Result<Callee, RuleFault>
-    requires { number < length world.now.methods }
-    ensures { result ≡ static_callee world.now pool (Some (StaticCall number)) }
-{
+    let Some(Member::StaticCall { method: number }) = member(world, package, pool) else {
+        return Err(RuleFault::BadMember(pool));
+    };
     let method = world.method(number);
     if !method.is_static || method.is_init || lacks_code(world, method) {
         return Err(RuleFault::BadMember(pool));

@@ -1,7 +1,7 @@
 ghost use Rattle.std.specs.Prelude.{◌≡◌, ◌<◌, length, IfSome};
 ghost use Rattle.jc_base.specs.declared.ty.Ty.TheVariants.{Class, ArrRef};
 ghost use Rattle.jc_base.specs.World.{member_at};
-ghost use Rattle.jc_ops.specs.Resolve.{byte_of, short_of, same_kind, static_field, instance_field, class_type, array_of, tested_type, returns, returned, result_type, result_returned};
+ghost use Rattle.jc_ops.specs.Resolve.{byte_of, short_of, same_kind, static_field, instance_field, class_type, array_of, tested_type, returns, returned, result_returned};
 ghost use Rattle.jc_ops.specs.Sound.{IsKnownMember};
 
 use crate::fault::RuleFault;
@@ -194,16 +194,7 @@ pub(crate) fn result_returned(
     } else {
         Err(RuleFault::Mismatch {
             found: returned(world, sort),
-            wanted: result_type(declared),
+            wanted: declared.unwrap_or(Ty::Bottom),
         })
-    }
-}
-
-fn result_type(declared: Option<Ty>) -> Ty
-    ensures { result ≡ result_type declared }
-{
-    match declared {
-        None => Ty::Bottom,
-        Some(ty) => ty,
     }
 }

@@ -1,7 +1,7 @@
 -- What an instruction asks of the frame before it changes anything (JCVM 2.2, section 7.5; Leroy 2002,
 -- section 2.2), and the first thing that is missing.
 use Rattle.std.specs.Prelude.{◌≡◌, ℕ, ◌+◌, ◌-◌, ◌≤◌, ◌⊎◌, ⊤, Bool, true, false, not, ◌&&◌, ◌||◌}
-use Rattle.std.specs.Prelude.{◌==◌, nat_le, MatchBool, List, [], ◌∷◌, length, reverse, All, Option, Some, None, IsSomeAnd, Result}
+use Rattle.std.specs.Prelude.{◌==◌, nat_le, MatchBool, MatchResult, List, [], ◌∷◌, length, reverse, All, Option, Some, None, IsSomeAnd, Result}
 use Rattle.std.specs.Prelude.{Ok, Err, slice_get}
 use Rattle.jc_base.specs.declared.ty.Ty.{Ty}
 use Rattle.jc_base.specs.declared.ty.Ty.TheVariants.{Bottom, IntHigh, IntLow, Null, Class, ArrBool, ArrByte, ArrShort, ArrInt, ArrRef}
@@ -177,7 +177,11 @@ pub record AreDecided (t : ClassTable) : Type 0 where
   pub want : (want : Want) (found : Ty) → MatchBool (meets t want found) (Meets t want found) (¬ (Meets t want found))
   pub demand : (f : Frame) (d : Demand) → MatchBool (satisfies t f d) (Satisfies t f d) (¬ (Satisfies t f d))
 
--- what a check of demands answers: the effect where each is met, and else the fault of the first that is not
+-- what a check of demands answers: whether each is met, and else the fault of the first that is not
+abbrev pub IsChecked : {X : Type 0} → ClassTable → Frame → List Demand → Result X RuleFault → Type 0
+IsChecked t f ds r = MatchResult r (λ _. SatisfiesAll t f ds) (IsFirstUnmet t f ds)
+
+-- what comes of it: the effect where each is met
 abbrev pub IsJudged : ClassTable → Frame → List Demand → Effect → Result Effect RuleFault → Type 0
 IsJudged t f ds effect (Ok e) = SatisfiesAll t f ds × (e ≡ effect)
 IsJudged t f ds effect (Err fault) = IsFirstUnmet t f ds fault

@@ -1,6 +1,6 @@
-ghost use Rattle.std.specs.Prelude.{◌≡◌, ◌+◌, ◌≤◌, length, reverse, MatchResult, IfSome, All};
+ghost use Rattle.std.specs.Prelude.{◌≡◌, ◌+◌, ◌≤◌, length, reverse, IfSome, All};
 ghost use Rattle.jc_base.specs.Order.{IsKnown};
-ghost use Rattle.jc_rules.specs.Demand.{AreKnown, SatisfiesAll, IsFirstUnmet, frame, IsJudged};
+ghost use Rattle.jc_rules.specs.Demand.{AreKnown, frame, IsChecked, IsJudged};
 ghost use Rattle.jc_ops.specs.Sound.{IsKnownWant, receiver_count};
 ghost use Rattle.jc_rules.specs.Rule.{cells_wanted, call_demands, call_effect, ready_with, result_given};
 
@@ -31,10 +31,7 @@ fn ready_with(taken: u8, given: Cells, found: Ty, want: Want) -> Change
 fn result_given(ty: Option<Ty>) -> Cells
     ensures { result ≡ result_given ty }
 {
-    match ty {
-        None => Cells::Nothing,
-        Some(ty) => value_given(ty),
-    }
+    ty.map_or(Cells::Nothing, value_given)
 }
 
 impl Before<'_> {
@@ -43,12 +40,7 @@ impl Before<'_> {
         requires frame { AreKnown self.now.world.now.classes (frame self.now) }
         requires known { All (IsKnown self.now.world.now.classes) args.now }
         requires few { length args.now ≤ 255 }
-        ensures { MatchResult result
-            (λ _.
-            SatisfiesAll self.now.world.now.classes (frame self.now)
-            (cells_wanted 0 (reverse args.now)))
-            (IsFirstUnmet self.now.world.now.classes (frame self.now)
-            (cells_wanted 0 (reverse args.now))) }
+        ensures { IsChecked self.now.world.now.classes (frame self.now) (cells_wanted 0 (reverse args.now)) result }
     {
         let count = args.len();
         'arguments: for n in 0..count {
@@ -66,12 +58,7 @@ impl Before<'_> {
         requires known { All (IsKnown self.now.world.now.classes) sig.now.args }
         requires receiver { IfSome receiver (IsKnownWant self.now.world.now.classes) }
         requires few { length sig.now.args + receiver_count receiver ≤ 255 }
-        ensures { MatchResult result
-            (λ _.
-            SatisfiesAll self.now.world.now.classes (frame self.now)
-            (call_demands sig.now.args receiver))
-            (IsFirstUnmet self.now.world.now.classes (frame self.now)
-            (call_demands sig.now.args receiver)) }
+        ensures { IsChecked self.now.world.now.classes (frame self.now) (call_demands sig.now.args receiver) result }
     {
         self.check_arguments(sig.args.as_slice())?;
         match receiver {

@@ -224,10 +224,7 @@ fn is_wanted(classes: &Classes, want: Want, found: Option<Ty>) -> bool
     requires object_known { IsClass classes.now (object classes.now) }
     ensures { IsTrue result → IsSomeAnd found (Meets classes.now want) }
 {
-    match found {
-        Some(found) => meets(classes, want, found),
-        None => false,
-    }
+    matches!(found, Some(found) if meets(classes, want, found))
 }
 
 fn is_low(found: Option<Ty>) -> bool

@@ -82,13 +82,11 @@ impl Change {
     {
         let depth = depth as usize;
         match self {
-            Change::Replace { taken, given } => depth.saturating_sub(taken as usize)
-                + given.count() as usize,
-            Change::CopyUnder { copied, .. } => depth + copied as usize,
-            Change::Exchange { .. } => depth,
-            Change::MakeReady { taken, given, .. } => {
+            Change::Replace { taken, given } | Change::MakeReady { taken, given, .. } => {
                 depth.saturating_sub(taken as usize) + given.count() as usize
             }
+            Change::CopyUnder { copied, .. } => depth + copied as usize,
+            Change::Exchange { .. } => depth,
         }
     }
 }

@@ -151,8 +151,7 @@ impl Before<'_> {
         requires { AreKnown self.now.world.now.classes (frame self.now) }
         ensures { IsJudged self.now.world.now.classes (frame self.now) (number width 0) (replacing (size width) Cells.Nothing) result }
     {
-        self.check_number(width)?;
-        Ok(Effect::replacing(size(width), Cells::Nothing))
+        self.on_number(width, Effect::replacing(size(width), Cells::Nothing))
     }
 
     /// A value of a declared type goes from the stack.

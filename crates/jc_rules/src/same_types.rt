@@ -35,13 +35,7 @@ fn has_names(ty: &Ty) -> bool
 fn is_same(a: &Ty, b: &Ty) -> bool
     ensures { IsTrue result ↔ (a.now ≡ b.now) }
 {
-    if variant_of(a) != variant_of(b) {
-        return false;
-    }
-    if has_names(a) {
-        return same_type(*a, *b);
-    }
-    true
+    variant_of(a) == variant_of(b) && (!has_names(a) || same_type(*a, *b))
 }
 
 /// Whether two lists of types are the same.

@@ -171,10 +171,7 @@ impl Typing {
 fn span_of(spans: &[Option<Span>], place: u16) -> Option<Span>
     ensures { result ≡ span_at spans.now place }
 {
-    match spans.get(place as usize) {
-        Some(span) => *span,
-        None => None,
-    }
+    *spans.get(place as usize)?
 }
 
 /// The state of a span.
@@ -253,9 +250,7 @@ fn groups_of(alloc: Global, cells: &[Ty], spans: &[Option<Span>]) -> Result<Vec<
     let mut last = None;
     'places: for place in 0..spans.len() {
         let group = group_at(cells, spans, groups.as_slice(), last, place);
-        if let Err(error) = groups.push(group) {
-            return Err(error.into());
-        }
+        groups.push(group)?;
         if spans[place].is_some() {
             last = Some(place);
         }

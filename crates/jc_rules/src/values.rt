@@ -1,6 +1,6 @@
-ghost use Rattle.std.specs.Prelude.{◌≡◌, ◌+◌, ◌≤◌, ◌<◌, length, reverse, MatchResult};
+ghost use Rattle.std.specs.Prelude.{◌≡◌, ◌+◌, ◌≤◌, ◌<◌, length, reverse};
 ghost use Rattle.jc_ops.specs.declared.operation.Sort.TheVariants as sorts;
-ghost use Rattle.jc_rules.specs.Demand.{AreKnown, SatisfiesAll, IsFirstUnmet, frame, IsJudged};
+ghost use Rattle.jc_rules.specs.Demand.{AreKnown, frame, IsChecked, IsJudged};
 ghost use Rattle.jc_ops.specs.Sound.{IsMove};
 ghost use Rattle.jc_rules.specs.Effect.{reg};
 ghost use Rattle.jc_rules.specs.Rule.{cell, or_null, number, number_given, size, value_given, value_wanted, value_size, replacing, constant_effect, load_demands, load_effect, store_demands, store_effect, increment_demands, increment_effect, move_demands, move_effect, arithmetic_demands, arithmetic_effect, on_stack, storing, a_reference, two_numbers};
@@ -141,12 +141,8 @@ impl Before<'_> {
     /// Checks that an int stands in register `x` and the one after it.
     fn check_int(&self, x: u8) -> Result<(), RuleFault>
         requires { AreKnown self.now.world.now.classes (frame self.now) }
-        ensures { MatchResult result
-            (λ _.
-            SatisfiesAll self.now.world.now.classes (frame self.now)
-            (load_demands self.now.world.now.classes sorts.Int x))
-            (IsFirstUnmet self.now.world.now.classes (frame self.now)
-            (load_demands self.now.world.now.classes sorts.Int x)) }
+        ensures { IsChecked self.now.world.now.classes (frame self.now)
+            (load_demands self.now.world.now.classes sorts.Int x) result }
     {
         if x as usize + 2 > self.regs.len() {
             return Err(RuleFault::NoLocal(x));
@@ -262,35 +258,33 @@ impl Before<'_> {
         Ok(Effect::on_stack(Change::Exchange { top: m, under: n }))
     }
 
-    /// Checks that a number is on top of the stack.
-    pub(crate) fn check_number(&self, width: Width) -> Result<(), RuleFault>
+    /// The effect, if a number is on top of the stack.
+    pub(crate) fn on_number(&self, width: Width, effect: Effect) -> Result<Effect, RuleFault>
         requires { AreKnown self.now.world.now.classes (frame self.now) }
-        ensures { MatchResult result
-            (λ _. SatisfiesAll self.now.world.now.classes (frame self.now) (number width 0))
-            (IsFirstUnmet self.now.world.now.classes (frame self.now) (number width 0)) }
+        ensures { IsJudged self.now.world.now.classes (frame self.now) (number width 0) effect result }
     {
         match width {
-            Width::Short => self.check(&[Demand::Cell(0, SHORT)]),
-            Width::Int => self.check(&[Demand::Cell(0, INT_LOW), Demand::Cell(1, INT_HIGH)]),
+            Width::Short => self.check(&[Demand::Cell(0, SHORT)])?,
+            Width::Int => self.check(&[Demand::Cell(0, INT_LOW), Demand::Cell(1, INT_HIGH)])?,
         }
+        Ok(effect)
     }
 
-    /// Checks that two numbers are on top of the stack.
-    pub(crate) fn check_two_numbers(&self, width: Width) -> Result<(), RuleFault>
+    /// The effect, if two numbers are on top of the stack.
+    fn on_two_numbers(&self, width: Width, effect: Effect) -> Result<Effect, RuleFault>
         requires { AreKnown self.now.world.now.classes (frame self.now) }
-        ensures { MatchResult result
-            (λ _. SatisfiesAll self.now.world.now.classes (frame self.now) (two_numbers width))
-            (IsFirstUnmet self.now.world.now.classes (frame self.now) (two_numbers width)) }
+        ensures { IsJudged self.now.world.now.classes (frame self.now) (two_numbers width) effect result }
     {
         match width {
-            Width::Short => self.check(&[Demand::Cell(0, SHORT), Demand::Cell(1, SHORT)]),
+            Width::Short => self.check(&[Demand::Cell(0, SHORT), Demand::Cell(1, SHORT)])?,
             Width::Int => self.check(&[
                 Demand::Cell(0, INT_LOW),
                 Demand::Cell(1, INT_HIGH),
                 Demand::Cell(2, INT_LOW),
                 Demand::Cell(3, INT_HIGH),
-            ]),
+            ])?,
         }
+        Ok(effect)
     }
 
     pub(crate) fn computed(&self, arithmetic: Arithmetic) -> Result<Effect, RuleFault>
@@ -298,31 +292,23 @@ impl Before<'_> {
         ensures { IsJudged self.now.world.now.classes (frame self.now)
             (arithmetic_demands arithmetic) (arithmetic_effect arithmetic) result }
     {
+        let short = Cells::One(Ty::Short);
         match arithmetic {
             Arithmetic::Binary(_, width) => {
-                self.check_two_numbers(width)?;
-                Ok(Effect::replacing(2 * size(width), number_given(width)))
+                let computed = Effect::replacing(2 * size(width), number_given(width));
+                self.on_two_numbers(width, computed)
             }
             Arithmetic::Negate(width) => {
-                self.check_number(width)?;
-                Ok(Effect::replacing(size(width), number_given(width)))
+                self.on_number(width, Effect::replacing(size(width), number_given(width)))
             }
-            Arithmetic::ShortToByte => {
-                self.check_number(Width::Short)?;
-                Ok(Effect::replacing(1, Cells::One(Ty::Short)))
-            }
+            Arithmetic::ShortToByte => self.on_number(Width::Short, Effect::replacing(1, short)),
             Arithmetic::ShortToInt => {
-                self.check_number(Width::Short)?;
-                Ok(Effect::replacing(1, Cells::Int))
+                self.on_number(Width::Short, Effect::replacing(1, Cells::Int))
             }
             Arithmetic::IntToByte | Arithmetic::IntToShort => {
-                self.check_number(Width::Int)?;
-                Ok(Effect::replacing(2, Cells::One(Ty::Short)))
+                self.on_number(Width::Int, Effect::replacing(2, short))
             }
-            Arithmetic::CompareInts => {
-                self.check_two_numbers(Width::Int)?;
-                Ok(Effect::replacing(4, Cells::One(Ty::Short)))
-            }
+            Arithmetic::CompareInts => self.on_two_numbers(Width::Int, Effect::replacing(4, short)),
         }
     }
 }

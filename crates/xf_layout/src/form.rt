@@ -40,7 +40,8 @@ impl Form {
     {
         match self {
             Form::Fixed(bytes) => bytes,
-            Form::Jump { is_wide, .. } => jump_bytes(is_wide),
+            Form::Jump { is_wide: true, .. } => 3,
+            Form::Jump { .. } => 2,
             Form::Mark(_) => 0,
         }
     }
@@ -88,12 +89,6 @@ impl Form {
             other => other,
         }
     }
-}
-
-fn jump_bytes(is_wide: bool) -> u32
-    ensures { result ≡ (if is_wide then 3 else 2) }
-{
-    if is_wide { 3 } else { 2 }
 }
 
 /// Whether an offset fits into one byte.

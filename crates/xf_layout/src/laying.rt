@@ -30,9 +30,7 @@ pub fn lay_items(
 {
     let mut code = Vec::with_capacity(alloc, plan.end as usize)?;
     'items: for (k, item) in items.iter().enumerate() {
-        if let Err(error) = lay_item(alloc, source, item, plan.forms[k], &plan.places, &mut code) {
-            return Err(error);
-        }
+        lay_item(alloc, source, item, plan.forms[k], &plan.places, &mut code)?;
     }
     Ok(code)
 }

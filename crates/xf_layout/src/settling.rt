@@ -103,10 +103,7 @@ fn short_label(form: Form) -> Option<u16>
 fn short_jump(forms: &[Form], k: usize) -> Option<u16>
     ensures { IfSome result (λ label. slice_get forms.now k ≡ Some (Jump label false)) }
 {
-    match forms.get(k) {
-        Some(form) => short_label(*form),
-        None => None,
-    }
+    short_label(*forms.get(k)?)
 }
 
 /// Makes a jump of these items wide, if it leads too far, and tells whether it does.
@@ -138,10 +135,7 @@ fn reach(from: u32, to: u32) -> u32 {
 }
 
 fn start(starts: &[u32], n: usize) -> u32 {
-    match starts.get(n) {
-        Some(start) => *start,
-        None => 0,
-    }
+    starts.get(n).copied().unwrap_or(0)
 }
 
 /// Whether some forms have so few bytes that each jump among them can be short.
@@ -248,9 +242,7 @@ pub fn settle(alloc: Global, items: &[Item], forms: &mut Vec<Form>) -> Result<()
             return Ok(());
         };
         if widen_far(items, forms, k, &reaches.marks) {
-            if let Err(error) = reaches.spread(forms.as_slice(), k) {
-                return Err(error);
-            }
+            reaches.spread(forms.as_slice(), k)?;
         }
     }
     Ok(())

@@ -32,13 +32,9 @@ impl<'a> Iterator for Instructions<'a> {
     #[inline(always)]
     fn next(&mut self) -> Option<Placed> {
         let place = self.at;
-        match decode(self.code, place) {
-            Ok(insn) => {
-                self.at = place + insn.len as u16;
-                Some(Placed { place, insn })
-            }
-            Err(_) => None,
-        }
+        let insn = decode(self.code, place).ok()?;
+        self.at = place + insn.len as u16;
+        Some(Placed { place, insn })
     }
 }
 

@@ -18,7 +18,7 @@ work-preserved c =
     let waiting = c.mark_all.new.pending.items in
     search-goes g c.args.from c.in-Some.v marks marked rest waiting
     (subst (IsSearch g c.args.from marks) c.in-Some.ensures.items c.work.invariant)
-    (subst (λ (row : List ℕ). Marks row marks rest marked waiting) c.row.ensures.is c.in_default-mark_all.ensures)
+    (subst (λ (row : List ℕ). Marks row marks rest marked waiting) c.row.ensures.is c.in_ok-mark_all.ensures)
 
 pub returns : goal.returns
 returns c =

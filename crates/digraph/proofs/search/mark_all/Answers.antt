@@ -12,4 +12,4 @@ row-preserved c =
     subst (λ (vs : List ℕ). Marks vs c.args.marks.now.items c.args.pending.now.items c.mark.new.marks.items c.mark.new.pending.items)
     (sym (take_more row i 0 inside))
     (marks-append (take i row) (get_or row i 0 ∷ []) c.args.marks.now.items c.row.marks.items c.mark.new.marks.items c.args.pending.now.items
-    c.row.pending.items c.mark.new.pending.items c.row.invariant c.in_default.ensures)
+    c.row.pending.items c.mark.new.pending.items c.row.invariant c.in_ok-mark.ensures)

@@ -13,6 +13,6 @@ row-preserved c =
     let inside : i < length row = omega (arith, c.row-test.true) in
     let there : get_or row i 0 < length known = c.requires i 0 inside in
     let is = sym (get_or_read known (get_or row i 0) _ there c.index.ensures None) ∙ c.in-Some.is in
-    subst (λ n. IsMostOf known (take (i + 1) row) n) (sym c.greater-best.ensures)
+    subst (λ n. IsMostOf known (take (i + 1) row) n) (sym c.max-best.ensures)
     (subst (λ (vs : List ℕ). IsMostOf known vs (max c.row.best c.in-Some.sum)) (sym (take_more row i 0 inside))
     (most-more known (take i row) (get_or row i 0) c.row.best c.in-Some.sum c.row.invariant is))

@@ -19,8 +19,8 @@ overflow_add-sum c =
     sum-fits g c.args.weights.now known v c.in-Some.best c.requires.table c.requires.vertex c.requires.weights none most in
     omega (arith, fits, c.requires.small)
 
-pub returns-in-Some-clause-table : goal.returns-in-Some-clause-table
-returns-in-Some-clause-table c =
+pub returns-clause-table : goal.returns-clause-table
+returns-clause-table c =
     let known = c.args.known.now.items in
     let v = c.args.v in
     let there : v < length known = omega (arith, c.requires.vertex, c.requires.table.lengths) in

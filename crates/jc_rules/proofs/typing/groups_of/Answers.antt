@@ -16,7 +16,7 @@ places-preserved c =
     let is : IsGroupAt cells spans gs (length gs) n =
     subst (λ p. IsGroupAt cells spans gs p n) (sym c.places.invariant.count)
     (subst (λ xs. IsGroupAt cells spans xs c.places.place n) c.as_slice.ensures.value c.group_at-group.ensures) in
-    let added : c.push.new.self.items ≡ gs ++ n ∷ [] = c.in_default.ensures.items in
+    let added : c.push.new.self.items ≡ gs ++ n ∷ [] = c.in_ok-push.ensures.items in
     let count : length c.push.new.self.items ≡ c.places.place + 1 =
     subst (λ xs. length xs ≡ c.places.place + 1) (sym added) (length-append gs (n ∷ []) ∙ omega (arith, c.places.invariant.count)) in
     record {

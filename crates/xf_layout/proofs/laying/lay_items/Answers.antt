@@ -88,7 +88,7 @@ items-preserved c =
     let f = c.index.result.now in
     let reads = reads-at source items fs k i f
     c.requires.plan.forms c.requires.items c.items-test.true c.index-items-k.is c.index.ensures in
-    let adds : Adds source place i f code new = c.in_default.ensures in
+    let adds : Adds source place i f code new = c.in_ok-lay_item.ensures in
     let more = begins-more fs k f reads.form in
     let next_items = drop-here items k i reads.item in
     let next_forms = drop-here fs k f reads.form in

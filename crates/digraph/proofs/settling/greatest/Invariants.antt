@@ -1,5 +1,5 @@
 use Rattle.digraph.specs.Settled.{IsTable, unknown}
-use Rattle.digraph.proofs.settling.greatest_along.Given as goal
+use Rattle.digraph.proofs.settling.greatest.Given as goal
 
 abbrev pub invariant-passes : goal.invariant-passes
 invariant-passes l = IsTable l.graph l.weights l.known.items

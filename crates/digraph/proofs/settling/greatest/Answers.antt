@@ -4,7 +4,7 @@ use Rattle.std.proofs.lemmas.List.{get_or_read}
 use Rattle.digraph.specs.Settled.{known_at}
 use Rattle.digraph.proofs.Sums.{not-some, known-most}
 use Rattle.digraph.proofs.Cycling.{comes-again}
-use Rattle.digraph.proofs.settling.greatest_along.Goals as goal
+use Rattle.digraph.proofs.settling.greatest.Goals as goal
 
 pub returns-then-not-settle_one-clause-answer : goal.returns-then-not-settle_one-clause-answer
 returns-then-not-settle_one-clause-answer c =
