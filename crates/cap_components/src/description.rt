@@ -4,16 +4,11 @@ ghost use Rattle.cap_components.specs.Descriptions.{description, words_of, words
 
 use cap_desc::{DescPart, TypeItem, Types};
 
-/// The nibble of void in a type descriptor.
-const VOID: u8 = 1;
-/// The nibble of int in a type descriptor.
-const INT: u8 = 5;
-
 /// The words that a value of a type takes.
 pub fn words_of(item: TypeItem) -> u16
     ensures { result ≡ words_of item }
 {
-    if item.nibble == INT { 2 } else { 1 }
+    if item.nibble == TypeItem::INT { 2 } else { 1 }
 }
 
 /// The argument words that types tell, where they have the shape of a method's.
@@ -27,7 +22,7 @@ fn words_in(types: Types<'_>) -> Option<u16>
     let mut last = rest.next()?;
     let mut words: u16 = 0;
     'types: while let Some(next) = rest.next() {
-        if last.nibble == VOID {
+        if last.nibble == TypeItem::VOID {
             return None;
         }
         words += words_of(last);
@@ -59,7 +54,7 @@ pub fn field_type(descriptor: &DescPart<'_>, ty: u16) -> Option<TypeItem>
         });
     }
     let item = descriptor.type_at(ty)?;
-    if item.nibble == VOID {
+    if item.nibble == TypeItem::VOID {
         return None;
     }
     Some(item)

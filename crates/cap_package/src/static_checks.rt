@@ -40,8 +40,8 @@ fn width_of(ty: TypeItem) -> u32
     ensures { result ≡ width_of ty }
 {
     match ty.nibble {
-        2 | 3 => 1,
-        5 => 4,
+        TypeItem::BOOLEAN | TypeItem::BYTE => 1,
+        TypeItem::INT => 4,
         _ => 2,
     }
 }
@@ -112,7 +112,7 @@ fn is_in_image(statics: &StaticPart<'_>, place: &StaticPlace) -> bool
 {
     let offset = place.offset as u32;
     let references_end = 2 * statics.reference_count() as u32;
-    if place.ty.nibble >= 6 {
+    if place.ty.nibble >= TypeItem::REFERENCE {
         offset % 2 == 0 && offset + 2 <= references_end
     } else {
         references_end <= offset && offset + width_of(place.ty) <= statics.image_size() as u32

@@ -82,7 +82,7 @@ fn member_of(
     // These are read for what is known of them: a token, for one, is a byte.
     names.facts();
     let _records = classes.records();
-    let _token = entry.bytes[2];
+    let _token = entry.token();
     member_referred(names, classes, statics, tables, package, entry.reference())
 }
 

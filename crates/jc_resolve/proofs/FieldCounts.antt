@@ -8,12 +8,12 @@ use Rattle.jc_base.specs.declared.ty.Ty.{Ty}
 use Rattle.cap_desc.specs.declared.desc_part.DescPart.{DescPart}
 use Rattle.cap_desc.specs.declared.type_item.TypeItem.{TypeItem}
 use Rattle.cap_desc.specs.ClassRecords.{described_left}
-use Rattle.cap_desc.specs.DescriptorFormat.{ClassDescriptor, FieldDescriptor}
+use Rattle.cap_desc.specs.DescriptorFormat.{ClassDescriptor, FieldDescriptor, instance_token}
 use Rattle.cap_desc.specs.Members.{fields_of}
 use Rattle.cap_package.specs.Descriptions.{Description, description, field_type}
 use Rattle.cap_package.specs.PackageRecord.{PackageRecord}
 use Rattle.jc_resolve.specs.WorldTypes.{type_of}
-use Rattle.jc_resolve.specs.NamedClasses.{describes, is_instance_field, fields_described, instance_fields, token_of, with_token, by_token, cells_by}
+use Rattle.jc_resolve.specs.NamedClasses.{describes, is_instance_field, fields_described, instance_fields, with_token, by_token, cells_by}
 use Rattle.jc_resolve.specs.NamedClasses.{cells_of_field, cells_of_fields}
 use Rattle.jc_resolve.proofs.DeclaredTypes.{either}
 use Rattle.jc_resolve.proofs.DescribedFields.{fields_of-few}
@@ -80,7 +80,7 @@ cells_few ps object k d (f ∷ fields) =
 
 tokens_once : (fields : List FieldDescriptor) → length (by_token fields) ≤ length fields
 unfolding with_token
-tokens_once fields = each_once token_of fields 0 256
+tokens_once fields = each_once instance_token fields 0 256
 
 pub own_few : (ps : List PackageRecord) (object k : ℕ) (d : Description) (fields : List FieldDescriptor)
     → length (cells_of_fields ps object k d fields) ≤ 2 * length fields

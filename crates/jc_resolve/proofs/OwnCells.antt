@@ -8,14 +8,14 @@ use Rattle.std.proofs.lemmas.List.Elements.{filter_map-append}
 use Rattle.cap_class.specs.ClassFormat.{Class, is_interface}
 use Rattle.cap_desc.specs.declared.type_item.TypeItem.{TypeItem}
 use Rattle.cap_desc.specs.DescriptorFormat as described
-use Rattle.cap_desc.specs.DescriptorFormat.{FieldDescriptor}
+use Rattle.cap_desc.specs.DescriptorFormat.{FieldDescriptor, instance_token}
 use Rattle.cap_package.specs.Descriptions.{Description, field_type}
 use Rattle.cap_package.specs.HeaderChecks.{is_static}
 use Rattle.cap_package.specs.PackageRecord.{PackageRecord}
 use Rattle.jc_base.specs.declared.ty.Ty.{Ty}
 use Rattle.jc_base.specs.declared.ty.Kind.TheVariants.{Ref, Byte, Short, Int}
 use Rattle.jc_resolve.specs.Numbering.{NumberedClass}
-use Rattle.jc_resolve.specs.NamedClasses.{describes, is_instance_field, fields_described, instance_fields, token_of, has_token, with_token, by_token}
+use Rattle.jc_resolve.specs.NamedClasses.{describes, is_instance_field, fields_described, instance_fields, has_token, with_token, by_token}
 use Rattle.jc_resolve.specs.NamedClasses.{cells_of_field, cells_of_fields, named_interface, named_proper, named_class}
 use Rattle.jc_resolve.specs.WorldTypes.{type_of, kind_of, cells_of_type}
 use Rattle.jc_resolve.specs.declared.own_field.OwnField.{OwnField}
@@ -71,7 +71,7 @@ module _ (ps : List PackageRecord) (object k : ℕ) (d : Description) where
 
   -- ---- and their cells
 
-  token_by : (f : FieldDescriptor) (token : ℕ) (fs : List FieldDescriptor) (b : Bool) (o : Option TypeItem) → eqb (token_of f) token ≡ b
+  token_by : (f : FieldDescriptor) (token : ℕ) (fs : List FieldDescriptor) (b : Bool) (o : Option TypeItem) → eqb (instance_token f) token ≡ b
       → field_type d f.ty ≡ o
       → filter_map typed (filter (has_token token) fs) ≡ own_with_token (filter_map typed fs) token
       → filter_map typed (cond b (f ∷ filter (has_token token) fs) (filter (has_token token) fs)) ≡ own_with_token (filter_map typed (f ∷ fs)) token
@@ -83,7 +83,7 @@ module _ (ps : List PackageRecord) (object k : ℕ) (d : Description) where
 
   tokens : (token : ℕ) (fs : List FieldDescriptor) → filter_map typed (filter (has_token token) fs) ≡ own_with_token (filter_map typed fs) token
   tokens token [] = refl
-  tokens token (f ∷ fs) = token_by f token fs (eqb (token_of f) token) (field_type d f.ty) refl refl (tokens token fs)
+  tokens token (f ∷ fs) = token_by f token fs (eqb (instance_token f) token) (field_type d f.ty) refl refl (tokens token fs)
 
   int_cells : (f : FieldDescriptor) (t : TypeItem) → t.nibble ≡ 5 → cells_of_type ps object k t ≡ cells_of_own (field_with ps object k f t)
   unfolding kind_of type_of

@@ -1,11 +1,11 @@
 -- Classes and interfaces with each class and method that their records name by number (JCVM 2.2, section 6.8).
 use Rattle.std.specs.Prelude.{ℕ, Bool, true, false, not, List, [], map, filter, filter_map, flat_map, Option, Some, None, option_map}
-use Rattle.std.specs.Prelude.{slice_index, ◌==◌, ◌&&◌, if◌then◌else◌}
+use Rattle.std.specs.Prelude.{◌==◌, ◌&&◌, if◌then◌else◌}
 use Rattle.std.specs.List.{range_with_len}
 use Rattle.cap_class.specs.ClassFormat.{Class, Interface, is_interface}
 use Rattle.cap_desc.specs.declared.type_item.TypeItem.{TypeItem}
 use Rattle.cap_desc.specs.DescriptorFormat as described
-use Rattle.cap_desc.specs.DescriptorFormat.{FieldDescriptor}
+use Rattle.cap_desc.specs.DescriptorFormat.{FieldDescriptor, instance_token}
 use Rattle.cap_package.specs.Descriptions.{Description, field_type}
 use Rattle.cap_package.specs.HeaderChecks.{is_static}
 use Rattle.cap_package.specs.PackageRecord.{PackageRecord}
@@ -33,12 +33,8 @@ fields_described offset d = if describes offset d then filter is_instance_field 
 unfoldable pub instance_fields : List described.ClassDescriptor → ℕ → List FieldDescriptor
 instance_fields classes offset = flat_map (fields_described offset) classes
 
--- the token of an instance field is the last of its three bytes
-abbrev pub token_of : FieldDescriptor → ℕ
-token_of f = slice_index f.bytes 2
-
 abbrev pub has_token : ℕ → FieldDescriptor → Bool
-has_token token f = token_of f == token
+has_token token f = instance_token f == token
 
 unfoldable pub with_token : List FieldDescriptor → ℕ → List FieldDescriptor
 with_token fields token = filter (has_token token) fields

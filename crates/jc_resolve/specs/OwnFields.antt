@@ -12,15 +12,16 @@ use Rattle.jc_base.specs.declared.ty.Ty.{Ty}
 use Rattle.jc_base.specs.declared.ty.Ty.TheVariants.{IntLow}
 use Rattle.jc_base.specs.declared.ty.Kind.{Kind}
 use Rattle.jc_base.specs.declared.ty.Kind.TheVariants.{Int}
+use Rattle.cap_desc.specs.DescriptorFormat.{instance_token}
 use Rattle.jc_resolve.specs.declared.own_field.OwnField.{OwnField}
-use Rattle.jc_resolve.specs.NamedClasses.{describes, token_of}
+use Rattle.jc_resolve.specs.NamedClasses.{describes}
 use Rattle.jc_resolve.specs.WorldTypes.{type_of, kind_of}
 
 -- ---- the fields of a class
 
 -- an instance field, by its description in the package k; `object` is the number of class object
 abbrev pub field_with : List PackageRecord → ℕ → ℕ → described.FieldDescriptor → TypeItem → OwnField
-field_with ps object k f ty = record { token = token_of f; kind = kind_of ty; ty = type_of ps object k ty }
+field_with ps object k f ty = record { token = instance_token f; kind = kind_of ty; ty = type_of ps object k ty }
 
 unfoldable pub own_field : List PackageRecord → ℕ → ℕ → Description → described.FieldDescriptor → Option OwnField
 own_field ps object k d f = if is_static f.flags then None else option_map (field_with ps object k f) (field_type d f.ty)

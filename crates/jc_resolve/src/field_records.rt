@@ -55,7 +55,7 @@ fn keep_field(
         statics.push(ty)?;
     } else {
         own.push(OwnField {
-            token: field.bytes[2],
+            token: field.instance_token(),
             kind: kind_of(item),
             ty,
         })?;

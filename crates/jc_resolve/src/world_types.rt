@@ -13,29 +13,6 @@ use cap_desc::{TypeItem, Types};
 use jc_base::{Items, Kind, Sig, Ty};
 use std::alloc::{AllocError, Global};
 
-/// The nibbles of a type descriptor.
-const VOID: u8 = 1;
-
-const BOOLEAN: u8 = 2;
-
-const BYTE: u8 = 3;
-
-const SHORT: u8 = 4;
-
-const INT: u8 = 5;
-
-const REFERENCE: u8 = 6;
-
-const BOOLEAN_ARRAY: u8 = 10;
-
-const BYTE_ARRAY: u8 = 11;
-
-const SHORT_ARRAY: u8 = 12;
-
-const INT_ARRAY: u8 = 13;
-
-const REFERENCE_ARRAY: u8 = 14;
-
 /// The class as which a type knows what was named: object where that is an interface, or no class.
 fn class_or_object(home: Home<'_, '_, '_, '_>, named: Option<u16>) -> u16
     requires { IfSome named (λ c. c < length (numbered_classes home.index.now)) }
@@ -74,13 +51,13 @@ pub(crate) fn type_of(
     ensures least { least.new ≡ least_at home.entry least.old (reference_of_type item) }
 {
     match item.nibble {
-        INT => Ty::IntHigh,
-        REFERENCE => Ty::Class(type_class(home, item.class_ref, least)),
-        BOOLEAN_ARRAY => Ty::ArrBool,
-        BYTE_ARRAY => Ty::ArrByte,
-        SHORT_ARRAY => Ty::ArrShort,
-        INT_ARRAY => Ty::ArrInt,
-        REFERENCE_ARRAY => Ty::ArrRef(type_class(home, item.class_ref, least)),
+        TypeItem::INT => Ty::IntHigh,
+        TypeItem::REFERENCE => Ty::Class(type_class(home, item.class_ref, least)),
+        TypeItem::BOOLEAN_ARRAY => Ty::ArrBool,
+        TypeItem::BYTE_ARRAY => Ty::ArrByte,
+        TypeItem::SHORT_ARRAY => Ty::ArrShort,
+        TypeItem::INT_ARRAY => Ty::ArrInt,
+        TypeItem::REFERENCE_ARRAY => Ty::ArrRef(type_class(home, item.class_ref, least)),
         _ => Ty::Short,
     }
 }
@@ -91,9 +68,9 @@ pub fn kind_of(item: TypeItem) -> Kind
     ensures { result ≡ kind_of item }
 {
     match item.nibble {
-        BOOLEAN | BYTE => Kind::Byte,
-        SHORT => Kind::Short,
-        INT => Kind::Int,
+        TypeItem::BOOLEAN | TypeItem::BYTE => Kind::Byte,
+        TypeItem::SHORT => Kind::Short,
+        TypeItem::INT => Kind::Int,
         _ => Kind::Ref,
     }
 }
@@ -113,7 +90,7 @@ pub fn width(kind: Kind) -> u32
 fn push_cells(cells: &mut Vec<Ty>, item: TypeItem, ty: Ty) -> Result<(), AllocError>
     ensures { OnOk result (cells.new.items ≡ cells.old.items ++ cells_with item ty) }
 {
-    if item.nibble == INT {
+    if item.nibble == TypeItem::INT {
         cells.push(Ty::IntHigh)?;
         cells.push(Ty::IntLow)?;
     } else {
@@ -156,7 +133,7 @@ fn signature_in(
         last = next;
     }
     let ty = type_of(home, last, least);
-    let result = if last.nibble == VOID { None } else { Some(ty) };
+    let result = if last.nibble == TypeItem::VOID { None } else { Some(ty) };
     Ok(Sig {
         args: Items::of(args),
         result,

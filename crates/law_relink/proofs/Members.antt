@@ -24,12 +24,13 @@ use Rattle.jc_base.specs.declared.record.StaticRec.{StaticRec}
 use Rattle.jc_base.specs.Class.{ClassTable, object}
 use Rattle.jc_decode.specs.declared.symbols.Laid.{Laid}
 use Rattle.jc_link.specs.Entries.{place_in, exported_field, exported_method, exported_place, field_place, method_place}
+use Rattle.cap_desc.specs.DescriptorFormat.{instance_token}
 use Rattle.jc_resolve.specs.OwnFields.{field_with, own_field, fields_in, own_fields}
 use Rattle.jc_link.specs.Fields.{class_sites, sites_of_classes, sites_after, field_sites}
 use Rattle.jc_link.specs.Members.{class_member, proper_by, proper_referred, virtual_by, virtual_member, super_of, super_member, static_at, static_member}
 use Rattle.jc_link.specs.Members.{call_member, field_of, field_member, member_referred, member_of}
 use Rattle.jc_resolve.specs.declared.place.RecordPlace.{RecordPlace}
-use Rattle.jc_resolve.specs.NamedClasses.{describes, token_of}
+use Rattle.jc_resolve.specs.NamedClasses.{describes}
 use Rattle.jc_resolve.specs.Numbering.{method_at}
 use Rattle.jc_resolve.specs.References.{meets_import, import_of, met_by, class_referred}
 use Rattle.jc_resolve.specs.WorldTypes.{kind_of}
@@ -77,7 +78,7 @@ module _ (ps : List PackageRecord) (p q : PackageRecord) (laid : List (Option La
   field_by : (n k : ℕ) (f : described.FieldDescriptor) (o : Option TypeItem) → option_map (field_with now n k f) o
       ≡ option_map (field_with old n k f) o
   field_by n k f None = refl
-  field_by n k f (Some t) = ap (λ u. Some (record { token = token_of f; kind = kind_of t; ty = u })) (type_same ps p q laid n k t r)
+  field_by n k f (Some t) = ap (λ u. Some (record { token = instance_token f; kind = kind_of t; ty = u })) (type_same ps p q laid n k t r)
 
   field_same : (n k : ℕ) (d : Description) (f : described.FieldDescriptor) → own_field now n k d f ≡ own_field old n k d f
   unfolding own_field

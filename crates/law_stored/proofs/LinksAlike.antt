@@ -28,9 +28,10 @@ use Rattle.jc_base.specs.declared.record.MethodRec.{MethodRec}
 use Rattle.jc_base.specs.declared.record.StaticRec.{StaticRec}
 use Rattle.jc_base.specs.Class.{ClassTable, object}
 use Rattle.jc_base.specs.World.{Linked}
+use Rattle.cap_desc.specs.DescriptorFormat.{instance_token}
 use Rattle.jc_resolve.specs.declared.fault.LinkFault.TheVariants.{TooManyStatics, NoRoom, NoMember, BadCatch}
 use Rattle.jc_resolve.specs.Named.{infos_of}
-use Rattle.jc_resolve.specs.NamedClasses.{describes, token_of}
+use Rattle.jc_resolve.specs.NamedClasses.{describes}
 use Rattle.jc_resolve.specs.OwnFields.{own_field, fields_in, own_fields}
 use Rattle.jc_resolve.specs.WorldTypes.{kind_of}
 use Rattle.jc_classes.specs.LineConditions as lineage
@@ -111,7 +112,7 @@ module _ (ps : List PackageRecord) where
   unfolding own_field
   own_field_bare n k d f =
       λ i. if is_static f.flags then None
-      else option_map (λ t. record { token = token_of f; kind = kind_of t; ty = type_bare ps n k t i }) (field_type d f.ty)
+      else option_map (λ t. record { token = instance_token f; kind = kind_of t; ty = type_bare ps n k t i }) (field_type d f.ty)
 
   fields_in_bare : (n k : ℕ) (d : Description) (offset : ℕ) (c : described.ClassDescriptor) → fields_in now n k d offset c ≡ fields_in ps n k d offset c
   fields_in_bare n k d offset c = λ i. if describes offset c then filter_map (λ f. own_field_bare n k d f i) c.fields else []

@@ -1,5 +1,6 @@
-use Rattle.std.proofs.Common.{◌<◌, slice_index, arith, ap, ◌∙◌}
+use Rattle.std.proofs.Common.{◌<◌, arith, ap, ◌∙◌}
 use Rattle.cap_pool.specs.Pool.{entry_seen}
+use Rattle.cap_pool.specs.PoolReference.{token_in}
 use Rattle.jc_resolve.proofs.Totals.{classes_total}
 use Rattle.jc_link.specs.Members.{member_referred}
 use Rattle.jc_link.proofs.Counted.{records_counted, named_counted}
@@ -14,7 +15,7 @@ member_referred-requires-clause-count c =
 
 pub returns-clause-linked : goal.returns-clause-linked
 returns-clause-linked c =
-    let low : slice_index (entry_seen c.args.entry).bytes 2 < 256 = omega arith in
+    let low : token_in (entry_seen c.args.entry).bytes < 256 = omega (arith, c.token-_token.ensures) in
     member_there c.args.names.now c.args.classes.now c.args.statics.now c.args.package (entry_seen c.args.entry) c.member_referred.result
     c.facts.ensures.classes
     c.facts.ensures.methods c.records-records.ensures.chains c.requires.linked c.requires.cells low
