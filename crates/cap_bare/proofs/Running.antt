@@ -21,7 +21,8 @@ use Rattle.cap_bare.specs.Effects.{register_of, cells_taken, cells_given}
 use Rattle.cap_bare.specs.Code.{fetched, HasInstruction, IsPlace, IsTargetPlace}
 use Rattle.cap_bare.specs.Typing.{Kind, shorts, register_count, IsTyped, BareTyping}
 use Rattle.cap_bare.specs.Walk.{is_place}
-use Rattle.cap_bare.specs.Machine.{BareFrame, BareState, BareOutcome, running, returned, faulted, jump_fault, local_fault, stack_fault, Lead, leads, gives, frame}
+use Rattle.cap_bare.specs.Machine.{BareFrame, BareState, BareOutcome, running, returned, faulted, jump_fault, local_fault, stack_fault, Lead, leads}
+use Rattle.cap_bare.specs.Machine.{gives, frame}
 use Rattle.cap_bare.specs.Machine.{top_of_stack, second, acted, acts, branch_target, has_register, place_number, settled, performed, step, go_on, after}
 use Rattle.cap_bare.specs.Machine.{entered, IsFault, IsSafe, IsFaultFree}
 use Rattle.cap_bare.proofs.Operands.{branches, goes_on as falls_on, branches-jumps, goes_on-falls}

@@ -14,7 +14,8 @@ use Rattle.cap_bare.specs.Effects.{register_of, cells_taken, cells_given}
 use Rattle.cap_bare.specs.Format.{instruction_of}
 use Rattle.cap_bare.specs.Code.{fetched, IsTargetPlace}
 use Rattle.cap_bare.specs.Typing.{register_count}
-use Rattle.cap_bare.specs.Machine.{BareFrame, BareState, running, returned, Lead, leads, gives, frame, acted, acts, branch_target, place_number, settled, step, IsFault}
+use Rattle.cap_bare.specs.Machine.{BareFrame, BareState, running, returned, Lead, leads, gives, frame, acted, acts, branch_target, place_number}
+use Rattle.cap_bare.specs.Machine.{settled, step, IsFault}
 use Rattle.cap_bare.specs.Machine.{IsSafe}
 use Rattle.cap_bare.specs.Leading.{CanAct, state_in_frame}
 use Rattle.cap_bare.proofs.Instructions.{here, here-inside, stands-here}

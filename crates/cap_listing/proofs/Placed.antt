@@ -18,7 +18,8 @@ use Rattle.cap_listing.specs.declared.fault.AsmFault.{AsmFault}
 use Rattle.cap_listing.specs.declared.fault.AsmFault.TheVariants.{OtherMethod, Registers, HandlerRange, CodeLength, TooManyHandlers}
 use Rattle.cap_listing.specs.declared.condition.Condition.TheVariants as conditions
 use Rattle.cap_listing.specs.Methods.{laid_of, listed_by, listed_from, listed_in, methods_of}
-use Rattle.cap_listing.specs.Placing.{is_same, other_faults, range_faults, own_faults, faults_from, handler_total, total_faults, faults, has_code, is_coded, coded_in}
+use Rattle.cap_listing.specs.Placing.{is_same, other_faults, range_faults, own_faults, faults_from, handler_total, total_faults, faults, has_code}
+use Rattle.cap_listing.specs.Placing.{is_coded, coded_in}
 use Rattle.cap_listing.specs.Placing.{coded, first_filled, rest_filled, filled, placed, first_refused}
 
 -- ---- lists that are empty

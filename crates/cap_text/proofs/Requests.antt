@@ -17,7 +17,8 @@ use Rattle.cap_text.proofs.Ends.{is_end}
 use Rattle.cap_text.specs.OutOfDirs.{OutOfDirsRequest, IsOutOfDirs}
 use Rattle.cap_text.specs.Generate.{GenerateRequest, IsGenerate}
 use Rattle.cap_text.specs.EntryWords.{EntryRequest, AreEntryWords}
-use Rattle.cap_text.specs.Request.{Request, probe, show, list, asm, check, verify, defend, run, transform, share, trial, generate, bound, pack, install, takes_arguments, IsRequest, IsUsage, NoneSuch, OneRequest}
+use Rattle.cap_text.specs.Request.{Request, probe, show, list, asm, check, verify, defend, run, transform, share, trial, generate, bound, pack}
+use Rattle.cap_text.specs.Request.{install, takes_arguments, IsRequest, IsUsage, NoneSuch, OneRequest}
 use Rattle.cap_text.specs.declared.entry.Entry.{Entry}
 use Rattle.vm_step.specs.Arguments.{Argument, number, null, bytes}
 use Rattle.hex.specs.Hex.{encode_lower, decode_of, IsBytes}

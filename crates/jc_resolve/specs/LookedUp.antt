@@ -6,7 +6,8 @@ use Rattle.cap_package.specs.Descriptions.{Description}
 use Rattle.cap_package.specs.PackageRecord.{PackageRecord}
 use Rattle.first_fault.specs.Least.{least_from}
 use Rattle.jc_resolve.specs.declared.fault.LinkFault.{LinkFault}
-use Rattle.jc_resolve.specs.Conditions.{reference_of_field, references_of_classes, references_of_field_type, references_of_method, reference_fault}
+use Rattle.jc_resolve.specs.Conditions.{reference_of_field, references_of_classes, references_of_field_type, references_of_method}
+use Rattle.jc_resolve.specs.Conditions.{reference_fault}
 use Rattle.jc_resolve.specs.Fault.{link_place}
 
 -- the least fault of a package's class references, beside one that was seen before

@@ -1,7 +1,8 @@
 -- What an instruction asks of the frame before it changes anything (JCVM 2.2, section 7.5; Leroy 2002,
 -- section 2.2), and the first thing that is missing.
 use Rattle.std.specs.Prelude.{◌≡◌, ℕ, ◌+◌, ◌-◌, ◌≤◌, ◌⊎◌, ⊤, Bool, true, false, not, ◌&&◌, ◌||◌}
-use Rattle.std.specs.Prelude.{◌==◌, nat_le, MatchBool, MatchResult, List, [], ◌∷◌, length, reverse, All, Option, Some, None, IsSomeAnd, Result}
+use Rattle.std.specs.Prelude.{◌==◌, nat_le, MatchBool, MatchResult, List, [], ◌∷◌, length, reverse, All, Option, Some, None}
+use Rattle.std.specs.Prelude.{IsSomeAnd, Result}
 use Rattle.std.specs.Prelude.{Ok, Err, slice_get}
 use Rattle.jc_base.specs.declared.ty.Ty.{Ty}
 use Rattle.jc_base.specs.declared.ty.Ty.TheVariants.{Bottom, IntHigh, IntLow, Null, Class, ArrBool, ArrByte, ArrShort, ArrInt, ArrRef}

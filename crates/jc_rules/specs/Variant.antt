@@ -1,7 +1,8 @@
 -- Types by their variants.
 use Rattle.std.specs.Prelude.{ℕ, ◌==◌, ◌||◌, Bool}
 use Rattle.jc_base.specs.declared.ty.Ty.{Ty}
-use Rattle.jc_base.specs.declared.ty.Ty.TheVariants.{Bottom, Short, IntHigh, IntLow, Null, Class, ArrBool, ArrByte, ArrShort, ArrInt, ArrRef, Fresh, Top}
+use Rattle.jc_base.specs.declared.ty.Ty.TheVariants.{Bottom, Short, IntHigh, IntLow, Null, Class, ArrBool, ArrByte, ArrShort}
+use Rattle.jc_base.specs.declared.ty.Ty.TheVariants.{ArrInt, ArrRef, Fresh, Top}
 
 -- the number of a type's variant, in the order in which they are declared
 abbrev pub variant_of : Ty → ℕ

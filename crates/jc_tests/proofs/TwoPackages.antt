@@ -18,7 +18,8 @@ use Rattle.jc_base.specs.Dispatch.{HasBody, visible_in, nearest_of, package_of, 
 use Rattle.jc_base.specs.Interface.{extended, NoneExtendsItself}
 use Rattle.jc_base.proofs.Leading.{leads-nowhere}
 use Rattle.jc_base.proofs.Bodies.{linked_more}
-use Rattle.jc_base.specs.Linked.{AreLinkedClasses, IsMethod, IsHandler, IsLinkedClass, IsInherited, IsDispatch, IsImplemented, IsStatic, IsMember, IsField, list_at}
+use Rattle.jc_base.specs.Linked.{AreLinkedClasses, IsMethod, IsHandler, IsLinkedClass, IsInherited, IsDispatch, IsImplemented, IsStatic, IsMember}
+use Rattle.jc_base.specs.Linked.{IsField, list_at}
 use Rattle.jc_base.specs.World.{IsWorld, IsThrown}
 use Rattle.jc_tests.specs.TwoPackages.{sample, HasSampleSizes, classes, methods, statics, arrays, first_pool, second_pool, first_info, second_info}
 use Rattle.jc_tests.specs.TwoPackages.{instance_method, interface_method, static_method}

@@ -29,7 +29,8 @@ use Rattle.vm_step.specs.Methods.{code_at, instruction_at}
 use Rattle.vm_step.specs.Performed.{act}
 use Rattle.vm_step.specs.Raising.{Outcome, running, ended, ends, handler_for, caught, caught_or, has_no_room, unwound, thrown, raised}
 use Rattle.vm_step.specs.Run.{Runs, stands, stops, steps}
-use Rattle.vm_step.specs.Settled.{unless_fault, fault_next, fault_target, goes_to, jumps_to, with_new, made, entered_call, given_to, settled, place_number, return_place}
+use Rattle.vm_step.specs.Settled.{unless_fault, fault_next, fault_target, goes_to, jumps_to, with_new, made, entered_call, given_to, settled}
+use Rattle.vm_step.specs.Settled.{place_number, return_place}
 use Rattle.vm_step.specs.Step.{Steps, misplaced, unresolved, performs, performed, Fetches}
 use Rattle.vm_step.specs.Tests.{fault_before}
 use Rattle.law_sound.specs.Frames.{Typings}
@@ -65,7 +66,8 @@ module _ (w : Linked) (entry : ℕ) where
 
   -- ---- exceptions
 
-  caught-keeps : (b : Bool) (hd : Handler) (handle : ℕ) (s : State Cell) (f : Frame Cell) (below : List (Frame Cell)) → AreStacked w entry (methods_of (f ∷ below))
+  caught-keeps : (b : Bool) (hd : Handler) (handle : ℕ) (s : State Cell) (f : Frame Cell) (below : List (Frame Cell))
+      → AreStacked w entry (methods_of (f ∷ below))
       → KeepsToCalls w entry (if b then ends (Faulted StackFault) s else running (record s { frames = caught tagged hd handle f ∷ below }))
   caught-keeps true hd handle s f below h = tt
   caught-keeps false hd handle s f below h = h
@@ -85,11 +87,13 @@ module _ (w : Linked) (entry : ℕ) where
   raised-keeps exception s h = go (has_room s (length (cells_of w.classes (slice_index w.classes.roles (role_of exception)))))
     where
       go : (b : Bool) → KeepsToCalls w entry (if b
-          then thrown tagged w (length s.heap + 1) (with_object s (Instance (slice_index w.classes.roles (role_of exception))) (new_instance_cells tagged w.classes (slice_index w.classes.roles (role_of exception))))
+          then thrown tagged w (length s.heap + 1) (with_object s (Instance (slice_index w.classes.roles (role_of exception)))
+              (new_instance_cells tagged w.classes (slice_index w.classes.roles (role_of exception))))
           else ends (Plain HeapFull) s)
       go true = unwound-keeps (class_of w.classes (with_object s (Instance (slice_index w.classes.roles (role_of exception)))
           (new_instance_cells tagged w.classes (slice_index w.classes.roles (role_of exception)))) (length s.heap + 1)) (length s.heap + 1)
-          (with_object s (Instance (slice_index w.classes.roles (role_of exception))) (new_instance_cells tagged w.classes (slice_index w.classes.roles (role_of exception))))
+          (with_object s (Instance (slice_index w.classes.roles (role_of exception)))
+              (new_instance_cells tagged w.classes (slice_index w.classes.roles (role_of exception))))
           s.frames h
       go false = tt
 
@@ -138,7 +142,8 @@ module _ (w : Linked) (entry : ℕ) where
           all = called_on call stacked
 
           called : (fs : List (Frame Cell)) → methods_of fs ≡ methods_of (f ∷ below)
-              → methods_on (with_call tagged w.methods (record { frames = fs; heap = z.heap; statics = z.statics }) method count) ≡ method ∷ methods_of (f ∷ below)
+              → methods_on (with_call tagged w.methods (record { frames = fs; heap = z.heap; statics = z.statics }) method count)
+                  ≡ method ∷ methods_of (f ∷ below)
           called [] e = absurd (cc)
           called (g ∷ gs) e = ap (λ ms. method ∷ ms) e
 
@@ -203,15 +208,18 @@ module _ (w : Linked) (entry : ℕ) where
         → KeepsToCalls w entry (performed tagged w i op (record { frames = fs; heap = heap; statics = statics }))
     performed-keeps [] heap statics m i op typed fetched resolves h = let runs = fetched.runs in absurd (omega (arith, runs))
     performed-keeps (f ∷ below) heap statics m i op typed fetched resolves h =
-        fault-keeps (record { frames = f ∷ below; heap = heap; statics = statics }) (fault_before tagged w op (record { frames = f ∷ below; heap = heap; statics = statics }))
+        fault-keeps (record { frames = f ∷ below; heap = heap; statics = statics })
+            (fault_before tagged w op (record { frames = f ∷ below; heap = heap; statics = statics }))
         (settled tagged w (i.place + i.insn.len) (record { frames = f ∷ below; heap = heap; statics = statics })
         (act tagged w i.insn op (record { frames = f ∷ below; heap = heap; statics = statics })))
         (settled-keeps (i.place + i.insn.len) f below heap statics h (act tagged w i.insn op (record { frames = f ∷ below; heap = heap; statics = statics }))
         (act-keeps f below heap statics w i.insn op)
-        (λ method count y e. only-called-methods-run w world typings (record { frames = f ∷ below; heap = heap; statics = statics }) y m i op method count are typed
+        (λ method count y e. only-called-methods-run w world typings
+            (record { frames = f ∷ below; heap = heap; statics = statics }) y m i op method count are typed
         fetched resolves e))
 
-    step-keeps : (s : State Cell) (o : Outcome Cell) → IsTypedState w typings s → AreStacked w entry (methods_on s) → Steps tagged w s o → KeepsToCalls w entry o
+    step-keeps : (s : State Cell) (o : Outcome Cell) → IsTypedState w typings s → AreStacked w entry (methods_on s) → Steps tagged w s o
+        → KeepsToCalls w entry o
     step-keeps s o typed h (misplaced checks runs none) = tt
     step-keeps s o typed h (unresolved checks fetched fault resolves) = tt
     step-keeps s o typed h (performs {m = m} {i = i} fetched op resolves is) =

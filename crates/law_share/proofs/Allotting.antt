@@ -15,10 +15,12 @@ use Rattle.jc_ops.specs.declared.operation.Operation.{Operation}
 use Rattle.jc_rules.specs.FlowLaws.{IsOrderOfCells}
 use Rattle.card_typing.specs.Typing.{IsLeastCardTyping}
 use Rattle.law_share.specs.Live.{Operates, Writes, MayLeadTo, IsLiveAt}
-use Rattle.law_share.specs.Variable.{Variable, AreVariables, no_variables, one_register, two_registers, HasRegister, Clash, Interferes, first_written, second_written}
+use Rattle.law_share.specs.Variable.{Variable, AreVariables, no_variables, one_register, two_registers, HasRegister, Clash, Interferes, first_written}
+use Rattle.law_share.specs.Variable.{second_written}
 use Rattle.law_share.specs.Sharing.{Allotted, FitsBeside, fits_after, fits_before, fits_with, IsLeastFit, AreAllotted, none_allotted, more_allotted}
 use Rattle.law_share.specs.Sharing.{IsNumbered, numbered_argument, numbered_variable, end_of}
-use Rattle.law_share.specs.Laws.{VariablesAreOne, AllotmentIsOne, MethodsShareInOneWay, SharingOrKept, HasNumber, RegistersHaveNumbers, RegistersAreNoMore, WrittenStayApart}
+use Rattle.law_share.specs.Laws.{VariablesAreOne, AllotmentIsOne, MethodsShareInOneWay, SharingOrKept, HasNumber, RegistersHaveNumbers}
+use Rattle.law_share.specs.Laws.{RegistersAreNoMore, WrittenStayApart}
 
 -- ---- one way
 
@@ -214,9 +216,11 @@ module _ (w : Linked) (m : Method) where
   either none_allotted a b among also = absurd among
   either (more_allotted k at fit rest) a b (inl here) (inl there) = inl (sym here ∙ there)
   either (more_allotted k at {before = before} fit rest) a b (inl here) (inr later) =
-      inr (inl (beside-before rest a b (subst (Contains (before ++ record { variable = k; at = at } ∷ [])) here (Contains-push before (record { variable = k; at = at }))) later))
+      inr (inl (beside-before rest a b (subst (Contains (before ++ record { variable = k; at = at } ∷ [])) here
+          (Contains-push before (record { variable = k; at = at }))) later))
   either (more_allotted k at {before = before} fit rest) a b (inr later) (inl there) =
-      inr (inr (beside-before rest b a (subst (Contains (before ++ record { variable = k; at = at } ∷ [])) there (Contains-push before (record { variable = k; at = at }))) later))
+      inr (inr (beside-before rest b a (subst (Contains (before ++ record { variable = k; at = at } ∷ [])) there
+          (Contains-push before (record { variable = k; at = at }))) later))
   either (more_allotted k at fit rest) a b (inr later) (inr also) = either rest a b later also
 
   -- where they share a register, they share all in their order, and don't interfere

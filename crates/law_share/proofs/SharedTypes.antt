@@ -24,7 +24,8 @@ use Rattle.law_share.specs.Sharing.{Allotted, AreAllotted, IsNumbered, numbered_
 use Rattle.law_share.specs.Renamed.{register_total}
 use Rattle.law_share.specs.Retyped.{AreRetyped, AreRegistersOf, HasShared, SharedHaveTypes}
 use Rattle.law_share.proofs.Allotting.{among-variable, arguments-before-end, before-end, no-argument}
-use Rattle.law_share.proofs.Types.{IsProper, all-proper, type_in, variable-type, width-most, types_in, types-length, HoldsTypes, all-hold, low-untouched, types-all}
+use Rattle.law_share.proofs.Types.{IsProper, all-proper, type_in, variable-type, width-most, types_in, types-length, HoldsTypes, all-hold}
+use Rattle.law_share.proofs.Types.{low-untouched, types-all}
 
 -- ---- lists
 
@@ -154,7 +155,8 @@ module _ (v : Linked) (links : IsWorld v) (m target : Method) (regs : List Ty) (
                 ∙ (slice_get-get_or others a.at Top (omega (arith, end_is, lt, size)) ∙ ap Some (holds a among).first)
             held a among (suc zero) lt =
                 let end_is = before-end v m given a among in
-                let two : a.variable.width ≡ 2 = (let most = (width-most a.variable (proper a.variable (among-variable v m all a among))).1 in omega (arith, most, lt)) in
+                let two : a.variable.width ≡ 2 = (let most = (width-most a.variable (proper a.variable (among-variable v m all a among))).1 in omega
+                    (arith, most, lt)) in
                 slice_get-get_or others (a.at + 1) Top (omega (arith, end_is, lt, size)) ∙ ap Some ((holds a among).second two)
             held a among (suc (suc n)) lt =
                 let most = (width-most a.variable (proper a.variable (among-variable v m all a among))).1 in

@@ -36,7 +36,8 @@ use Rattle.vm_bound.specs.declared.vertex.Vertex.{Vertex}
 use Rattle.vm_bound.specs.declared.vertex.Vertex.TheVariants.{Method, Means}
 use Rattle.vm_bound.specs.Vertices.{Stands}
 use Rattle.vm_bound.specs.Blocks.{IsHalf, Under, under_one, under_half, named, AreBlocks, blocks_of}
-use Rattle.vm_bound.specs.Edges.{target_of, target_in, target, shares, token_told, Owns, Supplies, IsSupplied, Leads, LeadsFromMethod, LeadsToBlocks, leads_block, LeadsFromDescribed, LeadsFromEntries, leads_own, leads_below, LeadsFromSpan, leads_half, leads_supplied}
+use Rattle.vm_bound.specs.Edges.{target_of, target_in, target, shares, token_told, Owns, Supplies, IsSupplied, Leads, LeadsFromMethod, LeadsToBlocks}
+use Rattle.vm_bound.specs.Edges.{leads_block, LeadsFromDescribed, LeadsFromEntries, leads_own, leads_below, LeadsFromSpan, leads_half, leads_supplied}
 use Rattle.vm_bound.specs.Rows.{HasNumber, IsCallGraph}
 use Rattle.vm_bound.proofs.Dispatching.{has-entry, entry-class, shares-between, dispatched-above}
 use Rattle.vm_bound.proofs.Graphing.{half-rises, edge-from, rank, rank-rises}

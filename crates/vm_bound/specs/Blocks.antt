@@ -1,6 +1,7 @@
 -- Which class serves an interface for which others, over blocks of an order of the classes (JCVM 2.2, section 6.8.2). An interface
 -- that many classes implement is served through few blocks, whose nodes all interfaces share.
-use Rattle.std.specs.Prelude.{◌≡◌, ℕ, ◌+◌, ◌*◌, ◌<◌, ◌≤◌, ◌⊎◌, ◌==◌, ◌++◌, true, if◌then◌else◌, List, [], ◌∷◌, length, Option, Some, None, Contains, find, slice_get, slice_index_or}
+use Rattle.std.specs.Prelude.{◌≡◌, ℕ, ◌+◌, ◌*◌, ◌<◌, ◌≤◌, ◌⊎◌, ◌==◌, ◌++◌, true, if◌then◌else◌, List, [], ◌∷◌, length, Option}
+use Rattle.std.specs.Prelude.{Some, None, Contains, find, slice_get, slice_index_or}
 use Rattle.jc_base.specs.declared.record.Iface.{Iface}
 use Rattle.jc_base.specs.Class.{ClassTable, IsClass, is_interface}
 use Rattle.vm_step.specs.Calls.{interfaces_of, serving}

@@ -1,6 +1,7 @@
 -- The edges of the graph of a world's calls (JCVM 2.2, sections 2.2.1, 4.3.7.6 and 6.8.2): which method a call runs is chosen step by
 -- step, so that no call has an edge to each method that it may run.
-use Rattle.std.specs.Prelude.{◌≡◌, ℕ, ◌+◌, ◌<◌, true, nat_lt, ◌==◌, ◌||◌, Bool, List, length, Option, Some, None, Result, Ok, Contains, slice_get}
+use Rattle.std.specs.Prelude.{◌≡◌, ℕ, ◌+◌, ◌<◌, true, nat_lt, ◌==◌, ◌||◌, Bool, List, length, Option, Some, None, Result, Ok}
+use Rattle.std.specs.Prelude.{Contains, slice_get}
 use Rattle.std.specs.Prelude.{option_and_then}
 use Rattle.jc_base.specs.declared.record.Iface.{Iface}
 use Rattle.jc_base.specs.declared.record.MethodRec.{MethodRec}

@@ -24,7 +24,8 @@ use Rattle.xf_live.specs.declared.interference.Interference.{Interference}
 use Rattle.xf_live.specs.Flow.{IsLiveIn, read_here, kept_on}
 use Rattle.xf_live.specs.Interference.{AreInterfering, ClashIn, InterfereIn, clash_forth, clash_back, live_first}
 use Rattle.xf_live.specs.Set.{Has}
-use Rattle.xf_allot.specs.Graph.{caught_at, IsBound, bound_first, bound_start, bound_end, IsBlank, IsNodeAt, IsFall, IsJump, IsOut, out_fall, out_jump, out_caught}
+use Rattle.xf_allot.specs.Graph.{caught_at, IsBound, bound_first, bound_start, bound_end, IsBlank, IsNodeAt, IsFall, IsJump, IsOut, out_fall}
+use Rattle.xf_allot.specs.Graph.{out_jump, out_caught}
 use Rattle.xf_allot.specs.Graph.{IsCatch, catch_before, catch_entry, IsEdgeAt, edge_out, edge_catch, IsGraphOf}
 use Rattle.xf_allot.specs.Graph.{AreApart, apart_forth, apart_back, apart_first, AreFound}
 

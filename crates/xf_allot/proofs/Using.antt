@@ -143,7 +143,8 @@ reads-in w op x = (
 
 -- ---- what is written
 
-writes-are : (w : Linked) (op : Operation) → IsStoring op → ((footprint w op).register ≡ (written_by op).first) × ((footprint w op).written ≡ (written_by op).count)
+writes-are : (w : Linked) (op : Operation) → IsStoring op → ((footprint w op).register ≡ (written_by op).first)
+    × ((footprint w op).written ≡ (written_by op).count)
 writes-are w (ops.Store sorts.Reference x) is = (refl, refl)
 writes-are w (ops.Store sorts.Short x) is = (refl, refl)
 writes-are w (ops.Store sorts.Int x) is = (refl, refl)

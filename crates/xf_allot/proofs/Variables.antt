@@ -149,7 +149,8 @@ module _ (w : Linked) (m : Method) where
   pub last-fits : (k : Variable) (before : List Allotted) → All (LiesBefore k.register) before
       → All (λ other. FitsBeside w m (variable_of k) k.register (allotted_of other)) before
   last-fits k before all =
-      All-weaker (LiesBefore k.register) (λ other. FitsBeside w m (variable_of k) k.register (allotted_of other)) (λ other lies. fits_after lies.given) before all
+      All-weaker (LiesBefore k.register) (λ other. FitsBeside w m (variable_of k) k.register (allotted_of other))
+          (λ other lies. fits_after lies.given) before all
 
   -- ---- one variable more
 
@@ -170,7 +171,8 @@ module _ (w : Linked) (m : Method) where
   numbers-length at zero = refl
   numbers-length at (suc width) = ap suc (numbers-length (at + 1) width)
 
-  numbered-on : (nargs : ℕ) (given : List sharing.Allotted) (a : sharing.Allotted) (x n : ℕ) → IsNumbered nargs given x n → IsNumbered nargs (given ++ a ∷ []) x n
+  numbered-on : (nargs : ℕ) (given : List sharing.Allotted) (a : sharing.Allotted) (x n : ℕ) → IsNumbered nargs given x n
+      → IsNumbered nargs (given ++ a ∷ []) x n
   numbered-on nargs given a x _ (numbered_argument lt) = numbered_argument lt
   numbered-on nargs given a x _ (numbered_variable b there has) = numbered_variable b (Contains-append_left given (a ∷ []) b there) has
 

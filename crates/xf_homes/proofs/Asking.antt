@@ -21,7 +21,8 @@ use Rattle.xf_homes.specs.Value.{value_in_cells}
 use Rattle.xf_homes.specs.declared.home.Home.{Home}
 use Rattle.xf_homes.specs.Walk.{Event, same_home, has, with_home, with_home_of_value, with_event, with_events, is_covered, local_of, caught_of, caught_events}
 use Rattle.xf_homes.specs.Walk.{local_events, locals_events, frame_events, place_events}
-use Rattle.xf_homes.specs.Asked.{knows, AreKnownAt, AreKnownFrom, LocalsAreKnown, covers_last, is_new, last_local, AreLastKnown, AreSameLocals, AreStill, NoneIsNew}
+use Rattle.xf_homes.specs.Asked.{knows, AreKnownAt, AreKnownFrom, LocalsAreKnown, covers_last, is_new, last_local, AreLastKnown, AreSameLocals}
+use Rattle.xf_homes.specs.Asked.{AreStill, NoneIsNew}
 use Rattle.xf_homes.specs.Asked.{HandlersAreAsked, last_after}
 use Rattle.xf_homes.proofs.Events.{home-itself}
 

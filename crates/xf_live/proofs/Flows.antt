@@ -121,14 +121,16 @@ linked uses edges edge old new are (gets_edge node after there set reads writes 
           (Contains-push_cases node.from.items edge.from n (subst (λ (ns : List ℕ). Contains ns n) from listed)),
     )
 
-    other : (n q : ℕ) (m : Node) → slice_get old q ≡ Some m → (q ≡ edge.to → ⊥) → Contains (edges ++ edge ∷ []) (record { «from» = n; to = q }) ↔ Contains m.from.items n
+    other : (n q : ℕ) (m : Node) → slice_get old q ≡ Some m → (q ≡ edge.to → ⊥) → Contains (edges ++ edge ∷ [])
+        (record { «from» = n; to = q }) ↔ Contains m.from.items n
     other n q m at apart = (
       λ listed. ⊎_elim (λ before. (are.edge n q m at).0 before) (λ now. absurd (apart (sym (ap (λ (e : Edge). e.to) now))))
           (Contains-push_cases edges edge (record { «from» = n; to = q }) listed),
       λ listed. Contains-append_left edges (edge ∷ []) (record { «from» = n; to = q }) ((are.edge n q m at).1 listed),
     )
 
-    by : (n q : ℕ) (m : Node) → slice_get (slice_set old edge.to after) q ≡ Some m → Contains (edges ++ edge ∷ []) (record { «from» = n; to = q }) ↔ Contains m.from.items n
+    by : (n q : ℕ) (m : Node) → slice_get (slice_set old edge.to after) q ≡ Some m
+        → Contains (edges ++ edge ∷ []) (record { «from» = n; to = q }) ↔ Contains m.from.items n
     by n q m at = elim (cases_eq q edge.to) [
       | inl same ↦
           let inside = slice_get_within old edge.to node there in

@@ -9,5 +9,6 @@ pub returns-clause-rises : goal.returns-clause-rises
 returns-clause-rises c = union-rises c.args.self c.args.other
 
 pub returns-clause-small : goal.returns-clause-small
-returns-clause-small c = union-small c.args.self c.args.other (record { first = search rules; second = search rules; third = search rules; fourth = search rules })
+returns-clause-small c = union-small c.args.self c.args.other
+    (record { first = search rules; second = search rules; third = search rules; fourth = search rules })
     (record { first = search rules; second = search rules; third = search rules; fourth = search rules })
