@@ -41,7 +41,8 @@ use Rattle.xf_homes.specs.Plan.{needed, register}
 use Rattle.xf_emission.specs.Edge.{is_stored}
 use Rattle.xf_emission.specs.Group.{body}
 use Rattle.law_homes.specs.Held.{HoldsValue, HoldsLocals}
-use Rattle.law_homes.specs.Laws.{CodesAgree, ExecutesStep, StepsExecute}
+use Rattle.law_homes.specs.Laws.{CodesAgree, ExecutesStep}
+use Rattle.law_homes.proofs.Standing.{steps-execute}
 use Rattle.law_groups.specs.Laid.{IsLaidIn, body_at, count_of, rename, steps_of}
 use Rattle.law_groups.specs.Beside.{IsUnderCall, StandsInGroup, MovesTop}
 use Rattle.law_groups.specs.Comes.{group_calls, group_ends, group_gives, group_raises, group_throws}
@@ -87,7 +88,7 @@ no-keys (ops.Switch width) keys others e = absurd (cc)
 no-keys _ keys others e = tt
 
 module _
-    (v w : Linked) (s : Source) (place : ℕ → ℕ) (laid : IsLaidIn v w s place) (executed : StepsExecute w)
+    {v w : Linked} {s : Source} {place : ℕ → ℕ} (laid : IsLaidIn v w s place)
     (i : Placed) (op : Operation) (z t : State Cell) (b : AreAtBody v w s place i op z t) (g : GroupSteps s i op) where
   abbrev e : Cell → Cell
   e = renamed_cell (rename s place)
@@ -112,15 +113,15 @@ module _
   room =
       let one = ap (max_stack_of v) b.of.source in
       let two = ap (max_stack_of w) b.of.target in
-      let three = source-room v w s place laid in
-      let four = target-room v w s place laid in
+      let three = source-room laid in
+      let four = target-room laid in
       omega (arith, one, two, three, four)
 
   -- the method of the source in its state
   pub method-is : b.executes.method ≡ s.method.rec
   method-is =
       same_Some b.executes.method s.method.rec
-      (sym b.executes.fetched.method ∙ (ap (slice_get v.methods) b.of.source ∙ (method-of v w s place laid).rec))
+      (sym b.executes.fetched.method ∙ (ap (slice_get v.methods) b.of.source ∙ (method-of laid).rec))
 
   -- before the first step of the body, the target is within the group
   pub within : (f k : Frame Cell) → f.method ≡ s.method.number → k.method ≡ s.method.number → length k.registers ≡ register_sum s.homes
@@ -153,10 +154,10 @@ module _
 
     pub ex : ExecutesStep w t place n plain other
     ex =
-        executed t laid.code.target.rec place (steps_of s) n i.place plain other runs-too
-        (ap (slice_get w.methods) b.of.target ∙ target-at v w s place laid)
+        steps-execute w laid.new t laid.code.target.rec place (steps_of s) n i.place plain other runs-too
+        (ap (slice_get w.methods) b.of.target ∙ target-at laid)
         (subst (λ m. AreSteps (code_at w m) place 0 (steps_of s) (listing (code_at w m))) (sym b.of.target)
-        (steps-are v w s place laid))
+        (steps-are laid))
         found b.at resolves
 
     pub codes :

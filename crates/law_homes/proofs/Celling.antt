@@ -32,7 +32,8 @@ use Rattle.law_homes.specs.Edges.{insns, top_at, IsBeside, AreMoved, CellsRun, S
 use Rattle.law_homes.specs.Held.{HoldsValue, slots}
 use Rattle.law_homes.specs.Moves.{letter_of, InstructionsStandFrom, IsAtStep}
 use Rattle.law_homes.proofs.Valued.{asked_types, CellsAt}
-use Rattle.law_homes.proofs.Beside.{AreLaws, each-among, among-each, own, register-inside, register-small, cells-valued, held-as, get-left}
+use Rattle.law_homes.proofs.Beside.{each-among, among-each, own, register-inside, register-small, cells-valued, held-as, get-left}
+use Rattle.law_homes.specs.Premises.{AreLaws}
 use Rattle.law_homes.proofs.Carrying.{same-letter, same-or-reference, ArePairs, no_pairs, more_pairs, cells-run}
 use Rattle.law_homes.proofs.Edging.{home-same}
 
