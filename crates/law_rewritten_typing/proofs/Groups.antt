@@ -25,7 +25,8 @@ use Rattle.law_rewritten_typing.proofs.Walks.{State, holding, left, Asked, nothi
 use Rattle.law_rewritten_typing.proofs.Ready.{IsReady}
 use Rattle.law_rewritten_typing.proofs.Renames.{named}
 use Rattle.law_rewritten_typing.proofs.Turns.{IsLesser}
-use Rattle.law_rewritten_typing.proofs.Running.{AreLaws, IsRecordFor, IsRun, IsPassed, kept-passed, load-passed}
+use Rattle.law_rewritten_typing.specs.Premises.{AreLaws}
+use Rattle.law_rewritten_typing.proofs.Running.{IsRecordFor, IsRun, IsPassed, kept-passed, load-passed}
 use Rattle.law_rewritten_typing.proofs.Storing.{increment-passed, store-passed}
 use Rattle.law_rewritten_typing.proofs.This.{read-passed, write-passed}
 use Rattle.law_rewritten_typing.proofs.Leading.{Arrives, fall-arrives, entered-flows}
