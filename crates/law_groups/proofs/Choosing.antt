@@ -73,7 +73,7 @@ use Rattle.law_groups.proofs.Following.{next-place, steps-here}
 use Rattle.law_groups.proofs.ForkSteps.{jump-step}
 use Rattle.law_groups.proofs.BareForks.{body-branch, branch-alone, labels_of, under-none}
 use Rattle.law_groups.proofs.Going.{group-inside}
-use Rattle.law_groups.proofs.OneGroup.{no-fault, same-method, turn-by}
+use Rattle.law_groups.proofs.OneGroup.{no-fault, same-method, stays-on, turn-by}
 use Rattle.law_groups.proofs.Placing.{count-append, stubs-stand-at-steps}
 use Rattle.law_groups.proofs.Standing.{stand-as, stand-inside}
 use Rattle.law_groups.proofs.Taking.{led-arrives}
@@ -326,27 +326,8 @@ module _
       a.equal a.of leader leads from_p m bare (subst (Each (HoldsValue s (slots (top y)) (top x))) (sym none) tt) before i k refl stands does
       some own at in
       let fewer = c.fewer in
-      group_stays y is (record {
-        count = loads + (1 + c.count);
-        more = omega arith;
-        fewer = omega (arith, few, fewer);
-        outcome = c.outcome;
-        runs = runs-then w loads (1 + c.count) t u c.outcome loaded (runs-then w 1 c.count u x c.outcome run c.runs);
-        comes = (
-          c.comes.state,
-          c.comes.is,
-          record {
-            first = first;
-            second = record {
-              frames =
-                  c.comes.are.second.frames
-                  ∙ ap (λ fs. top c.comes.state ∷ fs) (ap other_frames a.second.frames ∙ ap other_frames moves.frames);
-            };
-            equal = c.comes.are.equal;
-            group = c.comes.are.group;
-          },
-        );
-      })
+      stays-on y x (loads + 1) is first (runs-then w loads 1 t u (running x) loaded run)
+      (ap other_frames a.second.frames ∙ ap other_frames moves.frames) c (omega arith) (omega (arith, few, fewer))
 
   pub alone-group :
       (z t : State Cell) (o : Outcome Cell) (i : Placed) (op : Operation) (n : ℕ)

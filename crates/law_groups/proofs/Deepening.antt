@@ -52,7 +52,7 @@ use Rattle.law_homes.proofs.Beside.{among-each, each-among, held-as}
 use Rattle.law_homes.proofs.Loading.{step-place}
 use Rattle.law_groups.specs.Laid.{IsLaidIn, body_at, count_of, group_at, rename, steps_of}
 use Rattle.law_groups.specs.Beside.{AreEqualBut, AreOf, IsAtGroup, IsTypedAt, MovesTop, StaysTyped}
-use Rattle.law_groups.specs.Comes.{ComesToGroup, ComesWithin, GroupRuns, group_stays}
+use Rattle.law_groups.specs.Comes.{ComesToGroup, ComesWithin, GroupRuns}
 use Rattle.law_groups.specs.Steps.{ItemsStandFrom}
 use Rattle.law_groups.specs.Moves.{MovesRun}
 use Rattle.law_groups.proofs.Arriving.{at-step, beside, kept-registers, needed-local, other-holds, runs-then}
@@ -64,7 +64,7 @@ use Rattle.law_groups.proofs.Entering.{Entered, enters}
 use Rattle.law_groups.proofs.Following.{Next, next-of, steps-here}
 use Rattle.law_groups.proofs.ForkSteps.{jump-step}
 use Rattle.law_groups.proofs.BareForks.{body-branch, labels_of}
-use Rattle.law_groups.proofs.OneGroup.{no-fault, same-method}
+use Rattle.law_groups.proofs.OneGroup.{no-fault, same-method, stays-on}
 use Rattle.law_groups.proofs.Moving.{copies-move, count-moves, loads-move, moves-stand, spill-count, spill-moves}
 use Rattle.law_groups.proofs.Placing.{count-append}
 use Rattle.law_groups.proofs.Plain.{frames-are}
@@ -299,25 +299,8 @@ module _
         → GroupRuns v w s place z t o
     stayed most small c some_done =
         let fewer = c.fewer in
-        group_stays y is (record {
-          count = loads_done + c.count;
-          more = omega (arith, some_done);
-          fewer = omega (arith, few_loads, fewer, small);
-          outcome = c.outcome;
-          runs = runs-then w loads_done c.count t x c.outcome loaded c.runs;
-          comes = (
-            c.comes.state,
-            c.comes.is,
-            record {
-              first = record { frames = refl };
-              second = record {
-                frames = c.comes.are.second.frames ∙ ap (λ fs. top c.comes.state ∷ fs) (ap other_frames moves.frames);
-              };
-              equal = c.comes.are.equal;
-              group = c.comes.are.group;
-            },
-          );
-        })
+        stays-on y x loads_done is (record { frames = refl }) loaded (ap other_frames moves.frames) c (omega (arith, some_done))
+        (omega (arith, few_loads, fewer, small))
 
     -- to a target
     led :

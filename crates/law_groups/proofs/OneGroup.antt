@@ -29,8 +29,8 @@ use Rattle.xf_emission.specs.Group.{fall, fall_by, fallen}
 use Rattle.law_homes.specs.Held.{HoldsFrame}
 use Rattle.law_groups.specs.Laid.{IsLaidIn, body_at, rename}
 use Rattle.law_groups.specs.Beside.{AreEqualBut, IsAtGroup, IsTypedAt, MovesTop, SameUnder, StaysTyped}
-use Rattle.law_groups.specs.Comes.{AreAtGroup, GroupComes, GroupRuns, group_calls, group_ends, group_gives, group_leaves}
-use Rattle.law_groups.specs.Comes.{group_raises, group_stays, group_throws}
+use Rattle.law_groups.specs.Comes.{AreAtGroup, ComesToGroup, ComesWithin, GroupComes, GroupRuns, group_calls, group_ends, group_gives}
+use Rattle.law_groups.specs.Comes.{group_leaves, group_raises, group_stays, group_throws}
 use Rattle.law_groups.specs.Body.{AreAtBody, BodyComes, BodyRuns, body_done, body_falls}
 use Rattle.law_groups.specs.Moves.{MovesRun}
 use Rattle.law_groups.proofs.Arriving.{falls-arrive, runs-then}
@@ -133,6 +133,38 @@ module _ {v w : Linked} {s : Source} {place : ℕ → ℕ} (laid : IsLaidIn v w 
 
     pub at-group-too : (y x : State Cell) → AreAtGroup s place z u y x → AreAtGroup s place z t y x
     at-group-too y x a = record { first = a.first; second = under-too x a.second; equal = a.equal; group = a.group }
+
+-- ---- after steps of both
+
+module _
+    {v w : Linked} {s : Source} {place : ℕ → ℕ} {z t : State Cell} {o : Outcome Cell} (y u : State Cell) (before : ℕ)
+    (is : o ≡ running y) (first : SameUnder z y) (run : Runs tagged w before t (running u))
+    (same : other_frames u.frames ≡ other_frames t.frames) where
+  -- the source stays in the method, and the target goes on to the group of its place
+  pub stays-on :
+      {least most : ℕ}
+      → (c : ComesWithin w least most u (ComesToGroup s place y u))
+      → 1 ≤ before + c.count
+      → before + c.count ≤ 2000
+      → GroupRuns v w s place z t o
+  stays-on c some few =
+      group_stays y is (record {
+        count = before + c.count;
+        more = some;
+        fewer = few;
+        outcome = c.outcome;
+        runs = runs-then w before c.count t u c.outcome run c.runs;
+        comes = (
+          c.comes.state,
+          c.comes.is,
+          record {
+            first = first;
+            second = record { frames = c.comes.are.second.frames ∙ ap (λ fs. top c.comes.state ∷ fs) same };
+            equal = c.comes.are.equal;
+            group = c.comes.are.group;
+          },
+        );
+      })
 
 -- ---- where the operation is no branch
 

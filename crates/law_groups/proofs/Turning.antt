@@ -41,15 +41,15 @@ use Rattle.law_homes.specs.Edges.{HoldsAfter}
 use Rattle.law_homes.specs.Held.{HoldsValue}
 use Rattle.law_groups.specs.Laid.{IsLaidIn, body_at, rename}
 use Rattle.law_groups.specs.Beside.{AreEqualBut, AreOf, IsAtGroup, IsTypedAt, StaysTyped}
-use Rattle.law_groups.specs.Comes.{GroupRuns, group_stays}
+use Rattle.law_groups.specs.Comes.{GroupRuns}
 use Rattle.law_groups.specs.Steps.{ItemsStandFrom}
 use Rattle.law_groups.specs.Moves.{MovesRun}
-use Rattle.law_groups.proofs.Arriving.{beside, leader-keeps, runs-then, still-after}
+use Rattle.law_groups.proofs.Arriving.{beside, leader-keeps, still-after}
 use Rattle.law_groups.proofs.Context.{some-reached, typing-of}
 use Rattle.law_groups.proofs.Entering.{enters}
 use Rattle.law_groups.proofs.Following.{steps-here}
 use Rattle.law_groups.proofs.Going.{spilled-goes}
-use Rattle.law_groups.proofs.OneGroup.{no-fault, turn-by}
+use Rattle.law_groups.proofs.OneGroup.{no-fault, stays-on, turn-by}
 use Rattle.law_groups.proofs.Plain.{frames-are}
 use Rattle.law_groups.proofs.Standing.{stand-as}
 
@@ -158,22 +158,5 @@ module _
       let few = e.few in
       let more = c.more in
       let fewer = c.fewer in
-      group_stays y is (record {
-        count = e.count + c.count;
-        more = omega (arith, more);
-        fewer = omega (arith, few, fewer);
-        outcome = c.outcome;
-        runs = runs-then w e.count c.count t u c.outcome e.runs c.runs;
-        comes = (
-          c.comes.state,
-          c.comes.is,
-          record {
-            first = record { frames = refl };
-            second = record {
-              frames = c.comes.are.second.frames ∙ ap (λ fs. top c.comes.state ∷ fs) (ap other_frames e.moves.frames);
-            };
-            equal = c.comes.are.equal;
-            group = c.comes.are.group;
-          },
-        );
-      })
+      stays-on y u e.count is (record { frames = refl }) e.runs (ap other_frames e.moves.frames) c (omega (arith, more))
+      (omega (arith, few, fewer))
