@@ -16,7 +16,6 @@ use Rattle.jc_decode.specs.declared.insn.Placed.{Placed}
 use Rattle.jc_decode.specs.declared.symbols.Item.TheVariants.{Plain}
 use Rattle.jc_decode.proofs.Ranges.{op-fits}
 use Rattle.jc_decode.proofs.InstructionLists.{all-are-listed}
-use Rattle.jc_control.specs.WellFormed.{IsPlace}
 use Rattle.jc_ops.specs.declared.operation.Operation.TheVariants as ops
 use Rattle.jc_ops.specs.declared.operation.Sort.{Sort}
 use Rattle.jc_ops.specs.declared.operation.Sort.TheVariants as sorts
@@ -30,13 +29,11 @@ use Rattle.jc_rules.specs.Rule.{demands}
 use Rattle.vm_store.specs.declared.cell.Cell.{Cell}
 use Rattle.vm_store.specs.Cells.{tagged}
 use Rattle.vm_store.specs.State.{State, top}
-use Rattle.vm_step.specs.Methods.{code_at}
 use Rattle.vm_step.specs.Raising.{Outcome}
 use Rattle.vm_step.specs.Step.{Steps}
 use Rattle.law_erasure.specs.Erasure.{IsNoFault}
 use Rattle.law_alike.specs.Alike.{StayAlike, renamed_cell}
 use Rattle.law_alike.specs.Likeness.{StepsAreAlike}
-use Rattle.law_alike.proofs.Simulation.{one-step}
 use Rattle.xf_homes.specs.declared.home.Home.{Home}
 use Rattle.xf_homes.specs.Laws.{HasRegister, Serve}
 use Rattle.xf_homes.specs.Value.{value_in_cells, type_width}
@@ -62,16 +59,12 @@ use Rattle.law_homes.proofs.Beside.{among-each, each-among}
 use Rattle.law_homes.proofs.Copies.{wide}
 use Rattle.law_homes.proofs.Running.{increments-run-alike}
 use Rattle.law_homes.proofs.Homes.{homes-stay, written-hold}
-use Rattle.law_groups.specs.Laid.{IsLaidIn, body_at, count_of, rename}
+use Rattle.law_groups.specs.Laid.{IsLaidIn, body_at, rename}
 use Rattle.law_groups.specs.Body.{AreAtBody, BodyRuns}
 use Rattle.law_groups.proofs.Arriving.{needed-local}
-use Rattle.law_groups.proofs.Called.{called}
 use Rattle.law_groups.proofs.Context.{some-reached}
-use Rattle.law_groups.proofs.Following.{next-place, steps-here}
-use Rattle.law_groups.proofs.Plain.{alike, codes, comes, ex, method-is}
+use Rattle.law_groups.proofs.Plain.{alike, codes, ex, method-is, runs}
 use Rattle.law_groups.proofs.Reading.{IsHomeOf, home-is, small-register}
-use Rattle.law_groups.proofs.Standing.{stand-as, step-at}
-use Rattle.law_groups.proofs.Renaming.{renames-one-to-one}
 
 -- the letter of a number's loads
 abbrev letter_for : Width → Sort
@@ -264,7 +257,6 @@ module _
   unfolding body
   increment-runs w s place i counted x amount z t o laid b step fine =
       let op = ops.Increment counted x amount in
-      let g = steps-here laid i op b.stands b.reached b.does in
       let home = home-is laid types whole i op (letter_for counted) x (asks-same v counted x amount) b.stands b.reached b.does in
       let h : Home = record { slot = x; ty = home.ty } in
       let r : ℕ = register s h in
@@ -272,45 +264,30 @@ module _
       let other = ops.Increment counted r amount in
       let own : ℕ = body_at s i.place in
       let are : body s i op ≡ Plain insn ∷ [] = ap (increased s i) home.at in
-      let count : count_of (body s i op) ≡ 1 = ap count_of are in
-      let found = step-at s own (Plain insn) [] (record { insn = insn; targets = []; keys = [] }) []
-      (stand-as s own (body s i op) (Plain insn ∷ []) are g.body_steps) refl in
       let reached_here = some-reached laid i.place b.reached in
       let local_home = needed-local laid needs i.place x h reached_here home.among in
       let low : r < 256 = small-register v s h laid.world laid.planned local_home.has in
       let bytes = op-fits s.method.code i.place i.insn laid.planned.code.bytes ((all-are-listed s.method.code).decodes i b.stands) in
-      let same_method = method-is laid i op z t b g in
+      let same_method = method-is laid b in
       let resolves : Resolves w laid.code.target.rec i.place insn (Ok other) =
       operations-are-kept v w b.executes.method laid.code.target.rec i.place insn (Ok other) laid.code.same
       (ap apart_from_code same_method ∙ sym laid.code.has.same)
       (sym (increased-at v b.executes.method b.executes.method i.place i.place i.insn counted x r amount bytes low (sym b.executes.resolved))) in
-      let there = ex laid i op z t b g insn other count found resolves refl in
-      let agree = codes laid i op z t b g insn other count found resolves refl refl
-      (λ falls. subst (λ m. IsPlace (code_at w m) (place (own + 1))) (sym b.of.target)
-      (next-place laid i op b.stands b.reached b.does count refl)) in
+      let there = ex laid b insn other are resolves refl in
+      let agree = codes laid b insn other are resolves refl refl in
       let held : HoldsValue s (top z).registers (top t) h =
       among-each (HoldsValue s (top z).registers (top t)) (needed s i.place x) h (b.held.locals x) home.among in
       let wide_enough : type_width h.ty ≡ (footprint v op).written =
       wide home.ty ∙ (ap size home.letter_is ∙ sym (written-width v counted x amount)) in
       let run = increments-run-alike (renamed_cell (rename s place)) (rename s place) v w z t i there.instruction s h counted amount
-      (alike laid i op z t b g) agree held wide_enough in
-      let p = alike_steps w (rename s place) z t i there.instruction op other o laid.code.same (renames-one-to-one v w s place laid)
-      b.executes there.executes run step fine in
+      (alike laid b) agree held wide_enough in
       let serve : Serve s.world s.method s.frames s.homes =
       homes-serve same_type-decides s.world s.method s.frames s.homes laid.planned.homes in
-      record {
-        count = 1;
-        more = omega arith;
-        fewer = omega arith;
-        outcome = p.0;
-        runs = one-step w t p.0 p.1;
-        comes =
-            comes laid i op z t b g insn other count found resolves refl
-            (λ y u stays l.
-            each-among (HoldsValue s (top y).registers (top u)) (needed s i.place l)
-            (λ k among. still-held v (renamed_cell (rename s place)) s x r counted amount h refl refl wide_enough local_home.has serve
-            k (needed-local laid needs i.place l k reached_here among).has z t y u stays held
-            (apart-or-same laid types needs i.place x counted home l k among)
-            (among-each (HoldsValue s (top z).registers (top t)) (needed s i.place l) k (b.held.locals l) among)))
-            (λ k. refl) (called v i.insn op z) o p.0 p.2;
-      }
+      runs laid b insn other are resolves refl
+      (λ y u stays l.
+      each-among (HoldsValue s (top y).registers (top u)) (needed s i.place l)
+      (λ k among. still-held v (renamed_cell (rename s place)) s x r counted amount h refl refl wide_enough local_home.has serve
+      k (needed-local laid needs i.place l k reached_here among).has z t y u stays held
+      (apart-or-same laid types needs i.place x counted home l k among)
+      (among-each (HoldsValue s (top z).registers (top t)) (needed s i.place l) k (b.held.locals l) among)))
+      (λ k. refl) alike_steps o step fine run

@@ -12,7 +12,7 @@ use Rattle.jc_base.proofs.Lists.{All-slice_get}
 use Rattle.jc_base.proofs.SameTypes.{same_type-decides}
 use Rattle.jc_decode.specs.declared.insn.Placed.{Placed}
 use Rattle.jc_decode.specs.declared.symbols.Item.TheVariants.{Plain}
-use Rattle.jc_control.specs.WellFormed.{IsPlace, HasInstruction}
+use Rattle.jc_control.specs.WellFormed.{HasInstruction}
 use Rattle.jc_ops.specs.declared.operation.Operation.{Operation}
 use Rattle.jc_ops.specs.declared.operation.Operation.TheVariants as ops
 use Rattle.jc_ops.specs.declared.operation.Sort.{Sort}
@@ -27,13 +27,11 @@ use Rattle.jc_rules.specs.Rule.{demands}
 use Rattle.vm_store.specs.declared.cell.Cell.{Cell}
 use Rattle.vm_store.specs.Cells.{tagged}
 use Rattle.vm_store.specs.State.{State, top}
-use Rattle.vm_step.specs.Methods.{code_at}
 use Rattle.vm_step.specs.Raising.{Outcome}
 use Rattle.vm_step.specs.Step.{Steps}
 use Rattle.law_erasure.specs.Erasure.{IsNoFault}
 use Rattle.law_alike.specs.Alike.{renamed_cell}
 use Rattle.law_alike.specs.Likeness.{StepsAreAlike}
-use Rattle.law_alike.proofs.Simulation.{one-step}
 use Rattle.xf_homes.specs.declared.home.Home.{Home}
 use Rattle.xf_homes.specs.Home.{asked_here}
 use Rattle.xf_homes.specs.Value.{value_in_cells, type_width}
@@ -59,15 +57,11 @@ use Rattle.law_homes.proofs.Loading.{load-resolves}
 use Rattle.law_homes.proofs.Running.{loads-run-alike}
 use Rattle.law_homes.proofs.Homes.{locals-stay}
 use Rattle.law_homes.proofs.Unwritten.{loads-write-none}
-use Rattle.law_groups.specs.Laid.{IsLaidIn, body_at, count_of, rename}
+use Rattle.law_groups.specs.Laid.{IsLaidIn, body_at, rename}
 use Rattle.law_groups.specs.Body.{AreAtBody, BodyRuns}
 use Rattle.law_groups.proofs.Arriving.{needed-local}
-use Rattle.law_groups.proofs.Called.{called}
 use Rattle.law_groups.proofs.Context.{method-of, some-reached, typing-of}
-use Rattle.law_groups.proofs.Following.{next-place, steps-here}
-use Rattle.law_groups.proofs.Plain.{alike, codes, comes, ex}
-use Rattle.law_groups.proofs.Standing.{stand-as, step-at}
-use Rattle.law_groups.proofs.Renaming.{renames-one-to-one}
+use Rattle.law_groups.proofs.Plain.{alike, codes, ex, runs}
 
 -- the home of a local that is read with a letter
 pub record IsHomeOf (s : Source) (p x : ℕ) (letter : Sort) : Type 0 where
@@ -195,7 +189,6 @@ module _
   unfolding body
   load-runs w s place i letter x z t o laid b step fine =
       let op = ops.Load letter x in
-      let g = steps-here laid i op b.stands b.reached b.does in
       let home = home-is laid types whole i op letter x refl b.stands b.reached b.does in
       let h : Home = record { slot = x; ty = home.ty } in
       let r : ℕ = register s h in
@@ -203,36 +196,21 @@ module _
       let other = ops.Load letter r in
       let own : ℕ = body_at s i.place in
       let are : body s i op ≡ Plain insn ∷ [] = ap (loaded s i) home.at in
-      let count : count_of (body s i op) ≡ 1 = ap count_of are in
-      let found = step-at s own (Plain insn) [] (record { insn = insn; targets = []; keys = [] }) []
-      (stand-as s own (body s i op) (Plain insn ∷ []) are g.body_steps) refl in
       let reached_here = some-reached laid i.place b.reached in
       let local_home = needed-local laid needs i.place x h reached_here home.among in
       let low : r < 256 = small-register v s h laid.world laid.planned local_home.has in
       let resolves : Resolves w laid.code.target.rec i.place insn (Ok other) =
       subst (λ k. Resolves w laid.code.target.rec i.place insn (Ok (ops.Load k r))) home.letter_is
       (load-resolves w laid.code.target.rec i.place r home.ty low) in
-      let there = ex laid i op z t b g insn other count found resolves refl in
-      let agree = codes laid i op z t b g insn other count found resolves refl refl
-      (λ falls. subst (λ m. IsPlace (code_at w m) (place (own + 1))) (sym b.of.target)
-      (next-place laid i op b.stands b.reached b.does count refl)) in
+      let there = ex laid b insn other are resolves refl in
+      let agree = codes laid b insn other are resolves refl refl in
       let held : HoldsValue s (top z).registers (top t) h =
       among-each (HoldsValue s (top z).registers (top t)) (needed s i.place x) h (b.held.locals x) home.among in
       let wide_enough : type_width h.ty ≡ (footprint v op).given =
       wide home.ty ∙ (ap size home.letter_is ∙ sym (given-width v letter x)) in
       let run = loads-run-alike (renamed_cell (rename s place)) (rename s place) v w z t i there.instruction s h letter
-      (alike laid i op z t b g) agree held wide_enough in
-      let p = alike_steps w (rename s place) z t i there.instruction op other o laid.code.same (renames-one-to-one v w s place laid)
-      b.executes there.executes run step fine in
-      record {
-        count = 1;
-        more = omega arith;
-        fewer = omega arith;
-        outcome = p.0;
-        runs = one-step w t p.0 p.1;
-        comes =
-            comes laid i op z t b g insn other count found resolves refl
-            (λ y u stays. locals-stay (footprint v op) (footprint v other) z y t u s i.place stays.first stays.second
-            (loads-write-none v letter x) (loads-write-none v letter r) b.held.locals)
-            (λ k. refl) (called v i.insn op z) o p.0 p.2;
-      }
+      (alike laid b) agree held wide_enough in
+      runs laid b insn other are resolves refl
+      (λ y u stays. locals-stay (footprint v op) (footprint v other) z y t u s i.place stays.first stays.second
+      (loads-write-none v letter x) (loads-write-none v letter r) b.held.locals)
+      (λ k. refl) alike_steps o step fine run

@@ -12,7 +12,7 @@ use Rattle.jc_base.proofs.Lists.{All-slice_get}
 use Rattle.jc_base.proofs.SameTypes.{same_type-decides}
 use Rattle.jc_decode.specs.declared.insn.Placed.{Placed}
 use Rattle.jc_decode.specs.declared.symbols.Item.TheVariants.{Plain}
-use Rattle.jc_control.specs.WellFormed.{IsPlace, HasInstruction}
+use Rattle.jc_control.specs.WellFormed.{HasInstruction}
 use Rattle.jc_ops.specs.declared.operation.Operation.{Operation}
 use Rattle.jc_ops.specs.declared.operation.Sort.TheVariants as sorts
 use Rattle.jc_ops.specs.Alike.{IsAlike, equal}
@@ -27,14 +27,12 @@ use Rattle.jc_rules.proofs.Decides.{ok-same}
 use Rattle.vm_store.specs.declared.cell.Cell.{Cell}
 use Rattle.vm_store.specs.Cells.{tagged}
 use Rattle.vm_store.specs.State.{State, top}
-use Rattle.vm_step.specs.Methods.{code_at}
 use Rattle.vm_step.specs.Raising.{Outcome}
 use Rattle.vm_step.specs.Step.{Steps}
 use Rattle.law_erasure.specs.Erasure.{IsNoFault}
 use Rattle.law_alike.specs.Alike.{renamed_cell, renamed_new}
 use Rattle.law_alike.specs.Likeness.{StepsAreAlike}
 use Rattle.law_alike.specs.Running.{RunAlike}
-use Rattle.law_alike.proofs.Simulation.{one-step}
 use Rattle.xf_homes.specs.declared.home.Home.{Home}
 use Rattle.xf_homes.specs.Home.{asked_here}
 use Rattle.xf_homes.specs.Value.{value_in_cells}
@@ -51,15 +49,11 @@ use Rattle.law_rewritten_typing.proofs.Running.{found-below, is-reference, local
 use Rattle.law_homes.specs.Held.{HoldsValue}
 use Rattle.law_homes.proofs.Beside.{among-each, some-width}
 use Rattle.law_homes.proofs.Homes.{locals-stay}
-use Rattle.law_groups.specs.Laid.{IsLaidIn, body_at, count_of, rename}
+use Rattle.law_groups.specs.Laid.{IsLaidIn, body_at, rename}
 use Rattle.law_groups.specs.Body.{AreAtBody, BodyRuns}
-use Rattle.law_groups.proofs.Called.{called}
 use Rattle.law_groups.proofs.Context.{method-of, some-reached, typing-of}
-use Rattle.law_groups.proofs.Following.{next-place, steps-here}
-use Rattle.law_groups.proofs.Plain.{alike, codes, comes, ex, method-is}
+use Rattle.law_groups.proofs.Plain.{alike, codes, ex, method-is, runs}
 use Rattle.law_groups.proofs.Reading.{IsHomeOf, reference-letter}
-use Rattle.law_groups.proofs.Standing.{stand-as, step-at}
-use Rattle.law_groups.proofs.Renaming.{renames-one-to-one}
 
 -- what is asked of local 0
 abbrev pub AsksThis : Linked → Operation → ℕ → Type 0
@@ -131,20 +125,14 @@ module _ (v : Linked) (alike_steps : StepsAreAlike v) where
       → BodyRuns v w s place i op z t o
   stays-run w s place i op z t o ty laid b reads among at_zero kept step fine =
       let h : Home = record { slot = 0; ty = ty } in
-      let g = steps-here laid i op b.stands b.reached b.does in
       let own : ℕ = body_at s i.place in
       let f : ℕ → ℕ = λ q. place own in
-      let count : count_of (body s i op) ≡ 1 = ap count_of kept in
-      let found = step-at s own (Plain i.insn) [] (record { insn = i.insn; targets = []; keys = [] }) []
-      (stand-as s own (body s i op) (Plain i.insn ∷ []) kept g.body_steps) refl in
-      let same_method = method-is laid i op z t b g in
+      let same_method = method-is laid b in
       let resolves : Resolves w laid.code.target.rec i.place i.insn (Ok op) =
       operations-are-kept v w b.executes.method laid.code.target.rec i.place i.insn (Ok op) laid.code.same
       (ap apart_from_code same_method ∙ sym laid.code.has.same) b.executes.resolved in
-      let there = ex laid i op z t b g i.insn op count found resolves refl in
-      let agree = codes laid i op z t b g i.insn op count found resolves refl reads.still
-      (λ falls. subst (λ m. IsPlace (code_at w m) (place (own + 1))) (sym b.of.target)
-      (next-place laid i op b.stands b.reached b.does count reads.falls)) in
+      let there = ex laid b i.insn op kept resolves refl in
+      let agree = codes laid b i.insn op kept resolves refl reads.still in
       let again : demands w (renamed_new f op) ≡ demands v op = ap (demands w) (reads.same f) ∙ sym (demands-are-kept v w op laid.code.same) in
       let held : HoldsValue s (top z).registers (top t) h =
       among-each (HoldsValue s (top z).registers (top t)) (needed s i.place 0) h (b.held.locals 0) among in
@@ -158,7 +146,7 @@ module _ (v : Linked) (alike_steps : StepsAreAlike v) where
         keys = agree.keys;
         targets = agree.targets;
         next = agree.next;
-        states = alike laid i op z t b g;
+        states = alike laid b;
         named = let e = ap registers_asked again ∙ reads.asked in omega (arith, e, inside, wide_enough);
         read =
             ap (λ ds. map (slice_get (top t).registers) (registers_read ds)) again
@@ -166,17 +154,7 @@ module _ (v : Linked) (alike_steps : StepsAreAlike v) where
             ∙ (ap (λ c. c ∷ []) first ∙ sym (ap (map (slice_get (top z).registers)) reads.read)));
         room = agree.room;
       } in
-      let p = alike_steps w (rename s place) z t i there.instruction op (renamed_new f op) o laid.code.same (renames-one-to-one v w s place laid)
-      b.executes there.executes run step fine in
-      record {
-        count = 1;
-        more = omega arith;
-        fewer = omega arith;
-        outcome = p.0;
-        runs = one-step w t p.0 p.1;
-        comes =
-            comes laid i op z t b g i.insn op count found resolves refl
-            (λ y u stays. locals-stay (footprint v op) (footprint v (renamed_new f op)) z y t u s i.place stays.first stays.second
-            reads.written (ap (λ k. (footprint v k).written) (reads.same f) ∙ reads.written) b.held.locals)
-            reads.unstored (called v i.insn op z) o p.0 p.2;
-      }
+      runs laid b i.insn op kept resolves refl
+      (λ y u stays. locals-stay (footprint v op) (footprint v (renamed_new f op)) z y t u s i.place stays.first stays.second
+      reads.written (ap (λ k. (footprint v k).written) (reads.same f) ∙ reads.written) b.held.locals)
+      reads.unstored alike_steps o step fine run

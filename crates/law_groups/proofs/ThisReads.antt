@@ -246,7 +246,7 @@ module _
 
     resolves : Resolves w laid.code.target.rec i.place (record i.insn { op = i.insn.op - from_read }) (Ok (ops.FieldRead fd holders.Stack))
     resolves =
-        let same_method = method-is laid i (ops.FieldRead fd holders.This) z t b g in
+        let same_method = method-is laid b in
         let own : Resolves w laid.code.target.rec i.place i.insn (Ok (ops.FieldRead fd holders.This)) =
         operations-are-kept v w b.executes.method laid.code.target.rec i.place i.insn (Ok (ops.FieldRead fd holders.This)) laid.code.same
         (ap apart_from_code same_method ∙ sym laid.code.has.same) b.executes.resolved in

@@ -189,7 +189,7 @@ module _
 
     own : Resolves w laid.code.target.rec i.place i.insn (Ok (ops.FieldWrite fd holders.This))
     own =
-        let same_method = method-is laid i (ops.FieldWrite fd holders.This) z t b g in
+        let same_method = method-is laid b in
         operations-are-kept v w b.executes.method laid.code.target.rec i.place i.insn (Ok (ops.FieldWrite fd holders.This)) laid.code.same
         (ap apart_from_code same_method ∙ sym laid.code.has.same) b.executes.resolved
 
