@@ -195,105 +195,105 @@ module _
         → StayAlike e (footprint v op) (footprint v own) z y t u
         → HoldsLocals s i.place (top y) (top u))
         (unstored : (x : ℕ) → is_stored op x ≡ false) where
-        after : (y u : State Cell) → StayAlike e (footprint v op) (footprint v own) z y t u → AreAfter s place i.place op z t y u
-        after y u stay = record {
-          first = record { frames = stay.first.frames };
-          second = record { frames = stay.second.frames };
-          equal = record { frames = stay.alike.frames; heap = stay.alike.heap; statics = stay.alike.statics };
-          of = record {
-            source = stay.first.method ∙ b.of.source;
-            target = stay.second.method ∙ b.of.target;
-            count = stay.second.count ∙ b.of.count;
-          };
-          stack = stay.alike.stack;
-          holds = record {
-            stored = λ x h. absurd (false≢true (sym (unstored x) ∙ h));
-            others = λ x. Each-weaker (HoldsValue s (top y).registers (top u)) _ (λ h held free. held) (needed s i.place x) (kept y u stay x);
-          };
-        }
+      after : (y u : State Cell) → StayAlike e (footprint v op) (footprint v own) z y t u → AreAfter s place i.place op z t y u
+      after y u stay = record {
+        first = record { frames = stay.first.frames };
+        second = record { frames = stay.second.frames };
+        equal = record { frames = stay.alike.frames; heap = stay.alike.heap; statics = stay.alike.statics };
+        of = record {
+          source = stay.first.method ∙ b.of.source;
+          target = stay.second.method ∙ b.of.target;
+          count = stay.second.count ∙ b.of.count;
+        };
+        stack = stay.alike.stack;
+        holds = record {
+          stored = λ x h. absurd (false≢true (sym (unstored x) ∙ h));
+          others = λ x. Each-weaker (HoldsValue s (top y).registers (top u)) _ (λ h held free. held) (needed s i.place x) (kept y u stay x);
+        };
+      }
 
-        under-call :
-            (count : ℕ) (y u : State Cell) (c : Callee)
-            → StayAlike e (footprint v op) (footprint v own) z y t u
-            → op ≡ ops.Call c
-            → (top y).place ≡ (top z).place
-            → (top u).place ≡ (top t).place
-            → IsUnderCall s place
-            (record (top y) { stack = drop count (top y).stack })
-            (record (top u) { stack = drop count (top u).stack })
-        unfolding within
-        under-call count y u c stay is here there = record {
-          within =
-              within (record (top y) { stack = drop count (top y).stack }) (record (top u) { stack = drop count (top u).stack })
-              (stay.first.method ∙ b.of.source) (stay.second.method ∙ b.of.target) (stay.second.count ∙ b.of.count)
-              (here ∙ b.here) (there ∙ b.at) (omega (arith, one))
-              (λ x. each-over s (top y).registers (top u) (record (top u) { stack = drop count (top u).stack }) refl
-              (needed s i.place x) (kept y u stay x));
-          callee = c;
-          calls = b.does ∙ ap Ok is;
-          first = ap (body_at s) (sym (here ∙ b.here));
-          stack = ap (drop count) stay.alike.stack ∙ drop-map e count (top y).stack;
-        }
+      under-call :
+          (count : ℕ) (y u : State Cell) (c : Callee)
+          → StayAlike e (footprint v op) (footprint v own) z y t u
+          → op ≡ ops.Call c
+          → (top y).place ≡ (top z).place
+          → (top u).place ≡ (top t).place
+          → IsUnderCall s place
+          (record (top y) { stack = drop count (top y).stack })
+          (record (top u) { stack = drop count (top u).stack })
+      unfolding within
+      under-call count y u c stay is here there = record {
+        within =
+            within (record (top y) { stack = drop count (top y).stack }) (record (top u) { stack = drop count (top u).stack })
+            (stay.first.method ∙ b.of.source) (stay.second.method ∙ b.of.target) (stay.second.count ∙ b.of.count)
+            (here ∙ b.here) (there ∙ b.at) (omega (arith, one))
+            (λ x. each-over s (top y).registers (top u) (record (top u) { stack = drop count (top u).stack }) refl
+            (needed s i.place x) (kept y u stay x));
+        callee = c;
+        calls = b.does ∙ ap Ok is;
+        first = ap (body_at s) (sym (here ∙ b.here));
+        stack = ap (drop count) stay.alike.stack ∙ drop-map e count (top y).stack;
+      }
 
-        thrown-from : MovesTop t t × StandsInGroup s place (top z) (top t)
-        thrown-from = (
-          record { frames = frames-are t runs-too; heap = refl; statics = refl },
-          within (top z) (top t) b.of.source b.of.target b.of.count b.here b.at (omega (arith, one)) b.held.locals,
-        )
+      thrown-from : MovesTop t t × StandsInGroup s place (top z) (top t)
+      thrown-from = (
+        record { frames = frames-are t runs-too; heap = refl; statics = refl },
+        within (top z) (top t) b.of.source b.of.target b.of.count b.here b.at (omega (arith, one)) b.held.locals,
+      )
 
-        comes :
-            (o p : Outcome Cell)
-            → ComeAlike tagged e v w z t i ex.instruction op own o p
-            → BodyComes v w s place i op z t o p
-        comes _ _ (next_alike {z = y} {y = u} stay falls here there) =
-            body_falls (after y u stay) (falls-as falls) here
-            (there ∙ (ex.ends ∙ ap (λ k. place (n + k)) (sym one)))
-        comes _ _ (target_alike k stay here there) =
-            let none : slice_get [] k ≡ Some _ = ap (λ ts. slice_get ts k) (sym ex.is.leads) ∙ there in
-            absurd (let lt = slice_get_within [] k _ none in omega (arith, lt))
-        comes o p (call_alike method count {z = y} {y = u} stay here there handed acts enters too) =
-            let c = called v i.insn op z method count y acts in
-            body_done (group_calls (record {
-              instruction = i;
-              op = op;
-              executes = b.executes;
-              method = method;
-              count = count;
-              source = y;
-              target = u;
-              first = record { frames = stay.first.frames };
-              second = record { frames = stay.second.frames };
-              equal = record { frames = stay.alike.frames; heap = stay.alike.heap; statics = stay.alike.statics };
-              handed = handed;
-              waits = under-call count y u c.0 stay c.1 here there;
-              acts = acts;
-              enters = enters;
-              too = too;
-            }))
-        comes o p (return_alike value cells plain-cells acts gives too) =
-            body_done (group_gives value cells (λ f. plain-cells (renamed_cell f) (renamed-keeps f)) gives too)
-        comes o p (exception_alike exception acts raises too) =
-            body_done (group_raises exception t (record { moves = thrown-from.0; within = thrown-from.1 }) raises too)
-        comes o p (throw_alike handle acts throws too) =
-            body_done (group_throws handle t (record { moves = thrown-from.0; within = thrown-from.1 }) throws too)
-        comes _ _ (end_alike ending y) = body_done (group_ends ending y)
+      comes :
+          (o p : Outcome Cell)
+          → ComeAlike tagged e v w z t i ex.instruction op own o p
+          → BodyComes v w s place i op z t o p
+      comes _ _ (next_alike {z = y} {y = u} stay falls here there) =
+          body_falls (after y u stay) (falls-as falls) here
+          (there ∙ (ex.ends ∙ ap (λ k. place (n + k)) (sym one)))
+      comes _ _ (target_alike k stay here there) =
+          let none : slice_get [] k ≡ Some _ = ap (λ ts. slice_get ts k) (sym ex.is.leads) ∙ there in
+          absurd (let lt = slice_get_within [] k _ none in omega (arith, lt))
+      comes o p (call_alike method count {z = y} {y = u} stay here there handed acts enters too) =
+          let c = called v i.insn op z method count y acts in
+          body_done (group_calls (record {
+            instruction = i;
+            op = op;
+            executes = b.executes;
+            method = method;
+            count = count;
+            source = y;
+            target = u;
+            first = record { frames = stay.first.frames };
+            second = record { frames = stay.second.frames };
+            equal = record { frames = stay.alike.frames; heap = stay.alike.heap; statics = stay.alike.statics };
+            handed = handed;
+            waits = under-call count y u c.0 stay c.1 here there;
+            acts = acts;
+            enters = enters;
+            too = too;
+          }))
+      comes o p (return_alike value cells plain-cells acts gives too) =
+          body_done (group_gives value cells (λ f. plain-cells (renamed_cell f) (renamed-keeps f)) gives too)
+      comes o p (exception_alike exception acts raises too) =
+          body_done (group_raises exception t (record { moves = thrown-from.0; within = thrown-from.1 }) raises too)
+      comes o p (throw_alike handle acts throws too) =
+          body_done (group_throws handle t (record { moves = thrown-from.0; within = thrown-from.1 }) throws too)
+      comes _ _ (end_alike ending y) = body_done (group_ends ending y)
 
-        -- so the step of the target comes to what that of the source comes to
-        pub runs :
-            StepsAreAlike v
-            → (o : Outcome Cell)
-            → Steps tagged v z o
-            → IsNoFault o
-            → RunAlike e (rename s place) v w z t i ex.instruction op own
-            → BodyRuns v w s place i op z t o
-        runs alike_steps o step fine run =
-            let p = alike_steps w (rename s place) z t i ex.instruction op own o laid.code.same (renames-one-to-one v w s place laid)
-            b.executes ex.executes run step fine in
-            record {
-              count = 1;
-              more = omega arith;
-              fewer = omega arith;
-              outcome = p.0;
-              runs = one-step w t p.0 p.1;
-              comes = comes o p.0 p.2;
-            }
+      -- so the step of the target comes to what that of the source comes to
+      pub runs :
+          StepsAreAlike v
+          → (o : Outcome Cell)
+          → Steps tagged v z o
+          → IsNoFault o
+          → RunAlike e (rename s place) v w z t i ex.instruction op own
+          → BodyRuns v w s place i op z t o
+      runs alike_steps o step fine run =
+          let p = alike_steps w (rename s place) z t i ex.instruction op own o laid.code.same (renames-one-to-one v w s place laid)
+          b.executes ex.executes run step fine in
+          record {
+            count = 1;
+            more = omega arith;
+            fewer = omega arith;
+            outcome = p.0;
+            runs = one-step w t p.0 p.1;
+            comes = comes o p.0 p.2;
+          }

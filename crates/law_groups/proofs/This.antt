@@ -16,7 +16,7 @@ use Rattle.jc_control.specs.WellFormed.{HasInstruction}
 use Rattle.jc_ops.specs.declared.operation.Operation.{Operation}
 use Rattle.jc_ops.specs.declared.operation.Sort.TheVariants as sorts
 use Rattle.jc_ops.specs.Alike.{IsAlike, equal}
-use Rattle.jc_ops.specs.Next.{falls_from, jumps_from}
+use Rattle.jc_ops.specs.Next.{jumps_from}
 use Rattle.jc_ops.specs.Resolve.{Resolves}
 use Rattle.jc_rules.specs.Demand.{SatisfiesAll, Frame as Types}
 use Rattle.jc_rules.specs.Flow.{IsDerived, IsFollowed}
@@ -108,7 +108,6 @@ pub record ReadsThis (v : Linked) (op : Operation) : Type 0 where
   pub still : jumps_from op ≡ false
   pub same : (f : ℕ → ℕ) → renamed_new f op ≡ op
   pub unstored : (x : ℕ) → is_stored op x ≡ false
-  pub falls : falls_from op ≡ true
 
 module _ (v : Linked) (alike_steps : StepsAreAlike v) where
   -- where register 0 is the home of local 0 the instruction stays

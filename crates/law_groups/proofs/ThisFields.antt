@@ -40,7 +40,6 @@ reads-this v f = record {
   still = refl;
   same = λ g. refl;
   unstored = λ x. refl;
-  falls = refl;
 }
 
 kept-body :

@@ -133,6 +133,57 @@ same-locals s p f g k e locals x =
       equal = λ n lt. ap (λ (rs : List Cell). slice_get rs (register s h + n)) e ∙ held.equal n lt;
     }) (needed s p x) (locals x)
 
+-- ---- the load of the object, where register 0 is not the home of local 0
+
+module _
+    {v w : Linked} {s : Source} {place : ℕ → ℕ} (laid : IsLaidIn v w s place) (l : AreLaws v w) {i : Placed} {op : Operation}
+    (f : Frame Cell) (below : List (Frame Cell)) (heap : List (Object Cell)) (statics : List Cell) (t : State Cell)
+    (b : AreAtBody v w s place i op (record { frames = f ∷ below; heap = heap; statics = statics }) t)
+    (home : IsHomeOf s i.place 0 sorts.Reference)
+    (stand : StandAmong (steps_of s) (body_at s i.place) (load_of s (record { slot = 0; ty = home.ty }) ∷ []))
+    (inside : body_at s i.place + 1 < length (steps_of s)) where
+  beside_z : IsBeside w s f.place f t
+  beside_z = beside laid _ t b.typed b.equal.heap b.of
+
+  held : HoldsValue s f.registers (top t) (record { slot = 0; ty = home.ty })
+  held = among-each (HoldsValue s f.registers (top t)) (needed s i.place 0) (record { slot = 0; ty = home.ty }) (b.held.locals 0) home.among
+
+  some : 0 < type_width home.ty
+  some = let e = wide home.ty in let k = ap size home.letter_is in omega (arith, e, k)
+
+  cell_is : nth tagged (top t).registers (register s (record { slot = 0; ty = home.ty })) ≡ nth tagged f.registers 0
+  cell_is =
+      let here : register s (record { slot = 0; ty = home.ty }) ≡ register s (record { slot = 0; ty = home.ty }) + 0 = omega arith in
+      ap (nth tagged (top t).registers) here ∙ register-same f.registers (top t).registers 0 (register s (record { slot = 0; ty = home.ty }) + 0)
+      (held.equal 0 some)
+
+  pub this-loaded :
+      Runs tagged w 1 t (running (top_at t (place (body_at s i.place + 1)) (top t).registers (nth tagged f.registers 0 ∷ (top t).stack)))
+  this-loaded =
+      let valued = needed-valued v w l s laid.world laid.planned f.place f t beside_z 0 (record { slot = 0; ty = home.ty })
+      (subst (λ (p : ℕ). IsAmong (record { slot = 0; ty = home.ty }) (needed s p 0)) (sym b.here) home.among) in
+      let stack_is : value_in_register (letter_of home.ty) (register s (record { slot = 0; ty = home.ty })) (top t).registers ++ (top t).stack
+      ≡ nth tagged f.registers 0 ∷ (top t).stack =
+      ap (λ (a : Sort). value_in_register a (register s (record { slot = 0; ty = home.ty })) (top t).registers ++ (top t).stack) home.letter_is
+      ∙ ap (λ (d : Cell). d ∷ (top t).stack) cell_is in
+      let deep = depth-fits laid _ b.typed in
+      let e = ap length b.held.stack in
+      let m = length-map f.stack (renamed_cell (rename s place)) in
+      let own = target-room laid in
+      let method = ap (max_stack_of w) b.of.target in
+      let fits : length (value_in_register (letter_of home.ty) (register s (record { slot = 0; ty = home.ty })) (top t).registers ++ (top t).stack) ≤
+      max_stack_of w (top t).method =
+      omega (arith, ap length stack_is, deep, e, m, own, method) in
+      let ran = loads-run w l.world place (steps_of s) t (body_at s i.place) s (record { slot = 0; ty = home.ty } ∷ [])
+      (at-step laid t (body_at s i.place) 1 (omega (arith, b.equal.frames)) b.of.target b.at (omega (arith, inside))) stand (
+        held-can-load w s f.registers t (record { slot = 0; ty = home.ty })
+            (register-small v w l s laid.world laid.planned (record { slot = 0; ty = home.ty }) valued.1.has) held valued.2,
+        tt,
+      ) fits in
+      subst (λ (cs : List Cell). Runs tagged w 1 t (running (top_at t (place (body_at s i.place + 1)) (top t).registers cs))) stack_is ran
+
+-- ---- the read
+
 module _
     {v w : Linked} {s : Source} {place : ℕ → ℕ} (laid : IsLaidIn v w s place)
     (world : IsWorld v) (decided : OperationsAreDecided v) (laws : (w : Linked) → IsExecutable w → AreLaws v w)
@@ -164,9 +215,6 @@ module _
       (step : Steps tagged v z o) (fine : IsNoFault o) (typed_after : StaysTyped v s o) where
     abbrev h : Home
     h = record { slot = 0; ty = home.ty }
-
-    l : AreLaws v w
-    l = laws w laid.new
 
     body_is : body s i (ops.FieldRead fd holders.This) ≡ load s (record { slot = 0; ty = home.ty }) ∷ Plain (record i.insn { op = i.insn.op - from_read }) ∷ []
     unfolding body
@@ -201,46 +249,8 @@ module _
     has : HasSettled v i (ops.FieldRead fd holders.This) f below heap statics o
     has = has-settled v world decided i (ops.FieldRead fd holders.This) f below heap statics o b.executes step fine
 
-    beside_z : IsBeside w s f.place f t
-    beside_z = beside laid z t b.typed b.equal.heap b.of
-
-    -- ---- the load
-
-    held : HoldsValue s f.registers (top t) (record { slot = 0; ty = home.ty })
-    held = among-each (HoldsValue s f.registers (top t)) (needed s i.place 0) (record { slot = 0; ty = home.ty }) (b.held.locals 0) home.among
-
-    some : 0 < type_width home.ty
-    some = let e = wide home.ty in let k = ap size home.letter_is in omega (arith, e, k)
-
-    cell_is : nth tagged (top t).registers (register s (record { slot = 0; ty = home.ty })) ≡ nth tagged f.registers 0
-    cell_is =
-        let here : register s (record { slot = 0; ty = home.ty }) ≡ register s (record { slot = 0; ty = home.ty }) + 0 = omega arith in
-        ap (nth tagged (top t).registers) here ∙ register-same f.registers (top t).registers 0 (register s (record { slot = 0; ty = home.ty }) + 0)
-        (held.equal 0 some)
-
     loaded : Runs tagged w 1 t (running t1)
-    loaded =
-        let valued = needed-valued v w l s laid.world laid.planned f.place f t beside_z 0 (record { slot = 0; ty = home.ty })
-        (subst (λ (p : ℕ). IsAmong (record { slot = 0; ty = home.ty }) (needed s p 0)) (sym b.here) home.among) in
-        let stack_is : value_in_register (letter_of home.ty) (register s (record { slot = 0; ty = home.ty })) (top t).registers ++ (top t).stack
-        ≡ nth tagged f.registers 0 ∷ (top t).stack =
-        ap (λ (a : Sort). value_in_register a (register s (record { slot = 0; ty = home.ty })) (top t).registers ++ (top t).stack) home.letter_is
-        ∙ ap (λ (d : Cell). d ∷ (top t).stack) cell_is in
-        let deep = depth-fits laid z b.typed in
-        let e = ap length b.held.stack in
-        let m = length-map f.stack (renamed_cell (rename s place)) in
-        let own = target-room laid in
-        let method = ap (max_stack_of w) b.of.target in
-        let fits : length (value_in_register (letter_of home.ty) (register s (record { slot = 0; ty = home.ty })) (top t).registers ++ (top t).stack) ≤
-        max_stack_of w (top t).method =
-        omega (arith, ap length stack_is, deep, e, m, own, method) in
-        let ran = loads-run w l.world place (steps_of s) t (body_at s i.place) s (record { slot = 0; ty = home.ty } ∷ [])
-        (at-step laid t (body_at s i.place) 1 runs_t b.of.target b.at (omega (arith, further))) (there.0, tt) (
-          held-can-load w s f.registers t (record { slot = 0; ty = home.ty })
-              (register-small v w l s laid.world laid.planned (record { slot = 0; ty = home.ty }) valued.1.has) held valued.2,
-          tt,
-        ) fits in
-        subst (λ (cs : List Cell). Runs tagged w 1 t (running (top_at t (place (body_at s i.place + 1)) (top t).registers cs))) stack_is ran
+    loaded = this-loaded laid (laws w laid.new) f below heap statics t b home (there.0, tt) (omega (arith, further))
 
     -- ---- the field
 

@@ -41,7 +41,6 @@ writes-this v f = record {
   still = refl;
   same = λ g. refl;
   unstored = λ x. refl;
-  falls = refl;
 }
 
 kept-body :
