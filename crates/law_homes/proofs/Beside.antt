@@ -17,7 +17,7 @@ use Rattle.vm_store.specs.declared.cell.Cell.{Cell}
 use Rattle.vm_store.specs.declared.kind.ObjectKind.{ObjectKind}
 use Rattle.vm_store.specs.Typing.{least_type}
 use Rattle.vm_store.specs.Objects.{kinds}
-use Rattle.vm_store.specs.State.{State, Frame, top}
+use Rattle.vm_store.specs.State.{State, Frame, Object, top}
 use Rattle.vm_store.proofs.Stacks.{reverse-map}
 use Rattle.law_sound.specs.Frames.{least_types, types_of_frame}
 use Rattle.xf_homes.specs.declared.home.Home.{Home}
@@ -49,6 +49,25 @@ pub among-each : (P : Home → Type 0) (hs : List Home) (h : Home) → Each P hs
 among-each P [] h all a = absurd a
 among-each P (k ∷ ks) h all (inl e) = subst P e all.0
 among-each P (k ∷ ks) h all (inr a) = among-each P ks h all.1 a
+
+-- a state whose frame on top is at this place
+pub placed-state :
+    (g : Frame Cell) (below : List (Frame Cell)) (heap : List (Object Cell)) (statics : List Cell) (p : ℕ)
+    → g.place ≡ p
+    → ◌≡◌ {A = State Cell}
+    (record {
+      frames = record { method = g.method; place = p; registers = g.registers; stack = g.stack } ∷ below;
+      heap = heap;
+      statics = statics;
+    })
+    (record { frames = g ∷ below; heap = heap; statics = statics })
+placed-state g below heap statics p at =
+    ap
+    (λ (q : ℕ). record {
+      frames = record { method = g.method; place = q; registers = g.registers; stack = g.stack } ∷ below;
+      heap = heap;
+      statics = statics;
+    }) (sym at)
 
 -- ---- held values, whatever else the frame has
 
