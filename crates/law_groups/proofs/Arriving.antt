@@ -42,7 +42,7 @@ use Rattle.xf_emission.specs.Move.{spill}
 use Rattle.xf_emission.specs.Group.{body, fall, fallen, group}
 use Rattle.law_rewritten_typing.specs.Planned.{KeepsValues}
 use Rattle.law_rewritten_typing.specs.Edges.{CellsFillStack, LeadsTo, NeededHaveHomes, leads_after}
-use Rattle.law_homes.specs.Edges.{CellsAreFew, CopiesAreFew, EdgesRun, HoldsAfter, IsBeside, KeptStacksStay, StacksSpill, insns, top_at}
+use Rattle.law_homes.specs.Edges.{HoldsAfter, IsBeside, insns, top_at}
 use Rattle.law_homes.specs.Held.{HoldsFrame, HoldsValue, Waits, slots}
 use Rattle.law_homes.specs.Moves.{IsAtStep}
 use Rattle.law_homes.proofs.Beside.{each-among, among-each, held-as}
@@ -50,7 +50,8 @@ use Rattle.law_groups.specs.Laid.{IsLaidIn, body_at, count_of, group_at, rename,
 use Rattle.law_groups.specs.Beside.{AreOf, HeldOrWaits, IsTypedAt}
 use Rattle.law_groups.specs.Comes.{AreAtGroup}
 use Rattle.law_groups.specs.Body.{AreAfter}
-use Rattle.law_groups.specs.Steps.{GroupsFollow, GroupsStandAtSteps, ItemsStandFrom}
+use Rattle.law_groups.specs.Steps.{ItemsStandFrom}
+use Rattle.law_groups.specs.Moves.{MovesRun}
 use Rattle.law_groups.proofs.Context.{steps-are, target-at, target-room, typing-of}
 use Rattle.law_groups.proofs.Following.{Next, next-of, steps-here}
 use Rattle.law_groups.proofs.Moving.{copies-move, count-moves, moves-stand, spill-count, spill-moves}
@@ -69,7 +70,7 @@ pub same-count : (t : ClassTable) {xs ys : List Ty} → CellsBelow t xs ys → l
 same-count t no_cells = refl
 same-count t (more_cells b r) = ap suc (same-count t r)
 
-module _ (v w : Linked) (s : Source) (place : ℕ → ℕ) (laid : IsLaidIn v w s place) where
+module _ {v w : Linked} {s : Source} {place : ℕ → ℕ} (laid : IsLaidIn v w s place) where
   -- ---- where the target stands
 
   -- at a step of its code
@@ -83,9 +84,9 @@ module _ (v w : Linked) (s : Source) (place : ℕ → ℕ) (laid : IsLaidIn v w 
   at-step t n count runs method at further = record {
     runs = runs;
     method = laid.code.target.rec;
-    is_method = ap (slice_get w.methods) method ∙ target-at v w s place laid;
+    is_method = ap (slice_get w.methods) method ∙ target-at laid;
     are =
-        subst (λ m. AreSteps (code_at w m) place 0 (steps_of s) (listing (code_at w m))) (sym method) (steps-are v w s place laid);
+        subst (λ m. AreSteps (code_at w m) place 0 (steps_of s) (listing (code_at w m))) (sym method) (steps-are laid);
     at = at;
     further = further;
   }
@@ -99,7 +100,7 @@ module _ (v w : Linked) (s : Source) (place : ℕ → ℕ) (laid : IsLaidIn v w 
       → IsBeside w s (top z).place (top z) t
   beside z t typed heap of =
       let classes : v.classes ≡ w.classes = laid.code.same.classes in
-      let own = target-room v w s place laid in
+      let own = target-room laid in
       let method = ap (max_stack_of w) of.target in
       record {
         classes = sym classes ∙ ap (λ (u : Linked). u.classes) (sym laid.world);
@@ -113,7 +114,7 @@ module _ (v w : Linked) (s : Source) (place : ℕ → ℕ) (laid : IsLaidIn v w 
 
   -- the depth of a typed stack
   pub depth-fits : (z : State Cell) → IsTypedAt v s z → length (top z).stack ≤ s.method.rec.max_stack
-  depth-fits z typed = by (s.frames (top z).place) ((typing-of v w s place laid).fit (top z).place typed.reached) typed.below
+  depth-fits z typed = by (s.frames (top z).place) ((typing-of laid).fit (top z).place typed.reached) typed.below
     where
       by :
           (o : Option Types)
@@ -183,7 +184,7 @@ module _ (v w : Linked) (s : Source) (place : ℕ → ℕ) (laid : IsLaidIn v w 
           (needed s p x) h (holds.others x) among free));
     }
 
-module _ (v w : Linked) (s : Source) (place : ℕ → ℕ) (laid : IsLaidIn v w s place) (fill : CellsFillStack v) where
+module _ {v w : Linked} {s : Source} {place : ℕ → ℕ} (laid : IsLaidIn v w s place) (fill : CellsFillStack v) where
   -- the homes of a stack that is kept have registers
   pub kept-registers :
       (q : ℕ) (h : Home)
@@ -201,12 +202,7 @@ module _ (v w : Linked) (s : Source) (place : ℕ → ℕ) (laid : IsLaidIn v w 
 
 -- ---- falling
 
-module _
-    (v w : Linked) (s : Source) (place : ℕ → ℕ) (laid : IsLaidIn v w s place)
-    (stand : GroupsStandAtSteps) (follow : GroupsFollow)
-    (needs : NeededHaveHomes v) (fill : CellsFillStack v)
-    (spills : StacksSpill v w) (stay : KeptStacksStay v w) (edges : EdgesRun v w)
-    (few_copies : CopiesAreFew v) (few_cells : CellsAreFew v) where
+module _ {v w : Linked} {s : Source} {place : ℕ → ℕ} (laid : IsLaidIn v w s place) (moving : MovesRun v) where
   -- so many steps lead from a state to the group of the place of y
   pub record Arrives (z t y u : State Cell) (most : ℕ) : Type 0 where
     pub count : ℕ
@@ -228,13 +224,13 @@ module _
     abbrev m : ℕ
     m = body_at s i.place + count_of (body s i op)
 
-    next : Next v w s place laid stand follow i
-    next = next-of v w s place laid stand follow i op stands reached does falls
+    next : Next laid i
+    next = next-of laid i op stands reached does falls
 
     -- the group after these steps
     group-is : group_at s q ≡ m + count_of (fallen s i op)
     group-is =
-        let own = steps-here v w s place laid stand follow i op stands reached does in
+        let own = steps-here laid i op stands reached does in
         let size = own.size in
         let later = next.follows_it in
         let same : group_at s q ≡ group_at s next.instruction.place = ap (group_at s) (here ∙ sym next.at) in
@@ -303,7 +299,7 @@ module _
     plain-falls e =
         let cs = copies s (After i.place op) q in
         let is : fallen s i op ≡ cs = fallen-is ∙ ap (λ b. (if b then spill s (stack_homes s q) else []) ++ cs) e in
-        let own = steps-here v w s place laid stand follow i op stands reached does in
+        let own = steps-here laid i op stands reached does in
         let st : ItemsStandFrom s m cs = stand-as s m (fallen s i op) cs is own.fallen_steps in
         let moves = copies-move s (After i.place op) q in
         let size : count_of cs ≡ length (insns cs) = count-moves cs moves in
@@ -311,17 +307,17 @@ module _
         let within = inside in
         let depth_is : length (top u).stack ≡ length (top y).stack =
         ap length after.stack ∙ length-map (top y).stack (renamed_cell (rename s place)) in
-        let fits = depth-fits v w s place laid y typed in
-        let c = edges place (steps_of s) u m s (After i.place op) q (top y) laid.world laid.planned
-        (beside v w s place laid y u typed after.equal.heap after.of) leads
-        (at-step v w s place laid u m (length (insns cs)) runs after.of.target at (omega (arith, size, all, within)))
+        let fits = depth-fits laid y typed in
+        let c = moving.edges w laid.new place (steps_of s) u m s (After i.place op) q (top y) laid.world laid.planned
+        (beside laid y u typed after.equal.heap after.of) leads
+        (at-step laid u m (length (insns cs)) runs after.of.target at (omega (arith, size, all, within)))
         (moves-stand s m cs moves st) (omega (arith, depth_is, fits)) after.holds in
         let last : m + length (insns cs) ≡ group_at s q = let g = group-is in omega (arith, g, all, size) in
         let run : Runs tagged w (length (insns cs)) u (running (arrived c.registers (top u).stack)) =
         subst (λ k. Runs tagged w (length (insns cs)) u (running (top_at u (place k) c.registers (top u).stack))) last c.runs in
-        let small = few_copies s (After i.place op) q laid.world laid.planned leads in
+        let small = moving.few_copies s (After i.place op) q laid.world laid.planned leads in
         arrives (length (insns cs)) c.registers (top u).stack (omega (arith, small)) run c.count
-        (other-holds v w s place laid (top y) (top (arrived c.registers (top u).stack)) e
+        (other-holds laid (top y) (top (arrived c.registers (top u).stack)) e
         (record {
           stack = after.stack;
           locals = λ x.
@@ -337,7 +333,7 @@ module _
         let cs = copies s (After i.place op) q in
         let sp = spill s (stack_homes s q) in
         let is : fallen s i op ≡ sp ++ cs = fallen-is ∙ ap (λ b. (if b then sp else []) ++ cs) e in
-        let own = steps-here v w s place laid stand follow i op stands reached does in
+        let own = steps-here laid i op stands reached does in
         let whole : ItemsStandFrom s m (sp ++ cs) = stand-as s m (fallen s i op) (sp ++ cs) is own.fallen_steps in
         let moves = copies-move s (After i.place op) q in
         let first_moves = spill-moves s (stack_homes s q) in
@@ -347,12 +343,12 @@ module _
         let all = ap count_of is in
         let both = count-append sp cs in
         let within = inside in
-        let keeps = leader-keeps v w s place laid q e in
-        let near = beside v w s place laid y u typed after.equal.heap after.of in
+        let keeps = leader-keeps laid q e in
+        let near = beside laid y u typed after.equal.heap after.of in
         let bare : (top u).stack ≡ (top y).stack =
-        after.stack ∙ stay s q (top y) u (rename s place) laid.world laid.planned near keeps in
-        let a = spills place (steps_of s) u m s q (top y) laid.world laid.planned near keeps
-        (at-step v w s place laid u m (length (stack_homes s q)) runs after.of.target at (omega (arith, size, first_size, all, both, within)))
+        after.stack ∙ moving.stay w laid.new s q (top y) u (rename s place) laid.world laid.planned near keeps in
+        let a = moving.spills w laid.new place (steps_of s) u m s q (top y) laid.world laid.planned near keeps
+        (at-step laid u m (length (stack_homes s q)) runs after.of.target at (omega (arith, size, first_size, all, both, within)))
         (moves-stand s m sp first_moves (stand-first s m sp cs whole)) bare in
         let n : ℕ = m + length (stack_homes s q) in
         let u1 : State Cell = top_at u (place n) a.registers [] in
@@ -360,31 +356,31 @@ module _
         record { source = after.of.source; target = after.of.target; count = a.count ∙ after.of.count } in
         let from_p : IsReached s.method i.place = (laid.planned.frames.reached i.place).0 reached in
         let holds1 : HoldsAfter s i.place op q (top y) (top u1) =
-        still-after v w s place laid needs i.place q op (top y) (top u) (top u1) from_p typed.reached
+        still-after laid moving.needs i.place q op (top y) (top u) (top u1) from_p typed.reached
         (λ h known held. held-as s (top y).registers (record (top u) { registers = a.registers }) (top u1) h refl
         (a.others (top y).registers h known.has known.slot held)) after.holds in
         let rest : ItemsStandFrom s n cs =
         stand-at s (m + count_of sp) n cs (ap (λ k. m + k) first_size) (stand-last s m sp cs whole) in
-        let c = edges place (steps_of s) u1 n s (After i.place op) q (top y) laid.world laid.planned
-        (beside v w s place laid y u1 typed after.equal.heap of1) leads
-        (at-step v w s place laid u1 n (length (insns cs)) (omega arith) after.of.target refl
+        let c = moving.edges w laid.new place (steps_of s) u1 n s (After i.place op) q (top y) laid.world laid.planned
+        (beside laid y u1 typed after.equal.heap of1) leads
+        (at-step laid u1 n (length (insns cs)) (omega arith) after.of.target refl
         (omega (arith, size, first_size, all, both, within)))
         (moves-stand s n cs moves rest) (omega arith) holds1 in
         let last : n + length (insns cs) ≡ group_at s q = let g = group-is in omega (arith, g, all, both, size, first_size) in
         let second : Runs tagged w (length (insns cs)) u1 (running (arrived c.registers [])) =
         subst (λ k. Runs tagged w (length (insns cs)) u1 (running (top_at u1 (place k) c.registers []))) last c.runs in
         let run = runs-then w (length (stack_homes s q)) (length (insns cs)) u u1 (running (arrived c.registers [])) a.runs second in
-        let small = few_copies s (After i.place op) q laid.world laid.planned leads in
-        let low = few_cells s q laid.world laid.planned keeps in
+        let small = moving.few_copies s (After i.place op) q laid.world laid.planned leads in
+        let low = moving.few_cells s q laid.world laid.planned keeps in
         let limit = laid.room in
         arrives (length (stack_homes s q) + length (insns cs)) c.registers [] (omega (arith, small, low, limit)) run (c.count ∙ a.count)
-        (leader-holds v w s place laid (top y) (top (arrived c.registers [])) e
+        (leader-holds laid (top y) (top (arrived c.registers [])) e
         (record {
           stack = refl;
           cells =
               each-among (HoldsValue s (slots (top y)) (top (arrived c.registers []))) (stack_homes s q)
               (λ h among. held-as s (slots (top y)) (record (top u1) { registers = c.registers }) (top (arrived c.registers [])) h refl
-              (c.others h (kept-registers v w s place laid fill q h (leader-keeps v w s place laid q e) typed.reached among)
+              (c.others h (kept-registers laid moving.fill q h (leader-keeps laid q e) typed.reached among)
               (held-as s (slots (top y)) (record (top u) { registers = a.registers }) (top u1) h refl
               (among-each (HoldsValue s (slots (top y)) (record (top u) { registers = a.registers })) (stack_homes s q) h a.cells among))));
           locals = λ x.

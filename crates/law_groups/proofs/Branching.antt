@@ -11,10 +11,10 @@ use Rattle.jc_decode.specs.declared.insn.Insn.{Insn}
 use Rattle.jc_decode.specs.declared.insn.Placed.{Placed}
 use Rattle.jc_decode.proofs.Ranges.{op-fits}
 use Rattle.jc_decode.specs.Cases.{cases}
-use Rattle.jc_decode.specs.Laws.{InstructionsAreListed}
 use Rattle.jc_decode.specs.Listing.{listing, targets}
 use Rattle.jc_decode.specs.Standing.{AreSteps}
 use Rattle.jc_decode.specs.Symbols.{place_of}
+use Rattle.jc_decode.proofs.InstructionLists.{all-are-listed}
 use Rattle.jc_control.specs.WellFormed.{IsPlace, IsTargetPlace, HasInstruction}
 use Rattle.jc_ops.specs.declared.operation.Operation.{Operation}
 use Rattle.jc_ops.specs.declared.operation.Operation.TheVariants as ops
@@ -40,8 +40,8 @@ use Rattle.law_alike.proofs.Views.{falls-new}
 use Rattle.xf_homes.specs.declared.home.Home.{Home}
 use Rattle.xf_homes.specs.Walk.{operands_of}
 use Rattle.law_laid.specs.Apart.{apart_from_code}
-use Rattle.law_laid.specs.Laws.{DemandsAreKept, OperationsAreKept}
 use Rattle.law_laid.proofs.Steps.{all-contained, at-contains, preimage}
+use Rattle.law_laid.proofs.SameBut.{demands-are-kept, operations-are-kept}
 use Rattle.xf_homes.specs.Source.{Source}
 use Rattle.xf_homes.specs.Plan.{register}
 use Rattle.xf_emission.specs.Emission.{items}
@@ -49,14 +49,18 @@ use Rattle.xf_emission.specs.Jump.{lead, way_of}
 use Rattle.law_rewritten_typing.proofs.Rows.{wide-is}
 use Rattle.law_rewritten_typing.proofs.Turns.{none-asked}
 use Rattle.law_homes.specs.Held.{HoldsValue, HoldsLocals}
-use Rattle.law_homes.specs.Laws.{CodesAgree, ExecutesStep, KeptRunAlike, LocalsStay, NamesNoneWritesNone, StepsExecute}
+use Rattle.law_homes.specs.Laws.{CodesAgree, ExecutesStep}
 use Rattle.law_homes.proofs.Loading.{step-place}
+use Rattle.law_homes.proofs.Standing.{steps-execute}
+use Rattle.law_homes.proofs.Running.{kept-run-alike}
+use Rattle.law_homes.proofs.Homes.{locals-stay}
+use Rattle.law_homes.proofs.Unwritten.{names-none-writes-none}
 use Rattle.law_groups.specs.Laid.{IsLaidIn, rename, steps_of}
 use Rattle.law_groups.specs.Beside.{AreEqualBut, AreOf, SameUnder}
-use Rattle.law_groups.specs.Laws.{RenamesOneToOne}
 use Rattle.law_groups.proofs.Context.{source-code, source-room, steps-are, target-at, target-room}
 use Rattle.law_groups.proofs.ForkSteps.{JumpStep}
 use Rattle.law_groups.proofs.BareForks.{jump_insn}
+use Rattle.law_groups.proofs.Renaming.{renames-one-to-one}
 
 -- ---- what such operations come to
 
@@ -139,10 +143,7 @@ pos-same : (a b : ℕ) → Some (pos a) ≡ Some (pos b) → a ≡ b
 pos-same a b e = cc
 
 module _
-    (v : Linked) (alike_steps : StepsAreAlike v) (operations : OperationsAreKept) (asked : DemandsAreKept)
-    (writes : NamesNoneWritesNone v) (one_to_one : RenamesOneToOne v) (run_alike : KeptRunAlike Cell) (stay : LocalsStay Cell)
-    (listed : InstructionsAreListed)
-    (w : Linked) (s : Source) (place : ℕ → ℕ) (laid : IsLaidIn v w s place) (executed : StepsExecute w)
+    {v w : Linked} {s : Source} {place : ℕ → ℕ} (laid : IsLaidIn v w s place) (alike_steps : StepsAreAlike v)
     (i : Placed) (op : Operation) (n m : ℕ) (some : operands_of v (Ok op) ≡ Some n)
     (stands : HasInstruction s.method.code i) (j : JumpStep s i op n m)
     (labels_inside :
@@ -164,21 +165,21 @@ module _
 
   resolves-there : Resolves w laid.code.target.rec i.place j.step.insn (Ok op)
   resolves-there =
-      let bytes = op-fits s.method.code i.place i.insn laid.planned.code.bytes ((listed s.method.code).decodes i stands) in
+      let bytes = op-fits s.method.code i.place i.insn laid.planned.code.bytes ((all-are-listed s.method.code).decodes i stands) in
       let own = jump-resolves v ex.method ex.method i.place i.place n i.insn i op bytes refl some ex.resolved in
-      operations v w ex.method laid.code.target.rec i.place j.step.insn (Ok op) laid.code.same
+      operations-are-kept v w ex.method laid.code.target.rec i.place j.step.insn (Ok op) laid.code.same
       (ap apart_from_code method ∙ sym laid.code.has.same)
       (subst (λ k. Resolves v ex.method i.place k (Ok op)) (sym j.insn_is) own)
 
   there : ExecutesStep w u place m j.step op
   there =
-      executed u laid.code.target.rec place (steps_of s) m i.place j.step op runs-too
-      (ap (slice_get w.methods) of.target ∙ target-at v w s place laid)
-      (subst (λ k. AreSteps (code_at w k) place 0 (steps_of s) (listing (code_at w k))) (sym of.target) (steps-are v w s place laid))
+      steps-execute w laid.new u laid.code.target.rec place (steps_of s) m i.place j.step op runs-too
+      (ap (slice_get w.methods) of.target ∙ target-at laid)
+      (subst (λ k. AreSteps (code_at w k) place 0 (steps_of s) (listing (code_at w k))) (sym of.target) (steps-are laid))
       j.found at resolves-there
 
   code-same : top_code v z ≡ s.method.code
-  code-same = ap (code_at v) of.source ∙ source-code v w s place laid
+  code-same = ap (code_at v) of.source ∙ source-code laid
 
   is-target : (t : ℤ) → Contains (map (λ (k : ℕ). pos (place k)) j.step.targets) t → IsTargetPlace (top_code w u) t
   is-target t c =
@@ -188,7 +189,7 @@ module _
       let named = j.named k x.of found in
       let label = j.leads_to k x.of named.0 named.1 found in
       let inside = subst (λ l. l < length (steps_of s)) (sym label) (labels_inside k named.0 named.1) in
-      let p = step-place (code_at w s.method.number) place (steps_of s) x.of (steps-are v w s place laid) inside in
+      let p = step-place (code_at w s.method.number) place (steps_of s) x.of (steps-are laid) inside in
       subst (IsTargetPlace (top_code w u)) (sym x.is) (subst (λ q. IsPlace (code_at w q) (place x.of)) (sym of.target) p)
 
   keys-same : HaveKeys op (keys_at v z i) (keys_at w u there.instruction)
@@ -215,8 +216,8 @@ module _
     room =
         let one = ap (max_stack_of v) of.source in
         let two = ap (max_stack_of w) of.target in
-        let three = source-room v w s place laid in
-        let four = target-room v w s place laid in
+        let three = source-room laid in
+        let four = target-room laid in
         omega (arith, one, two, three, four);
   }
 
@@ -227,7 +228,7 @@ module _
   named-same = same-named v f op n some
 
   none-there : registers_asked (demands w (renamed_new f op)) ≡ 0
-  none-there = ap (λ a. registers_asked (demands w a)) named-same ∙ (ap registers_asked (sym (asked v w op laid.code.same)) ∙ none-here)
+  none-there = ap (λ a. registers_asked (demands w a)) named-same ∙ (ap registers_asked (sym (demands-are-kept v w op laid.code.same)) ∙ none-here)
 
   none-own : registers_asked (demands v (renamed_new f op)) ≡ 0
   none-own = ap (λ a. registers_asked (demands v a)) named-same ∙ none-here
@@ -247,8 +248,8 @@ module _
     };
     stack = stays.alike.stack;
     locals =
-        stay (footprint v op) (footprint v (renamed_new f op)) z y u x s i.place stays.first stays.second (writes op none-here)
-        (writes (renamed_new f op) none-own) locals;
+        locals-stay (footprint v op) (footprint v (renamed_new f op)) z y u x s i.place stays.first stays.second
+        (names-none-writes-none v op none-here) (names-none-writes-none v (renamed_new f op) none-own) locals;
     kept = λ values h held. record {
       known = held.known;
       there = let count = stays.second.count in let own = held.there in omega (arith, count, own);
@@ -263,7 +264,7 @@ module _
           ⊎ ((footprint v (renamed_new f op)).register + (footprint v (renamed_new f op)).written ≤ r)
       unwritten r = elim (cases_lt r (footprint v (renamed_new f op)).register) [
         | inl small ↦ inl small
-        | inr large ↦ let none = writes (renamed_new f op) none-own in inr (omega (arith, large, none))
+        | inr large ↦ let none = names-none-writes-none v (renamed_new f op) none-own in inr (omega (arith, large, none))
       ]
 
   never : {X : Type 0} (deed : Act Cell) → act tagged v i.insn op z ≡ deed → ¬ (IsLeading deed) → X
@@ -319,8 +320,8 @@ module _
       } in
       let are = subst (λ a. IsAlike (renamed_new (rename s place) op) a)
       (same-named v (rename s place) op n some ∙ sym named-same) equal in
-      let run = run_alike (renamed_cell (rename s place)) (rename s place) v w z u i there.instruction op (renamed_new f op)
+      let run = kept-run-alike (renamed_cell (rename s place)) (rename s place) v w z u i there.instruction op (renamed_new f op)
       states agree are none-here none-there in
       let p = alike_steps w (rename s place) z u i there.instruction op (renamed_new f op) (running y) laid.code.same
-      (one_to_one w s place laid) ex there.executes run step tt in
+      (renames-one-to-one v w s place laid) ex there.executes run step tt in
       (p.0, p.1, comes (running y) p.0 refl p.2)

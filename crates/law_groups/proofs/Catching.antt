@@ -16,10 +16,10 @@ use Rattle.jc_decode.specs.declared.symbols.LaidHandler.{LaidHandler as Laying}
 use Rattle.jc_decode.specs.declared.symbols.Item.{Item}
 use Rattle.jc_decode.specs.declared.symbols.Item.TheVariants.{Plain, Branch, Switch, Label}
 use Rattle.jc_decode.specs.declared.symbols.Range.{Range}
-use Rattle.jc_decode.specs.Laws.{InstructionsAreListed}
 use Rattle.jc_decode.specs.Listing.{listing}
 use Rattle.jc_decode.specs.Symbols.{IsOnce, handler, place_of}
 use Rattle.jc_decode.proofs.Elements.{Contains-slice_get}
+use Rattle.jc_decode.proofs.InstructionLists.{all-are-listed}
 use Rattle.jc_control.specs.Control.{Covers, IsReached}
 use Rattle.jc_control.specs.WellFormed.{IsBoundary, IsHandlerOf, IsPlace, HasInstruction}
 use Rattle.jc_ops.specs.declared.operation.Operation.{Operation}
@@ -35,14 +35,15 @@ use Rattle.xf_emission.specs.Edge.{copies}
 use Rattle.xf_emission.specs.Emission.{is_live, items, range, ranges, ranges_from, rewritten}
 use Rattle.xf_emission.specs.Group.{group}
 use Rattle.xf_emission.specs.Jump.{handler_label}
-use Rattle.xf_emission.specs.Laws.{GroupsStand, LabelsStandOnce, IsCode, of_end, of_place}
+use Rattle.xf_emission.specs.Laws.{IsCode, of_end, of_place}
+use Rattle.xf_emission.proofs.GroupPlaces.{groups-stand}
+use Rattle.xf_emission.proofs.Once.{labels-stand-once}
 use Rattle.law_groups.specs.Laid.{IsInGroup, IsLaidIn, count_of, group_at, steps_of}
 use Rattle.law_groups.specs.Beside.{StandsInGroup}
 use Rattle.law_groups.specs.Laws.{CatchAlike, GroupsCatch, both_catch, none_catches}
-use Rattle.law_groups.specs.Steps.{GroupsFollow, GroupsStandAtSteps}
 use Rattle.law_groups.proofs.Context.{here-at, method-of, reached-some, target-at}
 use Rattle.law_groups.proofs.Handling.{covers-live, first-before, first-is}
-use Rattle.law_groups.proofs.Placing.{count-append, group-begins, place-once, steps-count}
+use Rattle.law_groups.proofs.Placing.{count-append, group-begins, groups-stand-at-steps, place-once, steps-count}
 use Rattle.law_groups.proofs.Renaming.{places-rise}
 use Rattle.law_groups.proofs.Following.{some-body, steps-here}
 use Rattle.law_groups.proofs.Rising.{groups-rise}
@@ -63,8 +64,7 @@ place-most l (Label m ∷ xs) = by (m == l) (place-most l xs)
     by true le = omega arith
     by false le = le
 
-module _
-    (once : LabelsStandOnce) (groups : GroupsStand) (listed : InstructionsAreListed) (s : Source) (code : IsCode s) where
+module _ (s : Source) (code : IsCode s) where
   -- the end's label stands after all groups
   end-is : place_of (length s.method.code) (items s) ≡ count_of (copies s Start 0 ++ flat_map (group s) (listing s.method.code))
   end-is =
@@ -73,7 +73,7 @@ module _
       let rest = ending s in
       let parts : items s ≡ before ++ rest =
       items-begin s ∙ sym (append_assoc (copies s Start 0) (flat_map (group s) (listing s.method.code)) rest) in
-      let one : IsOnce (before ++ rest) e = subst (λ xs. IsOnce xs e) parts (once s code e of_end) in
+      let one : IsOnce (before ++ rest) e = subst (λ xs. IsOnce xs e) parts (labels-stand-once s code e of_end) in
       ap (place_of e) parts ∙ place-once e before _ one
 
   -- and so after each of them
@@ -83,7 +83,7 @@ module _
       → is_some (s.frames i.place) ≡ true
       → group_at s i.place + count_of (group s i) ≤ place_of (length s.method.code) (items s)
   group-before-end i stands reached =
-      let g = groups s code i stands reached in
+      let g = groups-stand s code i stands reached in
       let b = group-begins s i reached in
       let cs = copies s Start 0 in
       let before = cs ++ flat_map (group s) g.earlier in
@@ -100,7 +100,7 @@ module _
       ∙ (ap (λ xs. cs ++ (flat_map (group s) g.earlier ++ xs)) head
       ∙ sym (append_assoc cs (flat_map (group s) g.earlier) (Label i.place ∷ rest))))) in
       let one : IsOnce (before ++ (Label i.place ∷ rest)) i.place =
-      subst (λ xs. IsOnce xs i.place) parts (once s code i.place (of_place stands reached)) in
+      subst (λ xs. IsOnce xs i.place) parts (labels-stand-once s code i.place (of_place stands reached)) in
       let at : group_at s i.place ≡ count_of before = ap (place_of i.place) parts ∙ place-once i.place before rest one in
       let last = end-is in
       let c1 = count-append cs (flat_map (group s) (listing s.method.code)) in
@@ -114,10 +114,7 @@ module _
 
 -- ---- one place, and a step of its group
 
-module _
-    (once : LabelsStandOnce) (groups : GroupsStand) (listed : InstructionsAreListed)
-    (stand : GroupsStandAtSteps) (follow : GroupsFollow)
-    (v w : Linked) (s : Source) (place : ℕ → ℕ) (laid : IsLaidIn v w s place) where
+module _ {v w : Linked} {s : Source} {place : ℕ → ℕ} (laid : IsLaidIn v w s place) where
   abbrev hs : List Handler
   hs = s.method.rec.handlers
 
@@ -140,13 +137,13 @@ module _
       by : (c : Bool) → nat_lt a b ≡ c → place a ≤ place b
       by true e =
           let lt : a < b = grind (arith, nat_tests, e) in
-          let more = places-rise once groups listed stand follow v w s place laid a b lt inside in
+          let more = places-rise laid a b lt inside in
           omega (arith, more)
       by false e = let same : a ≡ b = grind (arith, nat_tests, e, le) in let k = ap place same in omega (arith, k)
 
   module _ (i : Placed) (stands : HasInstruction s.method.code i) (reached : is_some (s.frames i.place) ≡ true) where
     i-inside : i.place < length s.method.code
-    i-inside = (listed s.method.code).inside i stands
+    i-inside = (all-are-listed s.method.code).inside i stands
 
     -- a label of the first reached place from one up to this
     starts-by : (q : ℕ) → q ≤ i.place → label_at (first_reached s q) ≤ group_at s i.place
@@ -162,12 +159,11 @@ module _
             let lt : first_reached s q < i.place = grind (arith, nat_tests, e) in
             let own = first-is s q in
             let within_code = i-inside in
-            let least = own.from in
             let there = own.there (omega (arith, lt, within_code, le)) in
-            let h = here-at v w s place laid (first_reached s q) there in
+            let h = here-at laid (first_reached s q) there in
             let also : is_some (s.frames h.instruction.place) ≡ true = ap (λ p. is_some (s.frames p)) h.at ∙ there in
             let at = h.at in
-            let rise = groups-rise once groups listed s laid.planned.code h.instruction i h.stands also stands reached (omega (arith, at, lt)) in
+            let rise = groups-rise s laid.planned.code h.instruction i h.stands also stands reached (omega (arith, at, lt)) in
             let k = ap label_at at in
             omega (arith, rise, k)
 
@@ -183,10 +179,10 @@ module _
             let own = first-is s q in
             let least = own.from in
             let there = own.there (omega (arith, small, inside)) in
-            let h = here-at v w s place laid (first_reached s q) there in
+            let h = here-at laid (first_reached s q) there in
             let also : is_some (s.frames h.instruction.place) ≡ true = ap (λ p. is_some (s.frames p)) h.at ∙ there in
             let at = h.at in
-            let rise = groups-rise once groups listed s laid.planned.code i h.instruction stands reached h.stands also
+            let rise = groups-rise s laid.planned.code i h.instruction stands reached h.stands also
             (omega (arith, at, lt, least)) in
             let k = ap label_at at in
             omega (arith, rise, k)
@@ -195,7 +191,7 @@ module _
             let most = own.to in
             let large : length s.method.code ≤ first_reached s q = grind (arith, nat_tests, e) in
             let same : first_reached s q ≡ length s.method.code = omega (arith, most, large, inside) in
-            let last = group-before-end once groups listed s laid.planned.code i stands reached in
+            let last = group-before-end s laid.planned.code i stands reached in
             let k = ap label_at same in
             omega (arith, last, k)
 
@@ -207,7 +203,7 @@ module _
       let lt : first_reached s h.start < h.end = grind (arith, nat_tests, live) in
       let own = first-is s h.start in
       let there = own.there (omega (arith, lt, inside)) in
-      let j = here-at v w s place laid (first_reached s h.start) there in
+      let j = here-at laid (first_reached s h.start) there in
       let also : is_some (s.frames j.instruction.place) ≡ true = ap (λ p. is_some (s.frames p)) j.at ∙ there in
       let at = j.at in
       let after = starts-after j.instruction j.stands also h.end (omega (arith, at, lt)) inside in
@@ -219,7 +215,7 @@ module _
           (j : Placed) (op : Operation) → HasInstruction s.method.code j → is_some (s.frames j.place) ≡ true → operation s j ≡ Ok op
           → 1 ≤ count_of (group s j)
       group-some j op st r does =
-          let g = steps-here v w s place laid stand follow j op st r does in
+          let g = steps-here laid j op st r does in
           let size = g.size in
           let some = some-body s j op in
           omega (arith, size, some)
@@ -230,7 +226,7 @@ module _
     -- a step of the group
     n-within : n < length (steps_of s)
     n-within =
-        let all = stand-inside s (group_at s i.place) (group s i) (stand s i laid.planned.code stands reached) in
+        let all = stand-inside s (group_at s i.place) (group s i) (groups-stand-at-steps s i laid.planned.code stands reached) in
         let lt = inside.before in
         omega (arith, all, lt)
 
@@ -254,7 +250,7 @@ module _
             let after = starts-after i stands reached h.start lt small in
             let last = inside.before in
             let apart : n < label_at (first_reached s h.start) = omega (arith, after, last) in
-            let more = places-rise once groups listed stand follow v w s place laid n (label_at (first_reached s h.start)) apart
+            let more = places-rise laid n (label_at (first_reached s h.start)) apart
             (label-most (first_reached s h.start)) in
             let one : nat_le (place (label_at (first_reached s h.start))) (place n) ≡ false = grind (arith, nat_tests, more) in
             let two : nat_le h.start i.place ≡ false = grind (arith, nat_tests, lt) in
@@ -267,7 +263,7 @@ module _
             let first = inside.from in
             let last = inside.before in
             let least = mono (label_at (first_reached s h.start)) n (omega (arith, from_start, first)) (omega (arith, n-within)) in
-            let most = places-rise once groups listed stand follow v w s place laid n (label_at (first_reached s h.end))
+            let most = places-rise laid n (label_at (first_reached s h.end))
             (omega (arith, to_end, last)) (label-most (first_reached s h.end)) in
             let one : nat_le (place (label_at (first_reached s h.start))) (place n) ≡ true = grind (arith, nat_tests, least) in
             let sum : place n
@@ -322,11 +318,11 @@ module _
     bounds h is = (by-place is.start, by-end is.end)
       where
         by-place : IsPlace s.method.code h.start → h.start ≤ length s.method.code
-        by-place (j, st, e) = let lt = (listed s.method.code).inside j st in omega (arith, lt, e)
+        by-place (j, st, e) = let lt = (all-are-listed s.method.code).inside j st in omega (arith, lt, e)
 
         by-end : IsBoundary s.method.code h.end → h.end ≤ length s.method.code
         by-end (inl e) = omega (arith, e)
-        by-end (inr (j, st, e)) = let lt = (listed s.method.code).inside j st in omega (arith, lt, e)
+        by-end (inr (j, st, e)) = let lt = (all-are-listed s.method.code).inside j st in omega (arith, lt, e)
 
     found-later-own : (h : Handler) (rest : List Handler) (rs : List Range) → own_test h ≡ false → Found rest rs → Found (h ∷ rest) rs
     found-later-own h rest rs e (neither a b) = neither (ap (λ c. cond c (Some h) (find own_test rest)) e ∙ a) b
@@ -415,20 +411,20 @@ module _
   groups-catch-here class f g reached within_group =
       let i = within_group.instruction in
       let some : is_some (s.frames i.place) ≡ true =
-      ap (λ p. is_some (s.frames p)) within_group.there ∙ reached-some v w s place laid f.place reached in
+      ap (λ p. is_some (s.frames p)) within_group.there ∙ reached-some laid f.place reached in
       let x = search-all i within_group.stands some within_group.step within_group.inside class [] hs 0 refl refl in
       let own : handlers_of v f.method ≡ hs =
       ap (handlers_of v) within_group.of.source
-      ∙ ap (of_method [] (λ (m : MethodRec). m.handlers)) (method-of v w s place laid).rec in
+      ∙ ap (of_method [] (λ (m : MethodRec). m.handlers)) (method-of laid).rec in
       let other : handlers_of w g.method ≡ map (catching hs) (map laying (ranges s)) =
       ap (handlers_of w) within_group.of.target
-      ∙ (ap (of_method [] (λ (m : MethodRec). m.handlers)) (target-at v w s place laid)
+      ∙ (ap (of_method [] (λ (m : MethodRec). m.handlers)) (target-at laid)
       ∙ (laid.code.has.handlers ∙ ap (map (catching hs)) laid.code.stands.handlers)) in
       by x own other
     where
       by :
           Found within_group.instruction within_group.stands
-          (ap (λ p. is_some (s.frames p)) within_group.there ∙ reached-some v w s place laid f.place reached)
+          (ap (λ p. is_some (s.frames p)) within_group.there ∙ reached-some laid f.place reached)
           within_group.step within_group.inside class hs (ranges_from s 0 hs)
           → handlers_of v f.method ≡ hs
           → handlers_of w g.method ≡ map (catching hs) (map laying (ranges_from s 0 hs))
@@ -452,7 +448,5 @@ module _
           (sym laid.code.same.classes) ∙ b)))
           entry
 
-pub groups-catch :
-    LabelsStandOnce → GroupsStand → InstructionsAreListed → GroupsStandAtSteps → GroupsFollow → (v : Linked) → GroupsCatch v
-groups-catch once groups listed stand follow v w s place laid class f g reached within_group =
-    groups-catch-here once groups listed stand follow v w s place laid class f g reached within_group
+pub groups-catch : (v : Linked) → GroupsCatch v
+groups-catch v w s place laid class f g reached within_group = groups-catch-here laid class f g reached within_group

@@ -9,7 +9,6 @@ use Rattle.jc_base.specs.Each.{Each}
 use Rattle.jc_base.specs.World.{Linked}
 use Rattle.jc_decode.specs.declared.insn.Placed.{Placed}
 use Rattle.jc_decode.specs.declared.symbols.Item.{Item}
-use Rattle.jc_decode.specs.Laws.{InstructionsAreListed}
 use Rattle.jc_decode.specs.Listing.{targets}
 use Rattle.jc_decode.specs.Symbols.{place_of}
 use Rattle.jc_control.specs.Control.{IsReached, follows, jumped, led_to}
@@ -47,7 +46,6 @@ use Rattle.law_alike.proofs.Simulation.{one-step}
 use Rattle.xf_homes.specs.declared.home.Home.{Home}
 use Rattle.xf_homes.specs.Order.{register_sum}
 use Rattle.xf_homes.specs.Walk.{operands_of}
-use Rattle.law_laid.specs.Laws.{DemandsAreKept, OperationsAreKept}
 use Rattle.xf_homes.specs.Source.{Source}
 use Rattle.xf_homes.specs.Plan.{stack_homes, is_leader, needed, operation}
 use Rattle.xf_emission.specs.Edge.{is_stored}
@@ -56,18 +54,17 @@ use Rattle.xf_emission.specs.Group.{body, fall, fall_by, fall_over, fallen}
 use Rattle.xf_emission.specs.Jump.{goto, has_under, jump_to, label_by, lead, place as place_named, stub, stub_label, stub_of, branch_copies}
 use Rattle.xf_emission.specs.Jump.{way_of}
 use Rattle.xf_emission.proofs.Ways.{way-found}
-use Rattle.law_rewritten_typing.specs.Edges.{AreMatched, CellsFillStack, ForksMatch, NeededHaveHomes, leads_after, more_matched}
+use Rattle.law_rewritten_typing.specs.Edges.{AreMatched, ForksMatch, leads_after, more_matched}
 use Rattle.law_rewritten_typing.specs.Edges.{none_matched}
 use Rattle.law_sound.proofs.Branches.{targets-are}
-use Rattle.law_homes.specs.Edges.{CellsAreFew, CellsRun, CopiesAreFew, EdgesRun, HoldsAfter, KeptStacksStay, LeadersLoad, StacksSpill}
+use Rattle.law_homes.specs.Edges.{HoldsAfter}
 use Rattle.law_homes.specs.Held.{HoldsValue, HoldsLocals, slots}
-use Rattle.law_homes.specs.Laws.{KeptRunAlike, LocalsStay, NamesNoneWritesNone, StepsExecute}
 use Rattle.law_groups.specs.Laid.{IsLaidIn, body_at, count_of, rename, steps_of}
 use Rattle.law_groups.specs.Beside.{AreEqualBut, IsAtGroup, IsTypedAt, MovesTop, SameUnder, StaysTyped}
 use Rattle.law_groups.specs.Comes.{GroupRuns, group_stays}
 use Rattle.law_groups.specs.Body.{AreAfter}
-use Rattle.law_groups.specs.Laws.{RenamesOneToOne}
-use Rattle.law_groups.specs.Steps.{GroupsFollow, GroupsStandAtSteps, ItemsStandFrom, StubsStandAtSteps}
+use Rattle.law_groups.specs.Steps.{ItemsStandFrom}
+use Rattle.law_groups.specs.Moves.{MovesRun}
 use Rattle.law_groups.proofs.Arriving.{falls-arrive, leader-keeps, runs-then, same-count}
 use Rattle.law_groups.proofs.Branching.{IsLeading, leading, ForkComes, fork-steps, fork_falls, fork_leads}
 use Rattle.law_groups.proofs.Context.{method-of, reached-some, some-reached, typing-of}
@@ -76,8 +73,8 @@ use Rattle.law_groups.proofs.Following.{next-place, steps-here}
 use Rattle.law_groups.proofs.ForkSteps.{jump-step}
 use Rattle.law_groups.proofs.BareForks.{body-branch, branch-alone, labels_of, under-none}
 use Rattle.law_groups.proofs.Going.{group-inside}
-use Rattle.law_groups.proofs.OneGroup.{no-fault, same-method, turn-by}
-use Rattle.law_groups.proofs.Placing.{count-append}
+use Rattle.law_groups.proofs.OneGroup.{no-fault, same-method, stays-on, turn-by}
+use Rattle.law_groups.proofs.Placing.{count-append, stubs-stand-at-steps}
 use Rattle.law_groups.proofs.Standing.{stand-as, stand-inside}
 use Rattle.law_groups.proofs.Taking.{led-arrives}
 
@@ -149,7 +146,7 @@ fork-running v decided z o i op n ex some step fine =
     by (jumps to x) l h = (_, unless-running x _ (fault_target tagged v x to) h)
     by _ l h = absurd l
 
-module _ (v w : Linked) (s : Source) (place : ℕ → ℕ) (laid : IsLaidIn v w s place) where
+module _ {v w : Linked} {s : Source} {place : ℕ → ℕ} (laid : IsLaidIn v w s place) where
   -- the frame of a reached place
   pub frame-at : (p : ℕ) → is_some (s.frames p) ≡ true → (g : Types) × (s.frames p ≡ Some g)
   frame-at p e = by (s.frames p) refl e
@@ -176,14 +173,8 @@ method-after (fork_leads k a own at) = a.of.source
 -- ---- the group
 
 module _
-    (v : Linked) (alike_steps : StepsAreAlike v) (operations : OperationsAreKept) (asked : DemandsAreKept)
-    (writes : NamesNoneWritesNone v) (one_to_one : RenamesOneToOne v) (run_alike : KeptRunAlike Cell) (stay_locals : LocalsStay Cell)
-    (listed : InstructionsAreListed) (decided : OperationsAreDecided v)
-    (w : Linked) (s : Source) (place : ℕ → ℕ) (laid : IsLaidIn v w s place)
-    (stand : GroupsStandAtSteps) (follow : GroupsFollow) (stubs : StubsStandAtSteps) (executed : StepsExecute w)
-    (needs : NeededHaveHomes v) (fill : CellsFillStack v) (match : ForksMatch v)
-    (loading : LeadersLoad v w) (spills : StacksSpill v w) (stay : KeptStacksStay v w) (edges : EdgesRun v w) (cells_run : CellsRun v w)
-    (few_copies : CopiesAreFew v) (few_cells : CellsAreFew v) where
+    {v w : Linked} {s : Source} {place : ℕ → ℕ} (laid : IsLaidIn v w s place)
+    (alike_steps : StepsAreAlike v) (decided : OperationsAreDecided v) (match : ForksMatch v) (moving : MovesRun v) where
   -- the labels to which a reached branch leads stand before steps
   pub leads-inside :
       (i : Placed) (op : Operation) (n : ℕ)
@@ -198,7 +189,7 @@ module _
   leads-inside i op n stands reached does some k t target_is =
       let c = Contains-slice_get (targets s.method.code i) k t target_is in
       by t c target_is
-      (All-contains (IsTargetPlace s.method.code) (targets s.method.code i) t ((typing-of v w s place laid).formed.targets i stands) c)
+      (All-contains (IsTargetPlace s.method.code) (targets s.method.code i) t ((typing-of laid).formed.targets i stands) c)
     where
       by :
           (t : ℤ)
@@ -209,7 +200,7 @@ module _
           (items s) < length (steps_of s)
       by (negsuc r) c found is = absurd is
       by (pos q) c found is =
-          let there : IsReached s.method q = follows stands (some-reached v w s place laid i.place reached) (jumped c) in
+          let there : IsReached s.method q = follows stands (some-reached laid i.place reached) (jumped c) in
           named (branch_copies s i.place op n q) refl there found
         where
           named :
@@ -220,10 +211,10 @@ module _
               → place_of (label_by q (stub_label i.place (way_of (targets s.method.code i) (pos q))) (branch_copies s i.place op n q)) (items s) < length
               (steps_of s)
           named [] e there found =
-              let lt = group-inside v w s place laid stand follow q there in
+              let lt = group-inside laid q there in
               subst (λ us. place_of (label_by q (stub_label i.place (way_of (targets s.method.code i) (pos q))) us) (items s) < length (steps_of s)) (sym e) lt
           named (x ∷ xs) e there found =
-              let st = stubs s i op n (way_of (targets s.method.code i) (pos q)) (pos q) laid.planned.code stands reached does some
+              let st = stubs-stand-at-steps s i op n (way_of (targets s.method.code i) (pos q)) (pos q) laid.planned.code stands reached does some
               (way-found (targets s.method.code i) k (pos q) found)
               (λ none. absurd (let bad = sym none ∙ e in not-none x xs bad)) in
               let shown : ItemsStandFrom s (place_of (stub_label i.place (way_of (targets s.method.code i) (pos q))) (items s))
@@ -245,8 +236,8 @@ module _
   unfolding register_sum
   no-stack y typed leader none =
       let q : ℕ = (top y).place in
-      let g = frame-at v w s place laid q (reached-some v w s place laid q typed.reached) in
-      let k = fill s laid.world laid.planned q g.0 g.1 (leader-keeps v w s place laid q leader) in
+      let g = frame-at laid q (reached-some laid q typed.reached) in
+      let k = moving.fill s laid.world laid.planned q g.0 g.1 (leader-keeps laid q leader) in
       let zero_cells : register_sum (stack_homes s q) ≡ 0 = ap register_sum none in
       let filled = k.fill in
       let below : FrameBelow v.classes (types_of_frame v.classes Top (kinds y) (top y)) g.0 =
@@ -290,7 +281,7 @@ module _
           others = λ l. Each-weaker (HoldsValue s (top y).registers (top x)) _ (λ h held free. held) (needed s i.place l) (a.locals l);
         };
       } in
-      let c = falls-arrive v w s place laid stand follow needs fill spills stay edges few_copies few_cells i op z u y x stands reached does
+      let c = falls-arrive laid moving i op z u y x stands reached does
       falls after typed here (at ∙ ap (λ k. place (body_at s i.place + k)) (sym count)) (fallen-alone s i op n falls some alone) in
       let most = c.few in
       group_stays y is (record {
@@ -317,10 +308,10 @@ module _
       let typed : IsTypedAt v s y = (subst (StaysTyped v s) is stays) going method in
       let q : ℕ = (top y).place in
       let among = Contains-slice_get (targets s.method.code i) k (pos q) own in
-      let from_p : IsReached s.method i.place = some-reached v w s place laid i.place reached in
+      let from_p : IsReached s.method i.place = some-reached laid i.place reached in
       let leader : is_leader s q ≡ true = (laid.planned.leaders q).1 (led_to stands from_p among) in
       let leads = leads_after stands from_p does (jumped among) in
-      let g = frame-at v w s place laid i.place reached in
+      let g = frame-at laid i.place reached in
       let m = match s laid.world laid.planned i op n q g.0 stands g.1 does some (jumped among) leader in
       let none = under-none s i.place n alone in
       let no_cells_there : stack_homes s q ≡ [] = none-beside s m none in
@@ -331,31 +322,12 @@ module _
         stored = λ l e. absurd (false≢true (sym (unstored-fork s.world op n some l) ∙ e));
         others = λ l. Each-weaker (HoldsValue s (top y).registers (top x)) _ (λ h held free. held) (needed s i.place l) (a.locals l);
       } in
-      let c = led-arrives v w s place laid stand follow executed needs fill cells_run edges few_copies few_cells i.place n op y x typed
-      a.equal a.of leader leads from_p m bare (subst (Each (HoldsValue s (slots (top y)) (top x))) (sym none) tt) before stubs i k refl stands does
+      let c = led-arrives laid moving i.place n op y x typed
+      a.equal a.of leader leads from_p m bare (subst (Each (HoldsValue s (slots (top y)) (top x))) (sym none) tt) before i k refl stands does
       some own at in
       let fewer = c.fewer in
-      group_stays y is (record {
-        count = loads + (1 + c.count);
-        more = omega arith;
-        fewer = omega (arith, few, fewer);
-        outcome = c.outcome;
-        runs = runs-then w loads (1 + c.count) t u c.outcome loaded (runs-then w 1 c.count u x c.outcome run c.runs);
-        comes = (
-          c.comes.state,
-          c.comes.is,
-          record {
-            first = first;
-            second = record {
-              frames =
-                  c.comes.are.second.frames
-                  ∙ ap (λ fs. top c.comes.state ∷ fs) (ap other_frames a.second.frames ∙ ap other_frames moves.frames);
-            };
-            equal = c.comes.are.equal;
-            group = c.comes.are.group;
-          },
-        );
-      })
+      stays-on y x (loads + 1) is first (runs-then w loads 1 t u (running x) loaded run)
+      (ap other_frames a.second.frames ∙ ap other_frames moves.frames) c (omega arith) (omega (arith, few, fewer))
 
   pub alone-group :
       (z t : State Cell) (o : Outcome Cell) (i : Placed) (op : Operation) (n : ℕ)
@@ -370,12 +342,12 @@ module _
       → GroupRuns v w s place z t o
   unfolding turn-by
   alone-group z t o i op n typed group equal step stays ex some alone =
-      let turn = turn-by v w s place laid z typed i op ex in
+      let turn = turn-by laid z typed i op ex in
       let own_some : operands_of s.world (Ok op) ≡ Some n =
       subst (λ u. operands_of u (Ok op) ≡ Some n) (sym laid.world) some in
-      let e = enters v w s place laid stand follow loading stay few_cells z t typed equal group in
+      let e = enters laid moving z t typed equal group in
       let u = e.state in
-      let own = steps-here v w s place laid stand follow i op turn.stands turn.reached turn.does in
+      let own = steps-here laid i op turn.stands turn.reached turn.does in
       let m : ℕ = body_at s i.place in
       let body_is : body s i op ≡ jump_to i op (labels_of s i op n) ∷ [] =
       body-branch s i op n own_some ∙ branch-alone s i op n alone in
@@ -387,10 +359,10 @@ module _
       let y = r.0 in
       let method : ex.method ≡ s.method.rec =
       same-method ex.method s.method.rec
-      (sym ex.fetched.method ∙ (ap (slice_get v.methods) typed.method ∙ (method-of v w s place laid).rec)) in
-      let f = fork-steps v alike_steps operations asked writes one_to_one run_alike stay_locals listed w s place laid executed i op n m some
+      (sym ex.fetched.method ∙ (ap (slice_get v.methods) typed.method ∙ (method-of laid).rec)) in
+      let f = fork-steps laid alike_steps i op n m some
       turn.stands j (leads-inside i op n turn.stands turn.reached turn.does own_some)
-      (next-place v w s place laid stand follow i op turn.stands turn.reached turn.does count)
+      (next-place laid i op turn.stands turn.reached turn.does count)
       z u y ex e.equal e.of turn.here (typed.objects_stay (rename s place)) (typed.statics_stay (rename s place))
       (e.at ∙ ap (λ p. place (body_at s p)) turn.here) e.held.stack
       (subst (λ p. HoldsLocals s p (top z) (top u)) turn.here e.held.locals) method (subst (Steps tagged v z) r.1 step) in

@@ -22,7 +22,7 @@ use Rattle.xf_emission.specs.Emission.{rewritten}
 use Rattle.law_groups.specs.Laid.{IsLaidIn, body_at, rename, steps_of}
 use Rattle.law_groups.specs.Laws.{HasRoomForMore}
 
-module _ (v w : Linked) (s : Source) (place : ℕ → ℕ) (laid : IsLaidIn v w s place) where
+module _ {v w : Linked} {s : Source} {place : ℕ → ℕ} (laid : IsLaidIn v w s place) where
   -- ---- the method in both worlds
 
   pub method-of : IsMethodOf v s.method
@@ -89,4 +89,4 @@ module _ (v w : Linked) (s : Source) (place : ℕ → ℕ) (laid : IsLaidIn v w 
 
 pub has-room-for-more : (v : Linked) → HasRoomForMore v
 has-room-for-more v w s place laid =
-    target-room v w s place laid ∙ ap (λ n. n + 1) (sym (source-room v w s place laid))
+    target-room laid ∙ ap (λ n. n + 1) (sym (source-room laid))

@@ -10,12 +10,12 @@ use Rattle.jc_base.specs.Laws.{IsOrderOfTypes}
 use Rattle.jc_base.specs.Order.{Below}
 use Rattle.jc_base.specs.World.{Linked}
 use Rattle.jc_base.proofs.Lists.{All-slice_get}
+use Rattle.jc_base.proofs.SameTypes.{same_type-decides}
 use Rattle.jc_decode.specs.declared.insn.Insn.{Insn}
 use Rattle.jc_decode.specs.declared.insn.Placed.{Placed}
 use Rattle.jc_decode.specs.declared.symbols.Item.TheVariants.{Plain}
 use Rattle.jc_decode.proofs.Ranges.{op-fits}
-use Rattle.jc_decode.specs.Laws.{InstructionsAreListed}
-use Rattle.jc_control.specs.WellFormed.{IsPlace}
+use Rattle.jc_decode.proofs.InstructionLists.{all-are-listed}
 use Rattle.jc_ops.specs.declared.operation.Operation.TheVariants as ops
 use Rattle.jc_ops.specs.declared.operation.Sort.{Sort}
 use Rattle.jc_ops.specs.declared.operation.Sort.TheVariants as sorts
@@ -29,20 +29,19 @@ use Rattle.jc_rules.specs.Rule.{demands}
 use Rattle.vm_store.specs.declared.cell.Cell.{Cell}
 use Rattle.vm_store.specs.Cells.{tagged}
 use Rattle.vm_store.specs.State.{State, top}
-use Rattle.vm_step.specs.Methods.{code_at}
 use Rattle.vm_step.specs.Raising.{Outcome}
 use Rattle.vm_step.specs.Step.{Steps}
 use Rattle.law_erasure.specs.Erasure.{IsNoFault}
 use Rattle.law_alike.specs.Alike.{StayAlike, renamed_cell}
 use Rattle.law_alike.specs.Likeness.{StepsAreAlike}
-use Rattle.law_alike.proofs.Simulation.{one-step}
 use Rattle.xf_homes.specs.declared.home.Home.{Home}
-use Rattle.xf_homes.specs.Laws.{HasRegister, HomesServe, NeededAreKept, Serve}
+use Rattle.xf_homes.specs.Laws.{HasRegister, Serve}
 use Rattle.xf_homes.specs.Value.{value_in_cells, type_width}
 use Rattle.law_laid.specs.Apart.{apart_from_code}
-use Rattle.law_laid.specs.Laws.{OperationsAreKept}
+use Rattle.law_laid.proofs.SameBut.{operations-are-kept}
 use Rattle.xf_homes.specs.Source.{Source}
 use Rattle.xf_homes.specs.Plan.{needed, or_first, register}
+use Rattle.xf_homes.proofs.Serving.{homes-serve}
 use Rattle.xf_emission.specs.Group.{body, increased}
 use Rattle.xf_emission.specs.Move.{load_op}
 use Rattle.law_rewritten_typing.specs.Planned.{IsKept}
@@ -54,21 +53,18 @@ use Rattle.law_rewritten_typing.proofs.Ready.{IsValueAt, value-is}
 use Rattle.law_rewritten_typing.proofs.Rows.{increased-at}
 use Rattle.law_rewritten_typing.proofs.EdgeHomes.{kept-not-top}
 use Rattle.law_homes.specs.Held.{HoldsValue}
-use Rattle.law_homes.specs.Laws.{AreApart, HomesStay, IncrementsRunAlike, StepsExecute, WrittenHold}
-use Rattle.law_homes.specs.Moves.{IsExecutable, letter_of, size}
+use Rattle.law_homes.specs.Laws.{AreApart}
+use Rattle.law_homes.specs.Moves.{letter_of, size}
 use Rattle.law_homes.proofs.Beside.{among-each, each-among}
 use Rattle.law_homes.proofs.Copies.{wide}
-use Rattle.law_groups.specs.Laid.{IsLaidIn, body_at, count_of, rename}
-use Rattle.law_groups.specs.Laws.{RenamesOneToOne}
-use Rattle.law_groups.specs.Steps.{GroupsFollow, GroupsStandAtSteps}
+use Rattle.law_homes.proofs.Running.{increments-run-alike}
+use Rattle.law_homes.proofs.Homes.{homes-stay, written-hold}
+use Rattle.law_groups.specs.Laid.{IsLaidIn, body_at, rename}
 use Rattle.law_groups.specs.Body.{AreAtBody, BodyRuns}
 use Rattle.law_groups.proofs.Arriving.{needed-local}
-use Rattle.law_groups.proofs.Called.{called}
 use Rattle.law_groups.proofs.Context.{some-reached}
-use Rattle.law_groups.proofs.Following.{next-place, steps-here}
-use Rattle.law_groups.proofs.Plain.{alike, codes, comes, ex, method-is}
+use Rattle.law_groups.proofs.Plain.{alike, codes, ex, method-is, runs}
 use Rattle.law_groups.proofs.Reading.{IsHomeOf, home-is, small-register}
-use Rattle.law_groups.proofs.Standing.{stand-as, step-at}
 
 -- the letter of a number's loads
 abbrev letter_for : Width → Sort
@@ -110,7 +106,7 @@ wide-or IntHigh = inr refl
 wide-or _ = inl refl
 
 module _
-    (v w : Linked) (s : Source) (place : ℕ → ℕ) (laid : IsLaidIn v w s place) (types : IsOrderOfTypes v.classes)
+    {v w : Linked} {s : Source} {place : ℕ → ℕ} (laid : IsLaidIn v w s place) (types : IsOrderOfTypes v.classes)
     (needs : NeededHaveHomes v) (p x : ℕ) (counted : Width) (home : IsHomeOf s p x (letter_for counted)) where
   -- a home that is needed there is that of the local, or has a slot apart from its own
   pub apart-or-same :
@@ -195,7 +191,7 @@ module _
 
 -- what homes hold after an increment
 pub still-held :
-    (stay : HomesStay Cell) (written : WrittenHold Cell) (v : Linked) (e : Cell → Cell) (s : Source) (x r : ℕ) (counted : Width)
+    (v : Linked) (e : Cell → Cell) (s : Source) (x r : ℕ) (counted : Width)
     (amount : ℤ) (h : Home)
     → h.slot ≡ x
     → register s h ≡ r
@@ -210,7 +206,7 @@ pub still-held :
     → (k ≡ h) ⊎ AreApart k.slot (type_width k.ty) x (type_width h.ty)
     → HoldsValue s (top z).registers (top t) k
     → HoldsValue s (top y).registers (top u) k
-still-held stay written v e s x r counted amount h slot_is register_is wide_is has serve k own z t y u stays held apart holds = by apart
+still-held v e s x r counted amount h slot_is register_is wide_is has serve k own z t y u stays held apart holds = by apart
   where
     sizes : type_width h.ty ≡ (footprint v (ops.Increment counted r amount)).written
     sizes = wide_is ∙ (written-width v counted x amount ∙ sym (written-width v counted r amount))
@@ -220,7 +216,7 @@ still-held stay written v e s x r counted amount h slot_is register_is wide_is h
 
     rewritten-home : HoldsValue s (top y).registers (top u) h
     rewritten-home =
-        written e (footprint v (ops.Increment counted x amount)) (footprint v (ops.Increment counted r amount)) z y t u s h stays
+        written-hold e (footprint v (ops.Increment counted x amount)) (footprint v (ops.Increment counted r amount)) z y t u s h stays
         (written-first v counted x amount ∙ sym slot_is) (written-first v counted r amount ∙ sym register_is) (sym wide_is) held.known
         held.there
 
@@ -237,7 +233,7 @@ still-held stay written v e s x r counted amount h slot_is register_is wide_is h
             let two = own-register h has in
             let first = written-first v counted x amount in
             let second = written-first v counted r amount in
-            stay (footprint v (ops.Increment counted x amount)) (footprint v (ops.Increment counted r amount)) z y t u s k stays.first
+            homes-stay (footprint v (ops.Increment counted x amount)) (footprint v (ops.Increment counted r amount)) z y t u s k stays.first
             stays.second
             (subst (λ b. AreApart k.slot (type_width k.ty) b (footprint v (ops.Increment counted x amount)).written) (sym first)
             (subst (AreApart k.slot (type_width k.ty) x) wide_is slots_apart))
@@ -248,10 +244,7 @@ still-held stay written v e s x r counted amount h slot_is register_is wide_is h
             (subst (λ b. AreApart own.0 (type_width k.ty) b (type_width h.ty)) (sym two) far)))) holds
 
 module _
-    (v : Linked) (alike_steps : StepsAreAlike v) (operations : OperationsAreKept) (stand : GroupsStandAtSteps) (follow : GroupsFollow)
-    (one_to_one : RenamesOneToOne v) (run_alike : IncrementsRunAlike Cell) (stay : HomesStay Cell) (written : WrittenHold Cell)
-    (executed : (w : Linked) → IsExecutable w → StepsExecute w) (listed : InstructionsAreListed)
-    (types : IsOrderOfTypes v.classes) (whole : DerivedAreWhole v) (kept : NeededAreKept) (serves : HomesServe v)
+    (v : Linked) (alike_steps : StepsAreAlike v) (types : IsOrderOfTypes v.classes) (whole : DerivedAreWhole v)
     (needs : NeededHaveHomes v) where
   -- an increment takes one step, in the home
   pub increment-runs :
@@ -264,53 +257,37 @@ module _
   unfolding body
   increment-runs w s place i counted x amount z t o laid b step fine =
       let op = ops.Increment counted x amount in
-      let g = steps-here v w s place laid stand follow i op b.stands b.reached b.does in
-      let home = home-is v w s place laid types whole kept i op (letter_for counted) x (asks-same v counted x amount) b.stands b.reached b.does in
+      let home = home-is laid types whole i op (letter_for counted) x (asks-same v counted x amount) b.stands b.reached b.does in
       let h : Home = record { slot = x; ty = home.ty } in
       let r : ℕ = register s h in
       let insn : Insn = record i.insn { x = pos r } in
       let other = ops.Increment counted r amount in
       let own : ℕ = body_at s i.place in
       let are : body s i op ≡ Plain insn ∷ [] = ap (increased s i) home.at in
-      let count : count_of (body s i op) ≡ 1 = ap count_of are in
-      let found = step-at s own (Plain insn) [] (record { insn = insn; targets = []; keys = [] }) []
-      (stand-as s own (body s i op) (Plain insn ∷ []) are g.body_steps) refl in
-      let reached_here = some-reached v w s place laid i.place b.reached in
-      let local_home = needed-local v w s place laid needs i.place x h reached_here home.among in
-      let low : r < 256 = small-register v serves s h laid.world laid.planned local_home.has in
-      let bytes = op-fits s.method.code i.place i.insn laid.planned.code.bytes ((listed s.method.code).decodes i b.stands) in
-      let same_method = method-is v w s place laid (executed w laid.new) i op z t b g in
+      let reached_here = some-reached laid i.place b.reached in
+      let local_home = needed-local laid needs i.place x h reached_here home.among in
+      let low : r < 256 = small-register v s h laid.world laid.planned local_home.has in
+      let bytes = op-fits s.method.code i.place i.insn laid.planned.code.bytes ((all-are-listed s.method.code).decodes i b.stands) in
+      let same_method = method-is laid b in
       let resolves : Resolves w laid.code.target.rec i.place insn (Ok other) =
-      operations v w b.executes.method laid.code.target.rec i.place insn (Ok other) laid.code.same
+      operations-are-kept v w b.executes.method laid.code.target.rec i.place insn (Ok other) laid.code.same
       (ap apart_from_code same_method ∙ sym laid.code.has.same)
       (sym (increased-at v b.executes.method b.executes.method i.place i.place i.insn counted x r amount bytes low (sym b.executes.resolved))) in
-      let there = ex v w s place laid (executed w laid.new) i op z t b g insn other count found resolves refl in
-      let agree = codes v w s place laid (executed w laid.new) i op z t b g insn other count found resolves refl refl
-      (λ falls. subst (λ m. IsPlace (code_at w m) (place (own + 1))) (sym b.of.target)
-      (next-place v w s place laid stand follow i op b.stands b.reached b.does count refl)) in
+      let there = ex laid b insn other are resolves refl in
+      let agree = codes laid b insn other are resolves refl refl in
       let held : HoldsValue s (top z).registers (top t) h =
       among-each (HoldsValue s (top z).registers (top t)) (needed s i.place x) h (b.held.locals x) home.among in
       let wide_enough : type_width h.ty ≡ (footprint v op).written =
       wide home.ty ∙ (ap size home.letter_is ∙ sym (written-width v counted x amount)) in
-      let run = run_alike (renamed_cell (rename s place)) (rename s place) v w z t i there.instruction s h counted amount
-      (alike v w s place laid (executed w laid.new) i op z t b g) agree held wide_enough in
-      let p = alike_steps w (rename s place) z t i there.instruction op other o laid.code.same (one_to_one w s place laid)
-      b.executes there.executes run step fine in
+      let run = increments-run-alike (renamed_cell (rename s place)) (rename s place) v w z t i there.instruction s h counted amount
+      (alike laid b) agree held wide_enough in
       let serve : Serve s.world s.method s.frames s.homes =
-      (subst HomesServe (sym laid.world) serves) s.method s.frames s.homes laid.planned.homes in
-      record {
-        count = 1;
-        more = omega arith;
-        fewer = omega arith;
-        outcome = p.0;
-        runs = one-step w t p.0 p.1;
-        comes =
-            comes v w s place laid (executed w laid.new) i op z t b g insn other count found resolves refl
-            (λ y u stays l.
-            each-among (HoldsValue s (top y).registers (top u)) (needed s i.place l)
-            (λ k among. still-held stay written v (renamed_cell (rename s place)) s x r counted amount h refl refl wide_enough local_home.has serve
-            k (needed-local v w s place laid needs i.place l k reached_here among).has z t y u stays held
-            (apart-or-same v w s place laid types needs i.place x counted home l k among)
-            (among-each (HoldsValue s (top z).registers (top t)) (needed s i.place l) k (b.held.locals l) among)))
-            (λ k. refl) (called v i.insn op z) o p.0 p.2;
-      }
+      homes-serve same_type-decides s.world s.method s.frames s.homes laid.planned.homes in
+      runs laid b insn other are resolves refl
+      (λ y u stays l.
+      each-among (HoldsValue s (top y).registers (top u)) (needed s i.place l)
+      (λ k among. still-held v (renamed_cell (rename s place)) s x r counted amount h refl refl wide_enough local_home.has serve
+      k (needed-local laid needs i.place l k reached_here among).has z t y u stays held
+      (apart-or-same laid types needs i.place x counted home l k among)
+      (among-each (HoldsValue s (top z).registers (top t)) (needed s i.place l) k (b.held.locals l) among)))
+      (λ k. refl) alike_steps o step fine run

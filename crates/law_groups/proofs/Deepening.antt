@@ -8,7 +8,6 @@ use Rattle.jc_base.specs.Each.{Each, IsAmong}
 use Rattle.jc_base.specs.World.{Linked, IsWorld}
 use Rattle.jc_base.proofs.Eaching.{Each-weaker}
 use Rattle.jc_decode.specs.declared.insn.Placed.{Placed}
-use Rattle.jc_decode.specs.Laws.{InstructionsAreListed}
 use Rattle.jc_decode.specs.Listing.{targets}
 use Rattle.jc_decode.specs.Symbols.{place_of}
 use Rattle.jc_decode.proofs.Elements.{Contains-slice_get}
@@ -35,7 +34,6 @@ use Rattle.xf_homes.specs.declared.home.Home.{Home}
 use Rattle.xf_homes.specs.Home.{KeepsStack}
 use Rattle.xf_homes.specs.Laws.{HasRegister}
 use Rattle.xf_homes.specs.Walk.{operands_of}
-use Rattle.law_laid.specs.Laws.{DemandsAreKept, OperationsAreKept}
 use Rattle.xf_homes.specs.Source.{Source}
 use Rattle.xf_homes.specs.Plan.{stack_homes, is_leader, needed, operation}
 use Rattle.xf_emission.specs.declared.origin.Origin.TheVariants.{After}
@@ -44,20 +42,19 @@ use Rattle.xf_emission.specs.Emission.{items}
 use Rattle.xf_emission.specs.Group.{body, fall, fall_by, fall_over, fallen}
 use Rattle.xf_emission.specs.Jump.{branch, has_under, jump_to, lead, leads, operands, spill_if, branch_copies, under, way_of}
 use Rattle.xf_emission.specs.Move.{loads, spill}
-use Rattle.law_rewritten_typing.specs.Edges.{CellsFillStack, ForksAreCut, ForksMatch, IsForkedAt, LeadsTo, NeededHaveHomes, leads_after}
+use Rattle.law_rewritten_typing.specs.Edges.{ForksAreCut, ForksMatch, IsForkedAt, LeadsTo, leads_after}
 use Rattle.law_rewritten_typing.proofs.ForkTypings.{each-left}
 use Rattle.law_sound.proofs.Branches.{targets-are}
-use Rattle.law_homes.specs.Edges.{CellsAreFew, CellsRun, CopiesAreFew, EdgesRun, HoldsAfter, IsBeside, KeptStacksStay, LeadersLoad, OperandsLoad, StacksSpill}
+use Rattle.law_homes.specs.Edges.{HoldsAfter, IsBeside, OperandsLoad}
 use Rattle.law_homes.specs.Edges.{UnderHold, UnderLoads, insns, top_at}
 use Rattle.law_homes.specs.Held.{HoldsFrame, HoldsValue, HoldsLocals, slots}
-use Rattle.law_homes.specs.Laws.{KeptRunAlike, LocalsStay, NamesNoneWritesNone, StepsExecute}
 use Rattle.law_homes.proofs.Beside.{among-each, each-among, held-as}
 use Rattle.law_homes.proofs.Loading.{step-place}
 use Rattle.law_groups.specs.Laid.{IsLaidIn, body_at, count_of, group_at, rename, steps_of}
 use Rattle.law_groups.specs.Beside.{AreEqualBut, AreOf, IsAtGroup, IsTypedAt, MovesTop, StaysTyped}
-use Rattle.law_groups.specs.Comes.{ComesToGroup, ComesWithin, GroupRuns, group_stays}
-use Rattle.law_groups.specs.Laws.{RenamesOneToOne}
-use Rattle.law_groups.specs.Steps.{GroupsFollow, GroupsStandAtSteps, ItemsStandFrom, StubsStandAtSteps}
+use Rattle.law_groups.specs.Comes.{ComesToGroup, ComesWithin, GroupRuns}
+use Rattle.law_groups.specs.Steps.{ItemsStandFrom}
+use Rattle.law_groups.specs.Moves.{MovesRun}
 use Rattle.law_groups.proofs.Arriving.{at-step, beside, kept-registers, needed-local, other-holds, runs-then}
 use Rattle.law_groups.proofs.Branching.{AfterFork, ForkComes, fork-steps, fork_falls, fork_leads}
 use Rattle.law_groups.proofs.Choosing.{frame-at, jumps-too, leads-inside, one-jump, unstored-fork}
@@ -67,7 +64,7 @@ use Rattle.law_groups.proofs.Entering.{Entered, enters}
 use Rattle.law_groups.proofs.Following.{Next, next-of, steps-here}
 use Rattle.law_groups.proofs.ForkSteps.{jump-step}
 use Rattle.law_groups.proofs.BareForks.{body-branch, labels_of}
-use Rattle.law_groups.proofs.OneGroup.{no-fault, same-method}
+use Rattle.law_groups.proofs.OneGroup.{no-fault, same-method, stays-on}
 use Rattle.law_groups.proofs.Moving.{copies-move, count-moves, loads-move, moves-stand, spill-count, spill-moves}
 use Rattle.law_groups.proofs.Placing.{count-append}
 use Rattle.law_groups.proofs.Plain.{frames-are}
@@ -98,15 +95,10 @@ fallen-over s i op n falls some over =
     ∙ ap (λ b. if b then fall_over s i.place op n q else fall s i.place op q) over)
 
 module _
-    (v : Linked) (world : IsWorld v) (alike_steps : StepsAreAlike v) (operations : OperationsAreKept) (asked : DemandsAreKept)
-    (writes : NamesNoneWritesNone v) (one_to_one : RenamesOneToOne v) (run_alike : KeptRunAlike Cell) (stay_locals : LocalsStay Cell)
-    (listed : InstructionsAreListed) (decided : OperationsAreDecided v)
-    (w : Linked) (s : Source) (place : ℕ → ℕ) (laid : IsLaidIn v w s place)
-    (stand : GroupsStandAtSteps) (follow : GroupsFollow) (stubs : StubsStandAtSteps) (executed : StepsExecute w)
-    (needs : NeededHaveHomes v) (fill : CellsFillStack v) (match : ForksMatch v) (cuts : ForksAreCut v)
-    (loading : LeadersLoad v w) (spills : StacksSpill v w) (stay : KeptStacksStay v w) (edges : EdgesRun v w) (cells_run : CellsRun v w)
+    {v w : Linked} {s : Source} {place : ℕ → ℕ} (laid : IsLaidIn v w s place)
+    (world : IsWorld v) (alike_steps : StepsAreAlike v) (decided : OperationsAreDecided v)
+    (match : ForksMatch v) (cuts : ForksAreCut v) (moving : MovesRun v)
     (operands_load : OperandsLoad v w) (under_loads : UnderLoads v w) (under_hold : UnderHold v w)
-    (few_copies : CopiesAreFew v) (few_cells : CellsAreFew v)
     (z t : State Cell) (o : Outcome Cell) (i : Placed) (op : Operation) (n : ℕ) (typed : IsTypedAt v s z)
     (stands : HasInstruction s.method.code i) (reached : is_some (s.frames i.place) ≡ true) (does : operation s i ≡ Ok op)
     (here : (top z).place ≡ i.place) (ex : Executes v z i op) (some : operands_of v (Ok op) ≡ Some n) (over : has_under s i.place n ≡ true)
@@ -118,11 +110,11 @@ module _
   own-some = subst (λ u. operands_of u (Ok op) ≡ Some n) (sym laid.world) some
 
   from-p : IsReached s.method i.place
-  from-p = some-reached v w s place laid i.place reached
+  from-p = some-reached laid i.place reached
 
   cut-here : (g : Types) × (s.frames i.place ≡ Some g) × IsForkedAt s i.place n g
   cut-here =
-      let g = frame-at v w s place laid i.place reached in
+      let g = frame-at laid i.place reached in
       (g.0, g.1, cuts s laid.world laid.planned i op n g.0 stands g.1 does own-some)
 
   keeps : KeepsStack s.world s.method s.frames i.place
@@ -130,10 +122,10 @@ module _
 
   -- beside the frame before the branch
   near : (u : State Cell) → u.heap ≡ z.heap → AreOf s (top z) (top u) → IsBeside w s i.place (top z) u
-  near u heap of = subst (λ q. IsBeside w s q (top z) u) here (beside v w s place laid z u typed heap of)
+  near u heap of = subst (λ q. IsBeside w s q (top z) u) here (beside laid z u typed heap of)
 
   unmade : (u : State Cell) → u.heap ≡ z.heap → AreOf s (top z) (top u) → map (renamed_cell (rename s place)) (top z).stack ≡ (top z).stack
-  unmade u heap of = stay s i.place (top z) u (rename s place) laid.world laid.planned (near u heap of) keeps
+  unmade u heap of = moving.stay w laid.new s i.place (top z) u (rename s place) laid.world laid.planned (near u heap of) keeps
 
   -- the cells under the operands, once the operands are gone
   under-held :
@@ -187,7 +179,7 @@ module _
   -- the homes of the cells under the operands have registers
   under-registered : (h : Home) → IsAmong h (under s i.place n) → HasRegister s.homes h
   under-registered h among =
-      kept-registers v w s place laid fill i.place h keeps from-p
+      kept-registers laid moving.fill i.place h keeps from-p
       (subst (IsAmong h) (sym cut-here.2.parts) (among-first (under s i.place n) among))
     where
       among-first : (hs : List Home) → IsAmong h hs → IsAmong h (hs ++ operands s i.place n)
@@ -218,7 +210,7 @@ module _
       let sp = spill s (stack_homes s i.place) in
       let ls = loads s (operands s i.place n) in
       let jm = jump_to i op (labels_of s i op n) ∷ [] in
-      let own = steps-here v w s place laid stand follow i op stands reached does in
+      let own = steps-here laid i op stands reached does in
       let st : ItemsStandFrom s (body_at s i.place) ((sp ++ ls) ++ jm) =
       stand-as s (body_at s i.place) (body s i op) ((sp ++ ls) ++ jm) whole-is own.body_steps in
       let first : ItemsStandFrom s (body_at s i.place) (sp ++ ls) = stand-first s (body_at s i.place) (sp ++ ls) jm st in
@@ -229,8 +221,8 @@ module _
       let a_size = spill-size in
       let b_size = load-size in
       let bare : (top u).stack ≡ (top z).stack = held.stack ∙ unmade u heap of in
-      let a = spills place (steps_of s) u (body_at s i.place) s i.place (top z) laid.world laid.planned (near u heap of) keeps
-      (at-step v w s place laid u (body_at s i.place) (length (stack_homes s i.place)) goes of.target at
+      let a = moving.spills w laid.new place (steps_of s) u (body_at s i.place) s i.place (top z) laid.world laid.planned (near u heap of) keeps
+      (at-step laid u (body_at s i.place) (length (stack_homes s i.place)) goes of.target at
       (omega (arith, all, one, two, three, a_size, b_size)))
       (moves-stand s (body_at s i.place) sp (spill-moves s (stack_homes s i.place)) (stand-first s (body_at s i.place) sp ls first)) bare in
       let k : ℕ = body_at s i.place + length (stack_homes s i.place) in
@@ -240,13 +232,13 @@ module _
       stand-at s (body_at s i.place + count_of sp) k ls (ap (λ r. body_at s i.place + r) a_size)
       (stand-last s (body_at s i.place) sp ls first) in
       let run = operands_load place (steps_of s) ua k s i op n (top z) laid.world laid.planned (near ua heap of_a) stands does own-some over
-      (at-step v w s place laid ua k (length (operands s i.place n)) (omega arith) of.target refl
+      (at-step laid ua k (length (operands s i.place n)) (omega arith) of.target refl
       (omega (arith, all, one, two, three, a_size, b_size)))
       (moves-stand s k ls (loads-move s (operands s i.place n)) rest) refl
       (each-among (HoldsValue s (slots (top z)) (top ua)) (stack_homes s i.place)
       (λ h among. held-as s (slots (top z)) (record (top u) { registers = a.registers }) (top ua) h refl
       (among-each (HoldsValue s (slots (top z)) (record (top u) { registers = a.registers })) (stack_homes s i.place) h a.cells among))) in
-      let low = few_cells s i.place laid.world laid.planned keeps in
+      let low = moving.few_cells s i.place laid.world laid.planned keeps in
       let limit = laid.room in
       let few_too = few-operands in
       record {
@@ -261,7 +253,7 @@ module _
         locals = λ x.
             each-among (HoldsValue s (top z).registers (record (top u) { registers = a.registers })) (needed s i.place x)
             (λ h among.
-            let l = needed-local v w s place laid needs i.place x h from-p among in
+            let l = needed-local laid moving.needs i.place x h from-p among in
             a.others (top z).registers h l.has l.slot
             (among-each (HoldsValue s (top z).registers (top u)) (needed s i.place x) h (held.locals x) among));
       }
@@ -307,25 +299,8 @@ module _
         → GroupRuns v w s place z t o
     stayed most small c some_done =
         let fewer = c.fewer in
-        group_stays y is (record {
-          count = loads_done + c.count;
-          more = omega (arith, some_done);
-          fewer = omega (arith, few_loads, fewer, small);
-          outcome = c.outcome;
-          runs = runs-then w loads_done c.count t x c.outcome loaded c.runs;
-          comes = (
-            c.comes.state,
-            c.comes.is,
-            record {
-              first = record { frames = refl };
-              second = record {
-                frames = c.comes.are.second.frames ∙ ap (λ fs. top c.comes.state ∷ fs) (ap other_frames moves.frames);
-              };
-              equal = c.comes.are.equal;
-              group = c.comes.are.group;
-            },
-          );
-        })
+        stays-on y x loads_done is (record { frames = refl }) loaded (ap other_frames moves.frames) c (omega (arith, some_done))
+        (omega (arith, few_loads, fewer, small))
 
     -- to a target
     led :
@@ -338,18 +313,18 @@ module _
         let leader : is_leader s q' ≡ true = (laid.planned.leaders q').1 (led_to stands from-p among) in
         let to_q = leads_after stands from-p does (jumped among) in
         let pairs = match s laid.world laid.planned i op n q' cut-here.0 stands cut-here.1 does own-some (jumped among) leader in
-        led-arrives v w s place laid stand follow executed needs fill cells_run edges few_copies few_cells i.place n op y x y-typed equal of
-        leader to_q from-p pairs bare held-y before stubs i k refl stands does own-some target_is at
+        led-arrives laid moving i.place n op y x y-typed equal of
+        leader to_q from-p pairs bare held-y before i k refl stands does own-some target_is at
 
     -- into the next place
     module _
         (falls : falls_from op ≡ true) (next_is : q' ≡ i.place + i.insn.len) (at : (top x).place ≡ place (m + 1)) where
-      next : Next v w s place laid stand follow i
-      next = next-of v w s place laid stand follow i op stands reached does falls
+      next : Next laid i
+      next = next-of laid i op stands reached does falls
 
       fallen-here : ItemsStandFrom s (m + 1) (fall_over s i.place op n q')
       fallen-here =
-          let own = steps-here v w s place laid stand follow i op stands reached does in
+          let own = steps-here laid i op stands reached does in
           let so : fallen s i op ≡ fall_over s i.place op n q' =
           fallen-over s i op n falls own-some over ∙ ap (fall_over s i.place op n) (sym next_is) in
           stand-as s (m + 1) (fallen s i op) (fall_over s i.place op n q') so
@@ -357,7 +332,7 @@ module _
 
       group-is : group_at s q' ≡ m + 1 + count_of (fall_over s i.place op n q')
       group-is =
-          let own = steps-here v w s place laid stand follow i op stands reached does in
+          let own = steps-here laid i op stands reached does in
           let size = own.size in
           let later = next.follows_it in
           let same : group_at s q' ≡ group_at s next.instruction.place = ap (group_at s) (next_is ∙ sym next.at) in
@@ -387,7 +362,7 @@ module _
           let pairs = match s laid.world laid.planned i op n q' cut-here.0 stands cut-here.1 does own-some successor leader in
           let g = group-is in
           let size = ap count_of are in
-          taken-falls v w s place laid stand follow executed needs fill cells_run edges few_copies few_cells i.place n op y x y-typed equal of
+          taken-falls laid moving i.place n op y x y-typed equal of
           leader to-next from-p pairs bare held-y before (m + 1)
           (stand-as s (m + 1) (fall_over s i.place op n q') (branch_copies s i.place op n q') are fallen-here) at (omega (arith, g, size))
 
@@ -405,9 +380,9 @@ module _
           let lt = inside in
           let depth = ap length bare in
           let goes : IsRunning x = let e = ap length moves.frames in omega (arith, e) in
-          let c = edges place (steps_of s) x (m + 1) s (After i.place op) q' (top y) laid.world laid.planned
-          (beside v w s place laid y x y-typed equal.heap of) to-next
-          (at-step v w s place laid x (m + 1) (length (insns cs)) goes of.target at (omega (arith, size, both, whole, lt)))
+          let c = moving.edges w laid.new place (steps_of s) x (m + 1) s (After i.place op) q' (top y) laid.world laid.planned
+          (beside laid y x y-typed equal.heap of) to-next
+          (at-step laid x (m + 1) (length (insns cs)) goes of.target at (omega (arith, size, both, whole, lt)))
           (moves-stand s (m + 1) cs moves_too (stand-first s (m + 1) cs ls st)) (omega (arith, depth)) before in
           let r : ℕ = m + 1 + length (insns cs) in
           let x1 : State Cell = top_at x (place r) c.registers [] in
@@ -420,7 +395,7 @@ module _
           (c.others h (under-registered h among) (among-each (HoldsValue s (slots (top y)) (top x)) (under s i.place n) h held-y among))) in
           let under_z = (under-held (top x1) x1 (top y) equal.heap of1 refl refl).1 under_y in
           let run2 = under_loads place (steps_of s) x1 r s i op n (top z) laid.world laid.planned (near x1 equal.heap of1) stands does own-some over
-          (at-step v w s place laid x1 r (length (under s i.place n)) (omega arith) of.target refl
+          (at-step laid x1 r (length (under s i.place n)) (omega arith) of.target refl
           (omega (arith, size, load_size, both, whole, lt)))
           (moves-stand s r ls (loads-move s (under s i.place n))
           (stand-at s (m + 1 + count_of cs) r ls (ap (λ k. m + 1 + k) size) (stand-last s (m + 1) cs ls st))) refl under_z in
@@ -429,12 +404,11 @@ module _
           let x2 : State Cell = top_at x (place (group_at s q')) c.registers (drop n (top z).stack) in
           let run3 : Runs tagged w (length (under s i.place n)) x1 (running x2) =
           subst (λ k. Runs tagged w (length (under s i.place n)) x1 (running (top_at x1 (place k) c.registers (drop n (top z).stack)))) last run2 in
-          let small = few_copies s (After i.place op) q' laid.world laid.planned to-next in
-          let low = few_cells s i.place laid.world laid.planned keeps in
+          let small = moving.few_copies s (After i.place op) q' laid.world laid.planned to-next in
+          let low = moving.few_cells s i.place laid.world laid.planned keeps in
           let limit = laid.room in
           let fewer = few-under in
           let frames = equal.frames in
-          let all = ap length moves.frames in
           let x_whole = ap length (frames-are x goes) in
           record {
             count = length (insns cs) + length (under s i.place n);
@@ -453,7 +427,7 @@ module _
                   of = record { source = of.source; target = of.target; count = c.count ∙ of.count };
                   at = refl;
                   holds =
-                      other-holds v w s place laid (top y) (top x2) other
+                      other-holds laid (top y) (top x2) other
                       (record {
                         stack =
                             ap (drop n) (sym (unmade x equal.heap of-z))
@@ -480,20 +454,20 @@ module _
 
   next-inside : falls_from op ≡ true → IsPlace (code_at w s.method.number) (place (m + 1))
   next-inside falls =
-      let own = steps-here v w s place laid stand follow i op stands reached does in
-      let next = next-of v w s place laid stand follow i op stands reached does falls in
+      let own = steps-here laid i op stands reached does in
+      let next = next-of laid i op stands reached does falls in
       let size = own.size in
       let later = next.follows_it in
       let lt = next.inside in
       let b = body-size in
-      step-place (code_at w s.method.number) place (steps_of s) (m + 1) (steps-are v w s place laid) (omega (arith, size, later, lt, b))
+      step-place (code_at w s.method.number) place (steps_of s) (m + 1) (steps-are laid) (omega (arith, size, later, lt, b))
 
   jump-stands : ItemsStandFrom s m (jump_to i op (labels_of s i op n) ∷ [])
   jump-stands =
       let sp = spill s (stack_homes s i.place) in
       let ls = loads s (operands s i.place n) in
       let jm = jump_to i op (labels_of s i op n) ∷ [] in
-      let own = steps-here v w s place laid stand follow i op stands reached does in
+      let own = steps-here laid i op stands reached does in
       let st : ItemsStandFrom s (body_at s i.place) ((sp ++ ls) ++ jm) =
       stand-as s (body_at s i.place) (body s i op) ((sp ++ ls) ++ jm) whole-is own.body_steps in
       let a_size = spill-size in
@@ -513,11 +487,11 @@ module _
   method-same : ex.method ≡ s.method.rec
   method-same =
       same-method ex.method s.method.rec
-      (sym ex.fetched.method ∙ (ap (slice_get v.methods) typed.method ∙ (method-of v w s place laid).rec))
+      (sym ex.fetched.method ∙ (ap (slice_get v.methods) typed.method ∙ (method-of laid).rec))
 
   module _ (group : IsAtGroup s place (top z) (top t)) (equal : AreEqualBut z t) (step : Steps tagged v z o) where
-    e : Entered v w s place laid stand follow loading stay few_cells z t
-    e = enters v w s place laid stand follow loading stay few_cells z t typed equal group
+    e : Entered laid moving z t
+    e = enters laid moving z t typed equal group
 
     abbrev u : State Cell
     u = e.state
@@ -551,10 +525,8 @@ module _
         let jumping = jumps-on v ex.method i.place i.insn op ex.resolved (jumps-too v op n some) in
         let j = jump-step s i op n m jump-stands _ _ (targets-are s.method.code i jumping) in
         let whole = unmade u e.equal.heap e.of in
-        fork-steps v alike_steps operations asked writes one_to_one run_alike stay_locals listed w s place laid executed i op n m some
-        stands j
-        (leads-inside v alike_steps operations asked writes one_to_one run_alike stay_locals listed decided w s place laid stand follow stubs
-        executed needs fill match loading spills stay edges cells_run few_copies few_cells i op n stands reached does own-some)
+        fork-steps laid alike_steps i op n m some stands j
+        (leads-inside laid alike_steps decided match moving i op n stands reached does own-some)
         next-inside (cut_state z n) u1 y1 executes-cut
         (record { frames = omega (arith, frames_u, frames, fz); heap = e.equal.heap; statics = e.equal.statics })
         (record { source = typed.method; target = e.of.target; count = ready.same ∙ e.of.count }) here
@@ -577,7 +549,6 @@ module _
 
     after : (x : State Cell) → Steps tagged w u1 (running x) → AfterFork s place i.place (cut_state z n) u1 y1 x → IsAfter x
     after x moved_on a =
-        let fz = frames-z in
         let frames = a.equal.frames in
         let goes_x : x.frames ≡ top x ∷ other_frames t.frames =
         a.second.frames ∙ ap (λ fs. top x ∷ fs) (ap other_frames e.moves.frames) in

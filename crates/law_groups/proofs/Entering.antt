@@ -12,22 +12,20 @@ use Rattle.law_alike.specs.Alike.{renamed_cell}
 use Rattle.xf_homes.specs.Source.{Source}
 use Rattle.xf_homes.specs.Plan.{stack_homes, is_leader, needed}
 use Rattle.xf_emission.specs.Move.{loads}
-use Rattle.law_homes.specs.Edges.{CellsAreFew, KeptStacksStay, LeadersLoad, top_at}
+use Rattle.law_homes.specs.Edges.{top_at}
 use Rattle.law_homes.specs.Held.{HoldsFrame, HoldsValue, Waits}
 use Rattle.law_homes.proofs.Beside.{each-among, among-each, held-as}
 use Rattle.law_groups.specs.Laid.{IsLaidIn, body_at, group_at, loaded_at, rename, steps_of}
 use Rattle.law_groups.specs.Beside.{AreEqualBut, AreOf, HeldOrWaits, IsAtGroup, IsTypedAt, MovesTop}
-use Rattle.law_groups.specs.Steps.{GroupsFollow, GroupsStandAtSteps, ItemsStandFrom}
+use Rattle.law_groups.specs.Steps.{ItemsStandFrom}
+use Rattle.law_groups.specs.Moves.{MovesRun}
 use Rattle.law_groups.proofs.Arriving.{at-step, beside, leader-keeps}
 use Rattle.law_groups.proofs.Context.{Here, here-at, reached-some}
 use Rattle.law_groups.proofs.Following.{body-inside, steps-here}
 use Rattle.law_groups.proofs.Moving.{loads-move, moves-stand}
 use Rattle.law_groups.proofs.Plain.{frames-are}
 
-module _
-    (v w : Linked) (s : Source) (place : ℕ → ℕ) (laid : IsLaidIn v w s place)
-    (stand : GroupsStandAtSteps) (follow : GroupsFollow)
-    (loading : LeadersLoad v w) (stay : KeptStacksStay v w) (few_cells : CellsAreFew v) where
+module _ {v w : Linked} {s : Source} {place : ℕ → ℕ} (laid : IsLaidIn v w s place) (moving : MovesRun v) where
   -- the target at the first step after the loads
   pub record Entered (z t : State Cell) : Type 0 where
     pub count : ℕ
@@ -48,40 +46,40 @@ module _
     runs_too : IsRunning t
     runs_too = let same = equal.frames in let some = typed.runs in omega (arith, same, some)
 
-    here : Here v w s place laid q
-    here = here-at v w s place laid q (reached-some v w s place laid q typed.reached)
+    here : Here laid q
+    here = here-at laid q (reached-some laid q typed.reached)
 
     also : is_some (s.frames here.instruction.place) ≡ true
-    also = ap (λ p. is_some (s.frames p)) here.at ∙ reached-some v w s place laid q typed.reached
+    also = ap (λ p. is_some (s.frames p)) here.at ∙ reached-some laid q typed.reached
 
     inside : body_at s q < length (steps_of s)
     inside =
         subst (λ p. body_at s p < length (steps_of s)) here.at
-        (body-inside v w s place laid stand follow here.instruction here.op here.stands also here.does)
+        (body-inside laid here.instruction here.op here.stands also here.does)
 
     load-steps : ItemsStandFrom s (group_at s q) (loads s (loaded_at s q))
     load-steps =
         subst (λ p. ItemsStandFrom s (group_at s p) (loads s (loaded_at s p))) here.at
-        (steps-here v w s place laid stand follow here.instruction here.op here.stands also here.does).load_steps
+        (steps-here laid here.instruction here.op here.stands also here.does).load_steps
 
     leader-enters : is_leader s q ≡ true → Entered z t
     leader-enters e =
         let hs = stack_homes s q in
         let are : loaded_at s q ≡ hs = ap (λ b. if b then hs else []) e in
         let waits : Waits s q (top z) (top t) = subst (λ b. HeldOrWaits b s place (top z) (top t)) e group.holds in
-        let near = beside v w s place laid z t typed equal.heap group.of in
-        let keeps = leader-keeps v w s place laid q e in
+        let near = beside laid z t typed equal.heap group.of in
+        let keeps = leader-keeps laid q e in
         let st : ItemsStandFrom s (group_at s q) (loads s hs) =
         subst (λ ks. ItemsStandFrom s (group_at s q) (loads s ks)) are load-steps in
         let size = ap length are in
         let lt = inside in
-        let run = loading place (steps_of s) t (group_at s q) s q (top z) laid.world laid.planned near keeps
-        (at-step v w s place laid t (group_at s q) (length hs) runs_too group.of.target group.at (omega (arith, size, lt)))
+        let run = moving.loading w laid.new place (steps_of s) t (group_at s q) s q (top z) laid.world laid.planned near keeps
+        (at-step laid t (group_at s q) (length hs) runs_too group.of.target group.at (omega (arith, size, lt)))
         (moves-stand s (group_at s q) (loads s hs) (loads-move s hs) st) waits in
         let u : State Cell = top_at t (place (group_at s q + length hs)) (top t).registers (top z).stack in
         let whole = ap length (frames-are t runs_too) in
         let same = equal.frames in
-        let low = few_cells s q laid.world laid.planned keeps in
+        let low = moving.few_cells s q laid.world laid.planned keeps in
         let limit = laid.room in
         record {
           count = length hs;
@@ -93,7 +91,7 @@ module _
           of = record { source = group.of.source; target = group.of.target; count = group.of.count };
           at = ap (λ ks. place (group_at s q + length ks)) (sym are);
           held = record {
-            stack = sym (stay s q (top z) t (rename s place) laid.world laid.planned near keeps);
+            stack = sym (moving.stay w laid.new s q (top z) t (rename s place) laid.world laid.planned near keeps);
             locals = λ x.
                 each-among (HoldsValue s (top z).registers (top u)) (needed s q x)
                 (λ h among. held-as s (top z).registers (top t) (top u) h refl

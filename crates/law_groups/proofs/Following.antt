@@ -32,8 +32,7 @@ use Rattle.xf_emission.specs.Group.{store_to_homes, swap_words}
 use Rattle.xf_emission.specs.Mnemonics.{from_read, from_write, swap_x}
 use Rattle.law_homes.proofs.Loading.{step-place}
 use Rattle.law_groups.specs.Laid.{IsLaidIn, body_at, count_of, group_at, steps_of}
-use Rattle.law_groups.specs.Steps.{GroupsFollow, GroupsStandAtSteps}
-use Rattle.law_groups.proofs.Placing.{count-append}
+use Rattle.law_groups.proofs.Placing.{count-append, groups-follow, groups-stand-at-steps}
 use Rattle.law_groups.proofs.Standing.{GroupSteps, group-steps, stand-inside}
 use Rattle.law_groups.proofs.Context.{here-at, reached-some, steps-are}
 
@@ -106,16 +105,14 @@ module _ (s : Source) (i : Placed) where
 
 -- ---- the next group
 
-module _
-    (v w : Linked) (s : Source) (place : ℕ → ℕ) (laid : IsLaidIn v w s place)
-    (stand : GroupsStandAtSteps) (follow : GroupsFollow) where
+module _ {v w : Linked} {s : Source} {place : ℕ → ℕ} (laid : IsLaidIn v w s place) where
   pub steps-here :
       (i : Placed) (op : Operation)
       → HasInstruction s.method.code i
       → is_some (s.frames i.place) ≡ true
       → operation s i ≡ Ok op
       → GroupSteps s i op
-  steps-here i op stands reached does = group-steps stand s i op laid.planned.code stands reached does
+  steps-here i op stands reached does = group-steps groups-stand-at-steps s i op laid.planned.code stands reached does
 
   -- a group has its first instruction after its loads
   pub body-inside :
@@ -153,9 +150,9 @@ module _
       let own : IsReached s.method i.place = (laid.planned.frames.reached i.place).0 reached in
       let goes = goes-on s.world s.method.rec i.place i.insn op (sym does) falls in
       let there : IsReached s.method (i.place + i.insn.len) = follows stands own (falls_through goes) in
-      let h = here-at v w s place laid (i.place + i.insn.len) (reached-some v w s place laid (i.place + i.insn.len) there) in
+      let h = here-at laid (i.place + i.insn.len) (reached-some laid (i.place + i.insn.len) there) in
       let also : is_some (s.frames h.instruction.place) ≡ true =
-      ap (λ q. is_some (s.frames q)) h.at ∙ reached-some v w s place laid (i.place + i.insn.len) there in
+      ap (λ q. is_some (s.frames q)) h.at ∙ reached-some laid (i.place + i.insn.len) there in
       let least = body-inside h.instruction h.op h.stands also h.does in
       record {
         instruction = h.instruction;
@@ -165,7 +162,7 @@ module _
         reached = also;
         does = h.does;
         steps = steps-here h.instruction h.op h.stands also h.does;
-        follows_it = follow s i h.instruction laid.planned.code stands reached h.stands also h.at;
+        follows_it = groups-follow s i h.instruction laid.planned.code stands reached h.stands also h.at;
         inside = omega (arith, least);
       }
 
@@ -184,5 +181,5 @@ module _
       let size = g.size in
       let later = n.follows_it in
       let inside = n.inside in
-      step-place (code_at w s.method.number) place (steps_of s) (body_at s i.place + 1) (steps-are v w s place laid)
+      step-place (code_at w s.method.number) place (steps_of s) (body_at s i.place + 1) (steps-are laid)
       (omega (arith, size, one, later, inside))

@@ -24,15 +24,15 @@ use Rattle.xf_emission.specs.Emission.{items}
 use Rattle.xf_emission.specs.Jump.{goto}
 use Rattle.xf_emission.specs.Move.{spill}
 use Rattle.xf_emission.specs.Mnemonics.{goto_w}
-use Rattle.law_rewritten_typing.specs.Edges.{CellsFillStack, LeadsTo, NeededHaveHomes}
-use Rattle.law_homes.specs.Edges.{CellsAreFew, CopiesAreFew, EdgesRun, HoldsBefore, StacksSpill, insns, top_at}
+use Rattle.law_rewritten_typing.specs.Edges.{LeadsTo}
+use Rattle.law_homes.specs.Edges.{HoldsBefore, insns, top_at}
 use Rattle.law_homes.specs.Held.{HoldsValue, Waits, slots}
-use Rattle.law_homes.specs.Laws.{StepsExecute}
 use Rattle.law_homes.proofs.Beside.{each-among, among-each, held-as}
 use Rattle.law_groups.specs.Laid.{IsLaidIn, body_at, count_of, group_at, steps_of}
 use Rattle.law_groups.specs.Beside.{AreEqualBut, AreOf, IsTypedAt, MovesTop}
 use Rattle.law_groups.specs.Comes.{ComesToGroup, ComesWithin}
-use Rattle.law_groups.specs.Steps.{GroupsFollow, GroupsStandAtSteps, ItemsStandFrom}
+use Rattle.law_groups.specs.Steps.{ItemsStandFrom}
+use Rattle.law_groups.specs.Moves.{MovesRun}
 use Rattle.law_groups.proofs.Arriving.{IsLocal, at-step, beside, kept-registers, leader-holds, leader-keeps, runs-then}
 use Rattle.law_groups.proofs.Context.{here-at, reached-some, steps-are, target-at}
 use Rattle.law_groups.proofs.Following.{body-inside}
@@ -42,23 +42,18 @@ use Rattle.law_groups.proofs.Plain.{frames-are}
 use Rattle.law_groups.proofs.Placing.{count-append}
 use Rattle.law_groups.proofs.Standing.{stand-at, stand-first, stand-inside, stand-last, step-at}
 
-module _
-    (v w : Linked) (s : Source) (place : ℕ → ℕ) (laid : IsLaidIn v w s place) (stand : GroupsStandAtSteps) (follow : GroupsFollow) where
+module _ {v w : Linked} {s : Source} {place : ℕ → ℕ} (laid : IsLaidIn v w s place) where
   -- the group of a reached place has a step
   pub group-inside : (q : ℕ) → IsReached s.method q → group_at s q < length (steps_of s)
   group-inside q reached =
-      let some = reached-some v w s place laid q reached in
-      let h = here-at v w s place laid q some in
+      let some = reached-some laid q reached in
+      let h = here-at laid q some in
       let also : is_some (s.frames h.instruction.place) ≡ true = ap (λ p. is_some (s.frames p)) h.at ∙ some in
       let lt = subst (λ p. body_at s p < length (steps_of s)) h.at
-      (body-inside v w s place laid stand follow h.instruction h.op h.stands also h.does) in
+      (body-inside laid h.instruction h.op h.stands also h.does) in
       omega (arith, lt)
 
-module _
-    (v w : Linked) (s : Source) (place : ℕ → ℕ) (laid : IsLaidIn v w s place)
-    (stand : GroupsStandAtSteps) (follow : GroupsFollow) (executed : StepsExecute w)
-    (needs : NeededHaveHomes v) (fill : CellsFillStack v)
-    (spills : StacksSpill v w) (edges : EdgesRun v w) (few_copies : CopiesAreFew v) (few_cells : CellsAreFew v) where
+module _ {v w : Linked} {s : Source} {place : ℕ → ℕ} (laid : IsLaidIn v w s place) (moving : MovesRun v) where
   module _
       (y u : State Cell) (o : Origin) (typed : IsTypedAt v s y) (equal : AreEqualBut y u) (of : AreOf s (top y) (top u))
       (leader : is_leader s (top y).place ≡ true) (leads : LeadsTo s o (top y).place) where
@@ -99,7 +94,7 @@ module _
               group = record {
                 of = record { source = of.source; target = of.target; count = count ∙ of.count };
                 at = refl;
-                holds = leader-holds v w s place laid (top y) (top (arrived registers)) leader waits;
+                holds = leader-holds laid (top y) (top (arrived registers)) leader waits;
               };
             };
           };
@@ -123,9 +118,9 @@ module _
         let one : count_of (goto q ∷ []) ≡ 1 = refl in
         let n : ℕ = m + length (insns cs) in
         let depth = ap length bare in
-        let c = edges place (steps_of s) u m s o q (top y) laid.world laid.planned
-        (beside v w s place laid y u typed equal.heap of) leads
-        (at-step v w s place laid u m (length (insns cs)) running-too of.target at (omega (arith, size, all, both, one)))
+        let c = moving.edges w laid.new place (steps_of s) u m s o q (top y) laid.world laid.planned
+        (beside laid y u typed equal.heap of) leads
+        (at-step laid u m (length (insns cs)) running-too of.target at (omega (arith, size, all, both, one)))
         (moves-stand s m cs moves (stand-first s m cs (goto q ∷ []) st)) (omega (arith, depth)) before in
         let u1 : State Cell = top_at u (place n) c.registers [] in
         let first : Runs tagged w (length (insns cs)) u (running u1) =
@@ -135,12 +130,12 @@ module _
         let found : slice_get (steps_of s) n ≡ Some (record { insn = jump goto_w; targets = group_at s q ∷ []; keys = [] }) =
         step-at s n (goto q) [] (record { insn = jump goto_w; targets = place_of q (items s) ∷ []; keys = [] }) [] rest refl in
         let method : (top u1).method ≡ s.method.number = of.target in
-        let jumped = goto-steps w laid.new executed place (steps_of s) u1 laid.code.target.rec n (group_at s q) (omega arith)
-        (ap (slice_get w.methods) method ∙ target-at v w s place laid)
-        (subst (λ k. AreSteps (code_at w k) place 0 (steps_of s) (listing (code_at w k))) (sym method) (steps-are v w s place laid))
-        found refl (group-inside v w s place laid stand follow q typed.reached) (omega arith) in
+        let jumped = goto-steps w laid.new place (steps_of s) u1 laid.code.target.rec n (group_at s q) (omega arith)
+        (ap (slice_get w.methods) method ∙ target-at laid)
+        (subst (λ k. AreSteps (code_at w k) place 0 (steps_of s) (listing (code_at w k))) (sym method) (steps-are laid))
+        found refl (group-inside laid q typed.reached) (omega arith) in
         let second : Runs tagged w 1 u1 (running (arrived c.registers)) = after_step jumped none_taken in
-        let small = few_copies s o q laid.world laid.planned leads in
+        let small = moving.few_copies s o q laid.world laid.planned leads in
         arrives 1 511 (length (insns cs) + 1) c.registers (omega arith) (omega (arith, small))
         (runs-then w (length (insns cs)) 1 u u1 (running (arrived c.registers)) first second) c.count
         (record {
@@ -149,7 +144,7 @@ module _
               each-among (HoldsValue s (slots (top y)) (top (arrived c.registers))) (stack_homes s q)
               (λ h among. held-as s (slots (top y)) (record (top u) { registers = c.registers }) (top (arrived c.registers)) h refl
               (c.others h
-              (kept-registers v w s place laid fill q h (leader-keeps v w s place laid q leader) typed.reached among)
+              (kept-registers laid moving.fill q h (leader-keeps laid q leader) typed.reached among)
               (among-each (HoldsValue s (slots (top y)) (top u)) (stack_homes s q) h held among)));
           locals = λ x.
               each-among (HoldsValue s (top y).registers (top (arrived c.registers))) (needed s q x)
@@ -189,10 +184,7 @@ comes-later w s place y t u n least most total first moves few c =
     }
 
 module _
-    (v w : Linked) (s : Source) (place : ℕ → ℕ) (laid : IsLaidIn v w s place)
-    (stand : GroupsStandAtSteps) (follow : GroupsFollow) (executed : StepsExecute w)
-    (needs : NeededHaveHomes v) (fill : CellsFillStack v)
-    (spills : StacksSpill v w) (edges : EdgesRun v w) (few_copies : CopiesAreFew v) (few_cells : CellsAreFew v)
+    {v w : Linked} {s : Source} {place : ℕ → ℕ} (laid : IsLaidIn v w s place) (moving : MovesRun v)
     (y u : State Cell) (o : Origin) (typed : IsTypedAt v s y) (equal : AreEqualBut y u) (of : AreOf s (top y) (top u))
     (leader : is_leader s (top y).place ≡ true) (leads : LeadsTo s o (top y).place) where
   -- from a state whose stack is the source's: first it goes into homes
@@ -202,7 +194,7 @@ module _
       → (top u).place ≡ place m
       → (top u).stack ≡ (top y).stack
       → ((k : Frame Cell)
-      → ((h : Home) → IsLocal v w s place laid needs h → HoldsValue s (top y).registers (top u) h → HoldsValue s (top y).registers k h)
+      → ((h : Home) → IsLocal laid moving.needs h → HoldsValue s (top y).registers (top u) h → HoldsValue s (top y).registers k h)
       → HoldsBefore s o (top y).place (top y) k)
       → ComesWithin w 1 766 u (ComesToGroup s place y u)
   spilled-goes m st at same before =
@@ -219,9 +211,9 @@ module _
       let frames = equal.frames in
       let some_frames = typed.runs in
       let goes : IsRunning u = omega (arith, frames, some_frames) in
-      let keeps = leader-keeps v w s place laid q leader in
-      let a = spills place (steps_of s) u m s q (top y) laid.world laid.planned (beside v w s place laid y u typed equal.heap of) keeps
-      (at-step v w s place laid u m (length (stack_homes s q)) goes of.target at (omega (arith, size, all, both, some, one)))
+      let keeps = leader-keeps laid q leader in
+      let a = moving.spills w laid.new place (steps_of s) u m s q (top y) laid.world laid.planned (beside laid y u typed equal.heap of) keeps
+      (at-step laid u m (length (stack_homes s q)) goes of.target at (omega (arith, size, all, both, some, one)))
       (moves-stand s m sp moves (stand-first s m sp more st)) same in
       let n : ℕ = m + length (stack_homes s q) in
       let u1 : State Cell = top_at u (place n) a.registers [] in
@@ -229,11 +221,11 @@ module _
       let equal1 : AreEqualBut y u1 = record { frames = omega (arith, whole, frames); heap = equal.heap; statics = equal.statics } in
       let of1 : AreOf s (top y) (top u1) =
       record { source = of.source; target = of.target; count = a.count ∙ of.count } in
-      let low = few_cells s q laid.world laid.planned keeps in
+      let low = moving.few_cells s q laid.world laid.planned keeps in
       let limit = laid.room in
       comes-later w s place y u u1 (length (stack_homes s q)) 1 511 766 a.runs (record { frames = refl; heap = refl; statics = refl })
       (omega (arith, low, limit))
-      (edge-goes v w s place laid stand follow executed needs fill spills edges few_copies few_cells y u1 o typed equal1 of1 leader leads
+      (edge-goes laid moving y u1 o typed equal1 of1 leader leads
       n (stand-at s (m + count_of sp) n more (ap (λ k. m + k) size) (stand-last s m sp more st)) refl refl
       (each-among (HoldsValue s (slots (top y)) (top u1)) (stack_homes s q)
       (λ h among. held-as s (slots (top y)) (record (top u) { registers = a.registers }) (top u1) h refl

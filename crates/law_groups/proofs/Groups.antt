@@ -13,22 +13,16 @@ use Rattle.vm_step.specs.Raising.{Outcome}
 use Rattle.vm_step.specs.Step.{Steps}
 use Rattle.law_alike.specs.Running.{Executes}
 use Rattle.xf_homes.specs.Source.{Source}
-use Rattle.law_rewritten_typing.specs.Edges.{CellsFillStack, NeededHaveHomes}
-use Rattle.law_homes.specs.Edges.{CellsAreFew, CopiesAreFew, EdgesRun, KeptStacksStay, LeadersLoad, StacksSpill}
 use Rattle.law_groups.specs.Laid.{IsLaidIn}
 use Rattle.law_groups.specs.Beside.{AreEqualBut, IsAtGroup, IsTypedAt, StaysTyped}
 use Rattle.law_groups.specs.Comes.{GroupRuns}
 use Rattle.law_groups.specs.Body.{AreAtBody, BodyRuns, KeptRuns}
-use Rattle.law_groups.specs.Steps.{GroupsFollow, GroupsStandAtSteps}
+use Rattle.law_groups.specs.Moves.{MovesRun}
 use Rattle.law_groups.proofs.OneGroup.{no-fault, straight-group, turn-by}
 use Rattle.law_groups.proofs.KeptOperations.{kept-body, kept-operands, names-none}
 
 module _
-    (v w : Linked) (s : Source) (place : ℕ → ℕ) (laid : IsLaidIn v w s place)
-    (stand : GroupsStandAtSteps) (follow : GroupsFollow)
-    (needs : NeededHaveHomes v) (fill : CellsFillStack v)
-    (loading : LeadersLoad v w) (spills : StacksSpill v w) (stay : KeptStacksStay v w) (edges : EdgesRun v w)
-    (few_copies : CopiesAreFew v) (few_cells : CellsAreFew v)
+    {v w : Linked} {s : Source} {place : ℕ → ℕ} (laid : IsLaidIn v w s place) (moving : MovesRun v)
     (z t : State Cell) (o : Outcome Cell) (i : Placed) (op : Operation)
     (typed : IsTypedAt v s z) (group : IsAtGroup s place (top z) (top t)) (equal : AreEqualBut z t)
     (step : Steps tagged v z o) (stays : StaysTyped v s o) (ex : Executes v z i op) (still : jumps_from op ≡ false) where
@@ -38,8 +32,8 @@ module _
       → GroupRuns v w s place z t o
   unfolding turn-by
   still-group body =
-      straight-group v w s place laid stand follow needs fill loading spills stay edges few_copies few_cells z t o typed group equal stays
-      (turn-by v w s place laid z typed i op ex) (kept-operands s.world op still) body
+      straight-group laid moving z t o typed group equal stays
+      (turn-by laid z typed i op ex) (kept-operands s.world op still) body
 
   -- of one that is kept
   pub kept-group : KeptRuns v → registers_asked (demands v op) ≡ 0 → GroupRuns v w s place z t o

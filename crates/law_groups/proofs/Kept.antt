@@ -5,8 +5,6 @@ use Rattle.jc_base.specs.Cell.{IsDeclared}
 use Rattle.jc_base.specs.World.{Linked, IsWorld}
 use Rattle.jc_base.specs.Linked.{IsMethod}
 use Rattle.jc_base.proofs.Lists.{All-slice_get}
-use Rattle.jc_decode.specs.declared.symbols.Item.TheVariants.{Plain}
-use Rattle.jc_control.specs.WellFormed.{IsPlace}
 use Rattle.jc_ops.specs.declared.operation.Operation.{Operation}
 use Rattle.jc_ops.specs.declared.operation.Operation.TheVariants as ops
 use Rattle.jc_ops.specs.declared.operation.Sort.TheVariants as sorts
@@ -15,30 +13,22 @@ use Rattle.jc_ops.specs.Resolve.{Resolves}
 use Rattle.jc_ops.specs.Sound.{IsSound, OperationsAreSound}
 use Rattle.jc_rules.specs.Footprint.{footprint, registers_asked}
 use Rattle.jc_rules.specs.Rule.{demands}
-use Rattle.vm_store.specs.declared.cell.Cell.{Cell}
 use Rattle.vm_store.specs.State.{top}
-use Rattle.vm_step.specs.Methods.{code_at}
 use Rattle.law_alike.specs.Alike.{renamed_cell, renamed_new}
 use Rattle.law_alike.specs.Likeness.{StepsAreAlike}
 use Rattle.law_alike.specs.Running.{RunAlike}
-use Rattle.law_alike.proofs.Simulation.{one-step}
-use Rattle.law_alike.proofs.Views.{demands-new, falls-new}
+use Rattle.law_alike.proofs.Views.{demands-new}
 use Rattle.law_laid.specs.Apart.{apart_from_code}
-use Rattle.law_laid.specs.Laws.{DemandsAreKept, OperationsAreKept}
+use Rattle.law_laid.proofs.SameBut.{demands-are-kept, operations-are-kept}
 use Rattle.xf_homes.specs.Source.{Source}
 use Rattle.xf_emission.specs.Edge.{is_stored}
-use Rattle.xf_emission.specs.Group.{body}
-use Rattle.law_homes.specs.Moves.{IsExecutable}
-use Rattle.law_homes.specs.Laws.{KeptRunAlike, LocalsStay, NamesNoneWritesNone, StepsExecute}
-use Rattle.law_groups.specs.Laid.{body_at, count_of, rename}
-use Rattle.law_groups.specs.Laws.{RenamesOneToOne}
-use Rattle.law_groups.specs.Steps.{GroupsFollow, GroupsStandAtSteps}
+use Rattle.law_homes.proofs.Running.{kept-run-alike}
+use Rattle.law_homes.proofs.Homes.{locals-stay}
+use Rattle.law_homes.proofs.Unwritten.{names-none-writes-none}
+use Rattle.law_groups.specs.Laid.{body_at, rename}
 use Rattle.law_groups.specs.Body.{KeptRuns}
-use Rattle.law_groups.proofs.Called.{called}
 use Rattle.law_groups.proofs.Context.{rename-is}
-use Rattle.law_groups.proofs.Following.{next-place, steps-here}
-use Rattle.law_groups.proofs.Plain.{alike, codes, comes, ex, method-is}
-use Rattle.law_groups.proofs.Standing.{stand-as, step-at}
+use Rattle.law_groups.proofs.Plain.{alike, codes, ex, method-is, runs}
 
 -- ---- what names no register
 
@@ -62,53 +52,32 @@ renamed-alike w f h s q (ops.New p c) sound e =
     ap (λ n. ops.New n c) (ap f sound.0 ∙ (e ∙ sym (ap h sound.0)))
 renamed-alike w f h s q _ sound e = refl
 
-module _
-    (v : Linked) (world : IsWorld v) (sound : OperationsAreSound v) (alike_steps : StepsAreAlike v)
-    (operations : OperationsAreKept) (asked : DemandsAreKept) (writes : NamesNoneWritesNone v)
-    (stand : GroupsStandAtSteps) (follow : GroupsFollow) (one_to_one : RenamesOneToOne v)
-    (run_alike : KeptRunAlike Cell) (stay : LocalsStay Cell)
-    (executed : (w : Linked) → IsExecutable w → StepsExecute w) where
+module _ (v : Linked) (world : IsWorld v) (sound : OperationsAreSound v) (alike_steps : StepsAreAlike v) where
   pub kept-runs : KeptRuns v
   kept-runs w s place i op z t o laid b kept still none step fine =
-      let g = steps-here v w s place laid stand follow i op b.stands b.reached b.does in
       let own : ℕ = body_at s i.place in
       let f : ℕ → ℕ = λ q. place own in
-      let count : count_of (body s i op) ≡ 1 = ap count_of kept in
-      let found = step-at s own (Plain i.insn) [] (record { insn = i.insn; targets = []; keys = [] }) []
-      (stand-as s own (body s i op) (Plain i.insn ∷ []) kept g.body_steps) refl in
-      let same_method = method-is v w s place laid (executed w laid.new) i op z t b g in
+      let same_method = method-is laid b in
       let resolves : Resolves w laid.code.target.rec i.place i.insn (Ok op) =
-      operations v w b.executes.method laid.code.target.rec i.place i.insn (Ok op) laid.code.same
+      operations-are-kept v w b.executes.method laid.code.target.rec i.place i.insn (Ok op) laid.code.same
       (ap apart_from_code same_method ∙ sym laid.code.has.same) b.executes.resolved in
       let declared : IfSome b.executes.method.sig.result (IsDeclared v.classes) =
       (All-slice_get (IsMethod v.infos v.pools v.classes) v.methods (top z).method b.executes.method world.methods b.executes.fetched.method).result in
       let is_sound : IsSound v s.method.rec i.place op =
       subst (λ m. IsSound v m i.place op) same_method (sound b.executes.method i.place i.insn op declared b.executes.resolved) in
       let renamed : renamed_new (rename s place) op ≡ renamed_new f op =
-      renamed-alike v (rename s place) f s i.place op is_sound (rename-is v w s place laid i.place b.reached) in
-      let there = ex v w s place laid (executed w laid.new) i op z t b g i.insn op count found resolves refl in
-      let agree = codes v w s place laid (executed w laid.new) i op z t b g i.insn op count found resolves refl still
-      (λ falls. subst (λ m. IsPlace (code_at w m) (place (own + 1))) (sym b.of.target)
-      (next-place v w s place laid stand follow i op b.stands b.reached b.does count (sym (falls-new f op) ∙ falls))) in
+      renamed-alike v (rename s place) f s i.place op is_sound (rename-is laid i.place b.reached) in
+      let there = ex laid b i.insn op kept resolves refl in
+      let agree = codes laid b i.insn op kept resolves refl still in
       let also : registers_asked (demands w (renamed_new f op)) ≡ 0 =
-      ap registers_asked (demands-new w f op ∙ sym (asked v w op laid.code.same)) ∙ none in
+      ap registers_asked (demands-new w f op ∙ sym (demands-are-kept v w op laid.code.same)) ∙ none in
       let own_none : registers_asked (demands v (renamed_new f op)) ≡ 0 = ap registers_asked (demands-new v f op) ∙ none in
       let are : IsAlike (renamed_new (rename s place) op) (renamed_new f op) =
       subst (λ k. IsAlike (renamed_new (rename s place) op) k) renamed equal in
       let run : RunAlike (renamed_cell (rename s place)) (rename s place) v w z t i there.instruction op (renamed_new f op) =
-      run_alike (renamed_cell (rename s place)) (rename s place) v w z t i there.instruction op (renamed_new f op)
-      (alike v w s place laid (executed w laid.new) i op z t b g) agree are none also in
-      let p = alike_steps w (rename s place) z t i there.instruction op (renamed_new f op) o laid.code.same (one_to_one w s place laid)
-      b.executes there.executes run step fine in
-      record {
-        count = 1;
-        more = omega arith;
-        fewer = omega arith;
-        outcome = p.0;
-        runs = one-step w t p.0 p.1;
-        comes =
-            comes v w s place laid (executed w laid.new) i op z t b g i.insn op count found resolves refl
-            (λ y u stays. stay (footprint v op) (footprint v (renamed_new f op)) z y t u s i.place stays.first stays.second
-            (writes op none) (writes (renamed_new f op) own_none) b.held.locals)
-            (unstored v op none) (called v i.insn op z) o p.0 p.2;
-      }
+      kept-run-alike (renamed_cell (rename s place)) (rename s place) v w z t i there.instruction op (renamed_new f op)
+      (alike laid b) agree are none also in
+      runs laid b i.insn op kept resolves refl
+      (λ y u stays. locals-stay (footprint v op) (footprint v (renamed_new f op)) z y t u s i.place stays.first stays.second
+      (names-none-writes-none v op none) (names-none-writes-none v (renamed_new f op) own_none) b.held.locals)
+      (unstored v op none) alike_steps o step fine run

@@ -32,8 +32,8 @@ use Rattle.law_sound.proofs.Places.{instruction-there}
 use Rattle.law_homes.specs.Moves.{IsExecutable}
 use Rattle.law_sound.proofs.Passing.{passes-before}
 use Rattle.law_sound.proofs.Finish.{pick-yes}
-use Rattle.law_homes.specs.Laws.{ExecutesStep, StepsExecute}
-use Rattle.law_homes.proofs.Standing.{steps-stand-at-places}
+use Rattle.law_homes.specs.Laws.{ExecutesStep}
+use Rattle.law_homes.proofs.Standing.{steps-execute, steps-stand-at-places}
 use Rattle.xf_emission.specs.Mnemonics.{goto_w}
 
 -- a jump's only target by its operand
@@ -54,7 +54,7 @@ unfolding row_at table by_sort by_width by_kind first_four by_register literals 
 goto-resolves w m q = refl
 
 module _
-    (w : Linked) (world : IsExecutable w) (executed : StepsExecute w) (place : ℕ → ℕ) (all : List Step)
+    (w : Linked) (world : IsExecutable w) (place : ℕ → ℕ) (all : List Step)
     (f : Frame Cell) (below : List (Frame Cell)) (heap : List (Object Cell)) (statics : List Cell) (m : MethodRec) (n k : ℕ) where
   abbrev t : State Cell
   t = record { frames = f ∷ below; heap = heap; statics = statics }
@@ -73,7 +73,7 @@ module _
   goto-there method are found at inside room =
       let code : List ℕ = code_at w f.method in
       let ex : ExecutesStep w t place n gone (ops.Branch Always) =
-      executed t m place all n 0 gone (ops.Branch Always) (omega arith) method are found at (goto-resolves w m 0) in
+      steps-execute w world t m place all n 0 gone (ops.Branch Always) (omega arith) method are found at (goto-resolves w m 0) in
       let j = ex.instruction in
       let op = ops.Branch Always in
       let jumping_on = jumps-on w ex.executes.method j.place j.insn op ex.executes.resolved refl in
@@ -95,7 +95,7 @@ module _
 
 -- of any state
 pub goto-steps :
-    (w : Linked) → IsExecutable w → StepsExecute w → (place : ℕ → ℕ) (all : List Step) (t : State Cell) (m : MethodRec) (n k : ℕ)
+    (w : Linked) → IsExecutable w → (place : ℕ → ℕ) (all : List Step) (t : State Cell) (m : MethodRec) (n k : ℕ)
     → 0 < length t.frames
     → slice_get w.methods (top t).method ≡ Some m
     → AreSteps (code_at w (top t).method) place 0 all (listing (code_at w (top t).method))
@@ -104,7 +104,7 @@ pub goto-steps :
     → k < length all
     → length (top t).stack ≤ max_stack_of w (top t).method
     → Steps tagged w t (running (with_place t (place k)))
-goto-steps w world executed place all t m n k runs method are found at inside room =
+goto-steps w world place all t m n k runs method are found at inside room =
     by t.frames t.heap t.statics runs method are at room
   where
     by :
@@ -120,4 +120,4 @@ goto-steps w world executed place all t m n k runs method are found at inside ro
         (running (with_place (record { frames = fs; heap = heap; statics = statics }) (place k)))
     by [] heap statics runs method are at room = absurd (omega (arith, runs))
     by (f ∷ below) heap statics runs method are at room =
-        goto-there w world executed place all f below heap statics m n k method are found at inside room
+        goto-there w world place all f below heap statics m n k method are found at inside room

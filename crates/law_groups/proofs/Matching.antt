@@ -9,7 +9,8 @@ use Rattle.jc_base.specs.World.{Linked, IsWorld}
 use Rattle.jc_base.proofs.Lists.{All-slice_get}
 use Rattle.jc_ops.specs.Sound.{OperationsAreSound}
 use Rattle.law_laid.specs.Laid.{class_by}
-use Rattle.law_laid.specs.Laws.{CatchesByPool, MethodsAreKept, OperationsAreKept}
+use Rattle.law_laid.proofs.Catching.{catches-by-pool}
+use Rattle.law_laid.proofs.SameBut.{methods-are-kept, operations-are-kept}
 use Rattle.xf_homes.specs.Source.{Source}
 use Rattle.xf_emission.specs.Emission.{rewritten}
 use Rattle.law_rewritten_typing.specs.Planned.{IsPlanned}
@@ -31,16 +32,14 @@ pub record AreLaws (v : Linked) : Type 0 where
   pub handlers : HandlersEnter v
   pub starts : StartsEnter v
 
-module _
-    (methods : MethodsAreKept) (operations : OperationsAreKept) (by_pool : CatchesByPool)
-    (s : Source) (laws : AreLaws s.world) (planned : IsPlanned s) (room : s.method.rec.max_stack < 255) where
+module _ (s : Source) (laws : AreLaws s.world) (planned : IsPlanned s) (room : s.method.rec.max_stack < 255) where
   catches-by : (h : Handler) → Contains s.method.rec.handlers h → class_by s.method.rec.handlers h.index ≡ h.class
   catches-by h among =
       let v : Linked = s.world in
       let r : MethodRec = s.method.rec in
       let links : IsMethod v.infos v.pools v.classes r =
       All-slice_get (IsMethod v.infos v.pools v.classes) v.methods s.method.number r laws.world.methods planned.method.rec in
-      by_pool v.classes (list_at v.pools r.package) r.code_len r.handlers h h.class links.handlers among
+      catches-by-pool v.classes (list_at v.pools r.package) r.code_len r.handlers h h.class links.handlers among
       (All-contains (IsHandler v.classes (list_at v.pools r.package) r.code_len) r.handlers h links.handlers among).catches
 
   matches : MatchesFrames s (rewritten s)
@@ -48,7 +47,7 @@ module _
       let laid : IsLaidIn s.world w s place =
       record {
         world = refl;
-        new = can-run s.world w code.same methods operations laws.world laws.sound;
+        new = can-run s.world w code.same methods-are-kept operations-are-kept laws.world laws.sound;
         planned = planned;
         room = room;
         catches = catches-by;
@@ -65,7 +64,5 @@ module _
         one_to_one = laws.renames w s place laid;
       }
 
-pub rewritten-matches :
-    (v : Linked) → MethodsAreKept → OperationsAreKept → CatchesByPool → AreLaws v → RewrittenMatches v
-rewritten-matches v methods operations by_pool laws s is planned room =
-    matches methods operations by_pool s (subst AreLaws (sym is) laws) planned room
+pub rewritten-matches : (v : Linked) → AreLaws v → RewrittenMatches v
+rewritten-matches v laws s is planned room = matches s (subst AreLaws (sym is) laws) planned room

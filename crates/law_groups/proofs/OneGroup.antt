@@ -26,15 +26,13 @@ use Rattle.xf_homes.specs.Walk.{operands_of}
 use Rattle.xf_homes.specs.Source.{Source}
 use Rattle.xf_homes.specs.Plan.{operation}
 use Rattle.xf_emission.specs.Group.{fall, fall_by, fallen}
-use Rattle.law_homes.specs.Edges.{CellsAreFew, CopiesAreFew, EdgesRun, KeptStacksStay, LeadersLoad, StacksSpill}
 use Rattle.law_homes.specs.Held.{HoldsFrame}
-use Rattle.law_rewritten_typing.specs.Edges.{CellsFillStack, NeededHaveHomes}
 use Rattle.law_groups.specs.Laid.{IsLaidIn, body_at, rename}
 use Rattle.law_groups.specs.Beside.{AreEqualBut, IsAtGroup, IsTypedAt, MovesTop, SameUnder, StaysTyped}
-use Rattle.law_groups.specs.Comes.{AreAtGroup, GroupComes, GroupRuns, group_calls, group_ends, group_gives, group_leaves}
-use Rattle.law_groups.specs.Comes.{group_raises, group_stays, group_throws}
+use Rattle.law_groups.specs.Comes.{AreAtGroup, ComesToGroup, ComesWithin, GroupComes, GroupRuns, group_calls, group_ends, group_gives}
+use Rattle.law_groups.specs.Comes.{group_leaves, group_raises, group_stays, group_throws}
 use Rattle.law_groups.specs.Body.{AreAtBody, BodyComes, BodyRuns, body_done, body_falls}
-use Rattle.law_groups.specs.Steps.{GroupsFollow, GroupsStandAtSteps}
+use Rattle.law_groups.specs.Moves.{MovesRun}
 use Rattle.law_groups.proofs.Arriving.{falls-arrive, runs-then}
 use Rattle.law_groups.proofs.Context.{method-of, reached-some, source-code}
 use Rattle.law_groups.proofs.Entering.{enters}
@@ -49,7 +47,7 @@ no-fault v s (ended (endings.Faulted fault) z) h = h
 pub same-method : (a b : MethodRec) → Some a ≡ Some b → a ≡ b
 same-method a b e = cc
 
-module _ (v w : Linked) (s : Source) (place : ℕ → ℕ) (laid : IsLaidIn v w s place) where
+module _ {v w : Linked} {s : Source} {place : ℕ → ℕ} (laid : IsLaidIn v w s place) where
   -- a typed state that takes a step executes the operation of an instruction of the method
   pub record Turn (z : State Cell) : Type 0 where
     pub instruction : Placed
@@ -62,18 +60,18 @@ module _ (v w : Linked) (s : Source) (place : ℕ → ℕ) (laid : IsLaidIn v w 
 
   unfoldable pub turn-by : (z : State Cell) → IsTypedAt v s z → (i : Placed) (op : Operation) → Executes v z i op → Turn z
   turn-by z typed i op ex =
-      let code : code_at v (top z).method ≡ s.method.code = ap (code_at v) typed.method ∙ source-code v w s place laid in
+      let code : code_at v (top z).method ≡ s.method.code = ap (code_at v) typed.method ∙ source-code laid in
       let there = instruction-there (code_at v (top z).method) (top z).place i ex.fetched.instruction in
       let method : ex.method ≡ s.method.rec =
       same-method ex.method s.method.rec
-      (sym ex.fetched.method ∙ (ap (slice_get v.methods) typed.method ∙ (method-of v w s place laid).rec)) in
+      (sym ex.fetched.method ∙ (ap (slice_get v.methods) typed.method ∙ (method-of laid).rec)) in
       record {
         instruction = i;
         op = op;
         executes = ex;
         stands = subst (λ c. HasInstruction c i) code there.stands;
         here = sym there.at;
-        reached = ap (λ p. is_some (s.frames p)) there.at ∙ reached-some v w s place laid (top z).place typed.reached;
+        reached = ap (λ p. is_some (s.frames p)) there.at ∙ reached-some laid (top z).place typed.reached;
         does =
             sym (subst (λ u. Resolves u s.method.rec i.place i.insn (Ok op)) (sym laid.world)
             (subst (λ m. Resolves v m i.place i.insn (Ok op)) method ex.resolved));
@@ -136,6 +134,38 @@ module _ (v w : Linked) (s : Source) (place : ℕ → ℕ) (laid : IsLaidIn v w 
     pub at-group-too : (y x : State Cell) → AreAtGroup s place z u y x → AreAtGroup s place z t y x
     at-group-too y x a = record { first = a.first; second = under-too x a.second; equal = a.equal; group = a.group }
 
+-- ---- after steps of both
+
+module _
+    {v w : Linked} {s : Source} {place : ℕ → ℕ} {z t : State Cell} {o : Outcome Cell} (y u : State Cell) (before : ℕ)
+    (is : o ≡ running y) (first : SameUnder z y) (run : Runs tagged w before t (running u))
+    (same : other_frames u.frames ≡ other_frames t.frames) where
+  -- the source stays in the method, and the target goes on to the group of its place
+  pub stays-on :
+      {least most : ℕ}
+      → (c : ComesWithin w least most u (ComesToGroup s place y u))
+      → 1 ≤ before + c.count
+      → before + c.count ≤ 2000
+      → GroupRuns v w s place z t o
+  stays-on c some few =
+      group_stays y is (record {
+        count = before + c.count;
+        more = some;
+        fewer = few;
+        outcome = c.outcome;
+        runs = runs-then w before c.count t u c.outcome run c.runs;
+        comes = (
+          c.comes.state,
+          c.comes.is,
+          record {
+            first = first;
+            second = record { frames = c.comes.are.second.frames ∙ ap (λ fs. top c.comes.state ∷ fs) same };
+            equal = c.comes.are.equal;
+            group = c.comes.are.group;
+          },
+        );
+      })
+
 -- ---- where the operation is no branch
 
 pub fallen-plain :
@@ -148,12 +178,7 @@ fallen-plain s i op falls none =
     ap (λ b. if b then fall_by s i.place op (operands_of s.world (Ok op)) (i.place + i.insn.len) else []) falls
     ∙ ap (λ o. fall_by s i.place op o (i.place + i.insn.len)) none
 
-module _
-    (v w : Linked) (s : Source) (place : ℕ → ℕ) (laid : IsLaidIn v w s place)
-    (stand : GroupsStandAtSteps) (follow : GroupsFollow)
-    (needs : NeededHaveHomes v) (fill : CellsFillStack v)
-    (loading : LeadersLoad v w) (spills : StacksSpill v w) (stay : KeptStacksStay v w) (edges : EdgesRun v w)
-    (few_copies : CopiesAreFew v) (few_cells : CellsAreFew v) where
+module _ {v w : Linked} {s : Source} {place : ℕ → ℕ} (laid : IsLaidIn v w s place) (moving : MovesRun v) where
   module _
       (i : Placed) (op : Operation) (z t u : State Cell) (before : AreAtBody v w s place i op z u)
       (none : operands_of s.world (Ok op) ≡ None)
@@ -174,11 +199,11 @@ module _
           fewer = omega (arith, few, small);
           outcome = p;
           runs = runs-then w loads n t u p loaded run;
-          comes = comes-too v w s place laid z t u moves c;
+          comes = comes-too laid z t u moves c;
         })
     finish n some small _ _ typed run (body_falls {y = y} {u = x} after falls here at) =
         let going : IsRunning y = let e = ap length after.first.frames in omega (arith, e) in
-        let a = falls-arrive v w s place laid stand follow needs fill spills stay edges few_copies few_cells i op z u y x
+        let a = falls-arrive laid moving i op z u y x
         before.stands before.reached before.does falls after (typed going after.of.source) here at
         (fallen-plain s i op falls none) in
         let most = a.few in
@@ -189,7 +214,7 @@ module _
           outcome = running a.state;
           runs =
               runs-then w loads (n + a.count) t u (running a.state) loaded (runs-then w n a.count u x (running a.state) run a.runs);
-          comes = (a.state, refl, at-group-too v w s place laid z t u moves y a.state a.are);
+          comes = (a.state, refl, at-group-too laid z t u moves y a.state a.are);
         })
 
   -- a group whose instruction is no branch
@@ -199,12 +224,12 @@ module _
       → IsAtGroup s place (top z) (top t)
       → AreEqualBut z t
       → StaysTyped v s o
-      → (turn : Turn v w s place laid z)
+      → (turn : Turn laid z)
       → operands_of s.world (Ok turn.op) ≡ None
       → ((u : State Cell) → AreAtBody v w s place turn.instruction turn.op z u → BodyRuns v w s place turn.instruction turn.op z u o)
       → GroupRuns v w s place z t o
   straight-group z t o typed group equal stays turn none body =
-      let e = enters v w s place laid stand follow loading stay few_cells z t typed equal group in
+      let e = enters laid moving z t typed equal group in
       let there = turn.here in
       let before : AreAtBody v w s place turn.instruction turn.op z e.state =
       record {

@@ -11,16 +11,19 @@ use Rattle.jc_decode.specs.declared.insn.Placed.{Placed}
 use Rattle.jc_decode.specs.declared.symbols.Item.{Item}
 use Rattle.jc_decode.specs.declared.symbols.Item.TheVariants.{Plain, Branch, Switch, Label}
 use Rattle.jc_decode.specs.Decoding.{decoded}
-use Rattle.jc_decode.specs.Laws.{InstructionsAreListed}
 use Rattle.jc_decode.specs.Listing.{listing, Lists}
 use Rattle.jc_decode.specs.Symbols.{IsOnce, is_label, place_of, steps_in}
+use Rattle.jc_decode.proofs.InstructionLists.{all-are-listed}
 use Rattle.jc_rules.specs.Demand.{Frame}
 use Rattle.xf_homes.specs.Source.{Source}
 use Rattle.xf_emission.specs.Emission.{items}
 use Rattle.xf_homes.specs.Plan.{stack_homes, is_leader, operation}
 use Rattle.xf_emission.specs.Move.{loads}
 use Rattle.xf_emission.specs.Group.{done, group_by, group}
-use Rattle.xf_emission.specs.Laws.{GroupsStand, HandlersStand, LabelsStandOnce, StubsStand, of_place}
+use Rattle.xf_emission.specs.Laws.{of_place}
+use Rattle.xf_emission.proofs.GroupPlaces.{groups-stand}
+use Rattle.xf_emission.proofs.Once.{labels-stand-once}
+use Rattle.xf_emission.proofs.StubPlaces.{handlers-stand, stubs-stand}
 use Rattle.law_groups.specs.Laid.{count_of, group_at}
 use Rattle.law_groups.specs.Steps.{ItemsStandFrom, GroupsStandAtSteps, StubsStandAtSteps, HandlersStandAtSteps, GroupsFollow}
 
@@ -64,19 +67,19 @@ stand-parts s n before is after e at =
       at = steps-count s.method.code (items s) before ∙ sym at;
     }
 
-pub groups-stand-at-steps : GroupsStand → GroupsStandAtSteps
-groups-stand-at-steps stand s i code stands reached =
-    let g = stand s code i stands reached in
+pub groups-stand-at-steps : GroupsStandAtSteps
+groups-stand-at-steps s i code stands reached =
+    let g = groups-stand s code i stands reached in
     stand-parts s (group_at s i.place) g.before (group s i) (flat_map (group s) g.later ++ g.after) g.parts g.at
 
-pub stubs-stand-at-steps : StubsStand → StubsStandAtSteps
-stubs-stand-at-steps stand s i op n k t code stands reached does asks target some =
-    let g = stand s code i op n k t stands reached does asks target some in
+pub stubs-stand-at-steps : StubsStandAtSteps
+stubs-stand-at-steps s i op n k t code stands reached does asks target some =
+    let g = stubs-stand s code i op n k t stands reached does asks target some in
     stand-parts s _ g.before _ g.after g.parts g.at
 
-pub handlers-stand-at-steps : HandlersStand → HandlersStandAtSteps
-handlers-stand-at-steps stand s n h code listed live =
-    let g = stand s code n h listed live in
+pub handlers-stand-at-steps : HandlersStandAtSteps
+handlers-stand-at-steps s n h code listed live =
+    let g = handlers-stand s code n h listed live in
     stand-parts s _ g.before _ g.after g.parts g.at
 
 -- ---- a label that stands once
@@ -178,12 +181,12 @@ group-begins s i reached = by (s.frames i.place) reached
     by None e = absurd (cc)
     by (Some f) e = ((if is_leader s i.place then loads s (stack_homes s i.place) else []) ++ done s i (operation s i), refl)
 
-pub groups-follow : LabelsStandOnce → GroupsStand → InstructionsAreListed → GroupsFollow
-groups-follow once stand listed s i j code stands reached next also at =
-    let g = stand s code i stands reached in
+pub groups-follow : GroupsFollow
+groups-follow s i j code stands reached next also at =
+    let g = groups-stand s code i stands reached in
     let lists : Lists s.method.code (i.place + i.insn.len) g.later =
     lists-after s.method.code 0 g.earlier i g.later (subst (Lists s.method.code 0) g.listed code.lists) in
-    let d = (listed s.method.code).decodes j next in
+    let d = (all-are-listed s.method.code).decodes j next in
     let l = starts-later s.method.code code.lists g.later (i.place + i.insn.len) j lists d at in
     let b = group-begins s j also in
     let tail : flat_map (group s) g.later ++ g.after
@@ -197,7 +200,7 @@ groups-follow once stand listed s i j code stands reached next also at =
     ∙ (ap (λ xs. g.before ++ (group s i ++ xs)) tail
     ∙ sym (append_assoc g.before (group s i) (Label j.place ∷ (b.0 ++ (flat_map (group s) l.0 ++ g.after))))) in
     let one : IsOnce ((g.before ++ group s i) ++ Label j.place ∷ (b.0 ++ (flat_map (group s) l.0 ++ g.after))) j.place =
-    subst (λ xs. IsOnce xs j.place) parts (once s code j.place (of_place next also)) in
+    subst (λ xs. IsOnce xs j.place) parts (labels-stand-once s code j.place (of_place next also)) in
     ap (place_of j.place) parts
     ∙ (place-once j.place (g.before ++ group s i) (b.0 ++ (flat_map (group s) l.0 ++ g.after)) one
     ∙ (count-append g.before (group s i) ∙ ap (λ n. n + count_of (group s i)) (sym g.at)))

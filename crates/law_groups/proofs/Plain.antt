@@ -13,6 +13,7 @@ use Rattle.jc_decode.specs.declared.insn.Placed.{Placed}
 use Rattle.jc_decode.specs.Listing.{listing, targets}
 use Rattle.jc_decode.specs.Standing.{AreSteps}
 use Rattle.jc_decode.specs.Symbols.{Step}
+use Rattle.jc_decode.specs.declared.symbols.Item.TheVariants.{Plain}
 use Rattle.jc_control.specs.WellFormed.{IsPlace, IsTargetPlace}
 use Rattle.jc_ops.specs.declared.operation.Callee.{Callee}
 use Rattle.jc_ops.specs.declared.operation.Operation.{Operation}
@@ -25,15 +26,18 @@ use Rattle.vm_store.specs.Cells.{tagged}
 use Rattle.vm_store.specs.State.{State, Frame, IsRunning, first_frame, other_frames, top}
 use Rattle.vm_step.specs.Act.{calls}
 use Rattle.vm_step.specs.Methods.{code_at, max_stack_of}
-use Rattle.vm_step.specs.Performed.{act}
 use Rattle.vm_step.specs.Raising.{Outcome}
 use Rattle.vm_step.specs.Run.{stands}
+use Rattle.vm_step.specs.Step.{Steps}
+use Rattle.law_erasure.specs.Erasure.{IsNoFault}
 use Rattle.law_alike.specs.Alike.{AreAlike, StayAlike, renamed_cell, renamed_new}
-use Rattle.law_alike.specs.Running.{ComeAlike, HaveKeys, call_alike, end_alike, exception_alike, keys_at, next_alike, return_alike}
+use Rattle.law_alike.specs.Running.{ComeAlike, HaveKeys, call_alike, end_alike, exception_alike, keys_at, next_alike, return_alike, RunAlike}
 use Rattle.law_alike.specs.Running.{target_alike}
 use Rattle.law_alike.specs.Running.{throw_alike, top_code}
+use Rattle.law_alike.specs.Likeness.{StepsAreAlike}
 use Rattle.law_alike.proofs.Cells.{renamed-keeps}
 use Rattle.law_alike.proofs.Views.{falls-new}
+use Rattle.law_alike.proofs.Simulation.{one-step}
 use Rattle.xf_homes.specs.declared.home.Home.{Home}
 use Rattle.xf_homes.specs.Order.{register_sum}
 use Rattle.xf_homes.specs.Source.{Source}
@@ -41,13 +45,17 @@ use Rattle.xf_homes.specs.Plan.{needed, register}
 use Rattle.xf_emission.specs.Edge.{is_stored}
 use Rattle.xf_emission.specs.Group.{body}
 use Rattle.law_homes.specs.Held.{HoldsValue, HoldsLocals}
-use Rattle.law_homes.specs.Laws.{CodesAgree, ExecutesStep, StepsExecute}
+use Rattle.law_homes.specs.Laws.{CodesAgree, ExecutesStep}
+use Rattle.law_homes.proofs.Standing.{steps-execute}
 use Rattle.law_groups.specs.Laid.{IsLaidIn, body_at, count_of, rename, steps_of}
 use Rattle.law_groups.specs.Beside.{IsUnderCall, StandsInGroup, MovesTop}
 use Rattle.law_groups.specs.Comes.{group_calls, group_ends, group_gives, group_raises, group_throws}
-use Rattle.law_groups.specs.Body.{AreAfter, AreAtBody, BodyComes, body_done, body_falls}
+use Rattle.law_groups.specs.Body.{AreAfter, AreAtBody, BodyComes, body_done, body_falls, BodyRuns}
 use Rattle.law_groups.proofs.Context.{method-of, source-room, steps-are, target-at, target-room}
-use Rattle.law_groups.proofs.Standing.{GroupSteps}
+use Rattle.law_groups.proofs.Standing.{GroupSteps, step-at, stand-as}
+use Rattle.law_groups.proofs.Following.{steps-here, next-place}
+use Rattle.law_groups.proofs.Called.{called}
+use Rattle.law_groups.proofs.Renaming.{renames-one-to-one}
 
 -- ---- frames
 
@@ -87,13 +95,16 @@ no-keys (ops.Switch width) keys others e = absurd (cc)
 no-keys _ keys others e = tt
 
 module _
-    (v w : Linked) (s : Source) (place : ℕ → ℕ) (laid : IsLaidIn v w s place) (executed : StepsExecute w)
-    (i : Placed) (op : Operation) (z t : State Cell) (b : AreAtBody v w s place i op z t) (g : GroupSteps s i op) where
+    {v w : Linked} {s : Source} {place : ℕ → ℕ} (laid : IsLaidIn v w s place)
+    {i : Placed} {op : Operation} {z t : State Cell} (b : AreAtBody v w s place i op z t) where
   abbrev e : Cell → Cell
   e = renamed_cell (rename s place)
 
   abbrev n : ℕ
   n = body_at s i.place
+
+  g : GroupSteps s i op
+  g = steps-here laid i op b.stands b.reached b.does
 
   pub runs-too : IsRunning t
   runs-too = let same = b.equal.frames in let some = b.typed.runs in omega (arith, same, some)
@@ -112,15 +123,15 @@ module _
   room =
       let one = ap (max_stack_of v) b.of.source in
       let two = ap (max_stack_of w) b.of.target in
-      let three = source-room v w s place laid in
-      let four = target-room v w s place laid in
+      let three = source-room laid in
+      let four = target-room laid in
       omega (arith, one, two, three, four)
 
   -- the method of the source in its state
   pub method-is : b.executes.method ≡ s.method.rec
   method-is =
       same_Some b.executes.method s.method.rec
-      (sym b.executes.fetched.method ∙ (ap (slice_get v.methods) b.of.source ∙ (method-of v w s place laid).rec))
+      (sym b.executes.fetched.method ∙ (ap (slice_get v.methods) b.of.source ∙ (method-of laid).rec))
 
   -- before the first step of the body, the target is within the group
   pub within : (f k : Frame Cell) → f.method ≡ s.method.number → k.method ≡ s.method.number → length k.registers ≡ register_sum s.homes
@@ -141,9 +152,7 @@ module _
   -- ---- a plain step
 
   module _
-      (insn : Insn) (other : Operation)
-      (one : count_of (body s i op) ≡ 1)
-      (found : slice_get (steps_of s) n ≡ Some (record { insn = insn; targets = []; keys = [] }))
+      (insn : Insn) (other : Operation) (are : body s i op ≡ Plain insn ∷ [])
       (resolves : Resolves w laid.code.target.rec i.place insn (Ok other)) (same_falls : falls_from other ≡ falls_from op) where
     abbrev plain : Step
     plain = record { insn = insn; targets = []; keys = [] }
@@ -151,22 +160,31 @@ module _
     abbrev own : Operation
     own = renamed_new (λ q. place n) other
 
+    one : count_of (body s i op) ≡ 1
+    one = ap count_of are
+
+    found : slice_get (steps_of s) n ≡ Some plain
+    found = step-at s n (Plain insn) [] plain [] (stand-as s n (body s i op) (Plain insn ∷ []) are g.body_steps) refl
+
     pub ex : ExecutesStep w t place n plain other
     ex =
-        executed t laid.code.target.rec place (steps_of s) n i.place plain other runs-too
-        (ap (slice_get w.methods) b.of.target ∙ target-at v w s place laid)
+        steps-execute w laid.new t laid.code.target.rec place (steps_of s) n i.place plain other runs-too
+        (ap (slice_get w.methods) b.of.target ∙ target-at laid)
         (subst (λ m. AreSteps (code_at w m) place 0 (steps_of s) (listing (code_at w m))) (sym b.of.target)
-        (steps-are v w s place laid))
+        (steps-are laid))
         found b.at resolves
 
-    pub codes :
-        jumps_from op ≡ false
-        → (falls_from own ≡ true → IsPlace (top_code w t) (place (n + 1)))
-        → CodesAgree v w z t i ex.instruction op own
-    codes still next = record {
+    falls-as : falls_from own ≡ true → falls_from op ≡ true
+    falls-as falls = sym same_falls ∙ (sym (falls-new (λ q. place n) other) ∙ falls)
+
+    pub codes : jumps_from op ≡ false → CodesAgree v w z t i ex.instruction op own
+    codes still = record {
       keys = no-keys op (keys_at v z i) (keys_at w t ex.instruction) still;
       targets = no-targets (top_code w t) ex.instruction ex.is.leads;
-      next = λ falls. subst (IsPlace (top_code w t)) (sym ex.ends) (next falls);
+      next = λ falls.
+          subst (IsPlace (top_code w t)) (sym ex.ends)
+          (subst (λ m. IsPlace (code_at w m) (place (n + 1))) (sym b.of.target)
+          (next-place laid i op b.stands b.reached b.does one (falls-as falls)));
       room = room;
     }
 
@@ -176,88 +194,106 @@ module _
         (y u : State Cell)
         → StayAlike e (footprint v op) (footprint v own) z y t u
         → HoldsLocals s i.place (top y) (top u))
-        (unstored : (x : ℕ) → is_stored op x ≡ false)
-        (called : (method count : ℕ) (y : State Cell) → act tagged v i.insn op z ≡ calls method count y → (c : Callee) × (op ≡ ops.Call c))
-      where
-        after : (y u : State Cell) → StayAlike e (footprint v op) (footprint v own) z y t u → AreAfter s place i.place op z t y u
-        after y u stay = record {
-          first = record { frames = stay.first.frames };
-          second = record { frames = stay.second.frames };
-          equal = record { frames = stay.alike.frames; heap = stay.alike.heap; statics = stay.alike.statics };
-          of = record {
-            source = stay.first.method ∙ b.of.source;
-            target = stay.second.method ∙ b.of.target;
-            count = stay.second.count ∙ b.of.count;
-          };
-          stack = stay.alike.stack;
-          holds = record {
-            stored = λ x h. absurd (false≢true (sym (unstored x) ∙ h));
-            others = λ x. Each-weaker (HoldsValue s (top y).registers (top u)) _ (λ h held free. held) (needed s i.place x) (kept y u stay x);
-          };
-        }
+        (unstored : (x : ℕ) → is_stored op x ≡ false) where
+      after : (y u : State Cell) → StayAlike e (footprint v op) (footprint v own) z y t u → AreAfter s place i.place op z t y u
+      after y u stay = record {
+        first = record { frames = stay.first.frames };
+        second = record { frames = stay.second.frames };
+        equal = record { frames = stay.alike.frames; heap = stay.alike.heap; statics = stay.alike.statics };
+        of = record {
+          source = stay.first.method ∙ b.of.source;
+          target = stay.second.method ∙ b.of.target;
+          count = stay.second.count ∙ b.of.count;
+        };
+        stack = stay.alike.stack;
+        holds = record {
+          stored = λ x h. absurd (false≢true (sym (unstored x) ∙ h));
+          others = λ x. Each-weaker (HoldsValue s (top y).registers (top u)) _ (λ h held free. held) (needed s i.place x) (kept y u stay x);
+        };
+      }
 
-        under-call :
-            (count : ℕ) (y u : State Cell) (c : Callee)
-            → StayAlike e (footprint v op) (footprint v own) z y t u
-            → op ≡ ops.Call c
-            → (top y).place ≡ (top z).place
-            → (top u).place ≡ (top t).place
-            → IsUnderCall s place
-            (record (top y) { stack = drop count (top y).stack })
-            (record (top u) { stack = drop count (top u).stack })
-        unfolding within
-        under-call count y u c stay is here there = record {
-          within =
-              within (record (top y) { stack = drop count (top y).stack }) (record (top u) { stack = drop count (top u).stack })
-              (stay.first.method ∙ b.of.source) (stay.second.method ∙ b.of.target) (stay.second.count ∙ b.of.count)
-              (here ∙ b.here) (there ∙ b.at) (omega (arith, one))
-              (λ x. each-over s (top y).registers (top u) (record (top u) { stack = drop count (top u).stack }) refl
-              (needed s i.place x) (kept y u stay x));
-          callee = c;
-          calls = b.does ∙ ap Ok is;
-          first = ap (body_at s) (sym (here ∙ b.here));
-          stack = ap (drop count) stay.alike.stack ∙ drop-map e count (top y).stack;
-        }
+      under-call :
+          (count : ℕ) (y u : State Cell) (c : Callee)
+          → StayAlike e (footprint v op) (footprint v own) z y t u
+          → op ≡ ops.Call c
+          → (top y).place ≡ (top z).place
+          → (top u).place ≡ (top t).place
+          → IsUnderCall s place
+          (record (top y) { stack = drop count (top y).stack })
+          (record (top u) { stack = drop count (top u).stack })
+      unfolding within
+      under-call count y u c stay is here there = record {
+        within =
+            within (record (top y) { stack = drop count (top y).stack }) (record (top u) { stack = drop count (top u).stack })
+            (stay.first.method ∙ b.of.source) (stay.second.method ∙ b.of.target) (stay.second.count ∙ b.of.count)
+            (here ∙ b.here) (there ∙ b.at) (omega (arith, one))
+            (λ x. each-over s (top y).registers (top u) (record (top u) { stack = drop count (top u).stack }) refl
+            (needed s i.place x) (kept y u stay x));
+        callee = c;
+        calls = b.does ∙ ap Ok is;
+        first = ap (body_at s) (sym (here ∙ b.here));
+        stack = ap (drop count) stay.alike.stack ∙ drop-map e count (top y).stack;
+      }
 
-        thrown-from : MovesTop t t × StandsInGroup s place (top z) (top t)
-        thrown-from = (
-          record { frames = frames-are t runs-too; heap = refl; statics = refl },
-          within (top z) (top t) b.of.source b.of.target b.of.count b.here b.at (omega (arith, one)) b.held.locals,
-        )
+      thrown-from : MovesTop t t × StandsInGroup s place (top z) (top t)
+      thrown-from = (
+        record { frames = frames-are t runs-too; heap = refl; statics = refl },
+        within (top z) (top t) b.of.source b.of.target b.of.count b.here b.at (omega (arith, one)) b.held.locals,
+      )
 
-        pub comes :
-            (o p : Outcome Cell)
-            → ComeAlike tagged e v w z t i ex.instruction op own o p
-            → BodyComes v w s place i op z t o p
-        comes _ _ (next_alike {z = y} {y = u} stay falls here there) =
-            body_falls (after y u stay) (sym same_falls ∙ (sym (falls-new (λ q. place n) other) ∙ falls)) here
-            (there ∙ (ex.ends ∙ ap (λ k. place (n + k)) (sym one)))
-        comes _ _ (target_alike k stay here there) =
-            let none : slice_get [] k ≡ Some _ = ap (λ ts. slice_get ts k) (sym ex.is.leads) ∙ there in
-            absurd (let lt = slice_get_within [] k _ none in omega (arith, lt))
-        comes o p (call_alike method count {z = y} {y = u} stay here there handed acts enters too) =
-            let c = called method count y acts in
-            body_done (group_calls (record {
-              instruction = i;
-              op = op;
-              executes = b.executes;
-              method = method;
-              count = count;
-              source = y;
-              target = u;
-              first = record { frames = stay.first.frames };
-              second = record { frames = stay.second.frames };
-              equal = record { frames = stay.alike.frames; heap = stay.alike.heap; statics = stay.alike.statics };
-              handed = handed;
-              waits = under-call count y u c.0 stay c.1 here there;
-              acts = acts;
-              enters = enters;
-              too = too;
-            }))
-        comes o p (return_alike value cells plain-cells acts gives too) =
-            body_done (group_gives value cells (λ f. plain-cells (renamed_cell f) (renamed-keeps f)) gives too)
-        comes o p (exception_alike exception acts raises too) =
-            body_done (group_raises exception t (record { moves = thrown-from.0; within = thrown-from.1 }) raises too)
-        comes o p (throw_alike handle acts throws too) =
-            body_done (group_throws handle t (record { moves = thrown-from.0; within = thrown-from.1 }) throws too)
-        comes _ _ (end_alike ending y) = body_done (group_ends ending y)
+      comes :
+          (o p : Outcome Cell)
+          → ComeAlike tagged e v w z t i ex.instruction op own o p
+          → BodyComes v w s place i op z t o p
+      comes _ _ (next_alike {z = y} {y = u} stay falls here there) =
+          body_falls (after y u stay) (falls-as falls) here
+          (there ∙ (ex.ends ∙ ap (λ k. place (n + k)) (sym one)))
+      comes _ _ (target_alike k stay here there) =
+          let none : slice_get [] k ≡ Some _ = ap (λ ts. slice_get ts k) (sym ex.is.leads) ∙ there in
+          absurd (let lt = slice_get_within [] k _ none in omega (arith, lt))
+      comes o p (call_alike method count {z = y} {y = u} stay here there handed acts enters too) =
+          let c = called v i.insn op z method count y acts in
+          body_done (group_calls (record {
+            instruction = i;
+            op = op;
+            executes = b.executes;
+            method = method;
+            count = count;
+            source = y;
+            target = u;
+            first = record { frames = stay.first.frames };
+            second = record { frames = stay.second.frames };
+            equal = record { frames = stay.alike.frames; heap = stay.alike.heap; statics = stay.alike.statics };
+            handed = handed;
+            waits = under-call count y u c.0 stay c.1 here there;
+            acts = acts;
+            enters = enters;
+            too = too;
+          }))
+      comes o p (return_alike value cells plain-cells acts gives too) =
+          body_done (group_gives value cells (λ f. plain-cells (renamed_cell f) (renamed-keeps f)) gives too)
+      comes o p (exception_alike exception acts raises too) =
+          body_done (group_raises exception t (record { moves = thrown-from.0; within = thrown-from.1 }) raises too)
+      comes o p (throw_alike handle acts throws too) =
+          body_done (group_throws handle t (record { moves = thrown-from.0; within = thrown-from.1 }) throws too)
+      comes _ _ (end_alike ending y) = body_done (group_ends ending y)
+
+      -- so the step of the target comes to what that of the source comes to
+      pub runs :
+          StepsAreAlike v
+          → (o : Outcome Cell)
+          → Steps tagged v z o
+          → IsNoFault o
+          → RunAlike e (rename s place) v w z t i ex.instruction op own
+          → BodyRuns v w s place i op z t o
+      runs alike_steps o step fine run =
+          let p = alike_steps w (rename s place) z t i ex.instruction op own o laid.code.same (renames-one-to-one v w s place laid)
+          b.executes ex.executes run step fine in
+          record {
+            count = 1;
+            more = omega arith;
+            fewer = omega arith;
+            outcome = p.0;
+            runs = one-step w t p.0 p.1;
+            comes = comes o p.0 p.2;
+          }

@@ -9,9 +9,10 @@ use Rattle.jc_base.specs.Each.{IsAmong}
 use Rattle.jc_base.specs.Laws.{IsOrderOfTypes}
 use Rattle.jc_base.specs.World.{Linked}
 use Rattle.jc_base.proofs.Lists.{All-slice_get}
+use Rattle.jc_base.proofs.SameTypes.{same_type-decides}
 use Rattle.jc_decode.specs.declared.insn.Placed.{Placed}
 use Rattle.jc_decode.specs.declared.symbols.Item.TheVariants.{Plain}
-use Rattle.jc_control.specs.WellFormed.{IsPlace, HasInstruction}
+use Rattle.jc_control.specs.WellFormed.{HasInstruction}
 use Rattle.jc_ops.specs.declared.operation.Operation.{Operation}
 use Rattle.jc_ops.specs.declared.operation.Operation.TheVariants as ops
 use Rattle.jc_ops.specs.declared.operation.Sort.{Sort}
@@ -26,13 +27,11 @@ use Rattle.jc_rules.specs.Rule.{demands}
 use Rattle.vm_store.specs.declared.cell.Cell.{Cell}
 use Rattle.vm_store.specs.Cells.{tagged}
 use Rattle.vm_store.specs.State.{State, top}
-use Rattle.vm_step.specs.Methods.{code_at}
 use Rattle.vm_step.specs.Raising.{Outcome}
 use Rattle.vm_step.specs.Step.{Steps}
 use Rattle.law_erasure.specs.Erasure.{IsNoFault}
 use Rattle.law_alike.specs.Alike.{renamed_cell}
 use Rattle.law_alike.specs.Likeness.{StepsAreAlike}
-use Rattle.law_alike.proofs.Simulation.{one-step}
 use Rattle.xf_homes.specs.declared.home.Home.{Home}
 use Rattle.xf_homes.specs.Home.{asked_here}
 use Rattle.xf_homes.specs.Value.{value_in_cells, type_width}
@@ -41,7 +40,9 @@ use Rattle.xf_homes.specs.Plan.{local, needed, operation, or_first, register}
 use Rattle.xf_emission.specs.Move.{load_op, with_byte}
 use Rattle.xf_emission.specs.Group.{body, loaded}
 use Rattle.xf_emission.specs.Mnemonics.{aload}
-use Rattle.xf_homes.specs.Laws.{HasRegister, HomesServe, NeededAreKept, Serve}
+use Rattle.xf_homes.specs.Laws.{HasRegister, Serve}
+use Rattle.xf_homes.proofs.Needed.{needed-are-kept}
+use Rattle.xf_homes.proofs.Serving.{homes-serve}
 use Rattle.law_rewritten_typing.specs.Planned.{IsPlanned}
 use Rattle.law_rewritten_typing.specs.Edges.{NeededHaveHomes}
 use Rattle.law_rewritten_typing.specs.Whole.{DerivedAreWhole}
@@ -49,21 +50,18 @@ use Rattle.law_rewritten_typing.proofs.Below.{loads-same}
 use Rattle.law_rewritten_typing.proofs.Carried.{is-high, is-low, is-short}
 use Rattle.law_rewritten_typing.proofs.Running.{found-below, is-reference, local-at, value-int, value-one}
 use Rattle.law_homes.specs.Held.{HoldsValue}
-use Rattle.law_homes.specs.Laws.{LoadsRunAlike, LoadsWriteNone, LocalsStay, StepsExecute}
-use Rattle.law_homes.specs.Moves.{IsExecutable, letter_of, size}
+use Rattle.law_homes.specs.Moves.{letter_of, size}
 use Rattle.law_homes.proofs.Beside.{among-each, some-width}
 use Rattle.law_homes.proofs.Copies.{wide}
 use Rattle.law_homes.proofs.Loading.{load-resolves}
-use Rattle.law_groups.specs.Laid.{IsLaidIn, body_at, count_of, rename}
-use Rattle.law_groups.specs.Laws.{RenamesOneToOne}
-use Rattle.law_groups.specs.Steps.{GroupsFollow, GroupsStandAtSteps}
+use Rattle.law_homes.proofs.Running.{loads-run-alike}
+use Rattle.law_homes.proofs.Homes.{locals-stay}
+use Rattle.law_homes.proofs.Unwritten.{loads-write-none}
+use Rattle.law_groups.specs.Laid.{IsLaidIn, body_at, rename}
 use Rattle.law_groups.specs.Body.{AreAtBody, BodyRuns}
 use Rattle.law_groups.proofs.Arriving.{needed-local}
-use Rattle.law_groups.proofs.Called.{called}
 use Rattle.law_groups.proofs.Context.{method-of, some-reached, typing-of}
-use Rattle.law_groups.proofs.Following.{next-place, steps-here}
-use Rattle.law_groups.proofs.Plain.{alike, codes, comes, ex}
-use Rattle.law_groups.proofs.Standing.{stand-as, step-at}
+use Rattle.law_groups.proofs.Plain.{alike, codes, ex, runs}
 
 -- the home of a local that is read with a letter
 pub record IsHomeOf (s : Source) (p x : ℕ) (letter : Sort) : Type 0 where
@@ -88,8 +86,8 @@ given-width v sorts.Short x = refl
 given-width v sorts.Int x = refl
 
 module _
-    (v w : Linked) (s : Source) (place : ℕ → ℕ) (laid : IsLaidIn v w s place)
-    (types : IsOrderOfTypes v.classes) (whole : DerivedAreWhole v) (kept : NeededAreKept) where
+    {v w : Linked} {s : Source} {place : ℕ → ℕ} (laid : IsLaidIn v w s place)
+    (types : IsOrderOfTypes v.classes) (whole : DerivedAreWhole v) where
   -- the value in registers that are asked for
   record IsValue (f : Types) (x : ℕ) (letter : Sort) : Type 0 where
     ty : Ty
@@ -131,7 +129,7 @@ module _
       → IsHomeOf s i.place x letter
   unfolding needed
   home-is i op letter x is stands reached does =
-      by (s.frames i.place) refl ((typing-of v w s place laid).rules i stands (some-reached v w s place laid i.place reached))
+      by (s.frames i.place) refl ((typing-of laid).rules i stands (some-reached laid i.place reached))
       (laid.planned.derived i.place)
     where
       by :
@@ -147,7 +145,7 @@ module _
           let same : h.steps.1.operation ≡ op = ok-is h.steps.1.operation op (h.steps.1.resolves ∙ sym here) in
           let asked : SatisfiesAll v.classes f (demands v (ops.Load letter x)) =
           subst (λ ds. SatisfiesAll v.classes f ds) (ap (demands v) same ∙ is) h.steps.1.does.asked in
-          let full = (whole s.method i.place f (method-of v w s place laid)
+          let full = (whole s.method i.place f (method-of laid)
           (subst (λ u. IsDerived u s.method Top i.place f) laid.world d)).regs in
           let k = value-is letter x f full asked in
           record {
@@ -159,19 +157,26 @@ module _
             value = k.value;
             full = full;
             among =
-                ((kept s.method s.frames i.place x).all (record { slot = x; ty = k.ty })).1
+                ((needed-are-kept same_type-decides s.method s.frames i.place x).all (record { slot = x; ty = k.ty })).1
                 (refl, (0, asked_here (subst (λ o. IsSomeAnd o (λ (g : Types). value_in_cells g.regs x ≡ Some k.ty)) (sym e) k.value)));
           }
         where
           ok-is : (a b : Operation) → ◌≡◌ {A = Result Operation RuleFault} (Ok a) (Ok b) → a ≡ b
           ok-is a b e = cc
 
+-- the registers of homes have numbers of one byte
+pub small-register :
+    (v : Linked) (s : Source) (h : Home) → s.world ≡ v → IsPlanned s → HasRegister s.homes h → register s h < 256
+small-register v s h is plan has =
+    let serve : Serve s.world s.method s.frames s.homes = homes-serve same_type-decides s.world s.method s.frames s.homes plan.homes in
+    let e : register s h ≡ has.0 = ap or_first has.1 in
+    let inside = serve.within h has.0 has.1 in
+    let few = plan.few in
+    let some = some-width h.ty in
+    omega (arith, e, inside, few, some)
+
 module _
-    (v : Linked) (alike_steps : StepsAreAlike v) (stand : GroupsStandAtSteps) (follow : GroupsFollow)
-    (one_to_one : RenamesOneToOne v) (run_alike : LoadsRunAlike Cell) (stay : LocalsStay Cell) (writes : LoadsWriteNone v)
-    (executed : (w : Linked) → IsExecutable w → StepsExecute w)
-    (types : IsOrderOfTypes v.classes) (whole : DerivedAreWhole v) (kept : NeededAreKept)
-    (small : (s : Source) (h : Home) → s.world ≡ v → IsPlanned s → HasRegister s.homes h → register s h < 256)
+    (v : Linked) (alike_steps : StepsAreAlike v) (types : IsOrderOfTypes v.classes) (whole : DerivedAreWhole v)
     (needs : NeededHaveHomes v) where
   -- a load takes one step, the load of the home
   pub load-runs :
@@ -184,55 +189,28 @@ module _
   unfolding body
   load-runs w s place i letter x z t o laid b step fine =
       let op = ops.Load letter x in
-      let g = steps-here v w s place laid stand follow i op b.stands b.reached b.does in
-      let home = home-is v w s place laid types whole kept i op letter x refl b.stands b.reached b.does in
+      let home = home-is laid types whole i op letter x refl b.stands b.reached b.does in
       let h : Home = record { slot = x; ty = home.ty } in
       let r : ℕ = register s h in
       let insn = with_byte (load_op home.ty) r in
       let other = ops.Load letter r in
       let own : ℕ = body_at s i.place in
       let are : body s i op ≡ Plain insn ∷ [] = ap (loaded s i) home.at in
-      let count : count_of (body s i op) ≡ 1 = ap count_of are in
-      let found = step-at s own (Plain insn) [] (record { insn = insn; targets = []; keys = [] }) []
-      (stand-as s own (body s i op) (Plain insn ∷ []) are g.body_steps) refl in
-      let reached_here = some-reached v w s place laid i.place b.reached in
-      let local_home = needed-local v w s place laid needs i.place x h reached_here home.among in
-      let low : r < 256 = small s h laid.world laid.planned local_home.has in
+      let reached_here = some-reached laid i.place b.reached in
+      let local_home = needed-local laid needs i.place x h reached_here home.among in
+      let low : r < 256 = small-register v s h laid.world laid.planned local_home.has in
       let resolves : Resolves w laid.code.target.rec i.place insn (Ok other) =
       subst (λ k. Resolves w laid.code.target.rec i.place insn (Ok (ops.Load k r))) home.letter_is
       (load-resolves w laid.code.target.rec i.place r home.ty low) in
-      let there = ex v w s place laid (executed w laid.new) i op z t b g insn other count found resolves refl in
-      let agree = codes v w s place laid (executed w laid.new) i op z t b g insn other count found resolves refl refl
-      (λ falls. subst (λ m. IsPlace (code_at w m) (place (own + 1))) (sym b.of.target)
-      (next-place v w s place laid stand follow i op b.stands b.reached b.does count refl)) in
+      let there = ex laid b insn other are resolves refl in
+      let agree = codes laid b insn other are resolves refl refl in
       let held : HoldsValue s (top z).registers (top t) h =
       among-each (HoldsValue s (top z).registers (top t)) (needed s i.place x) h (b.held.locals x) home.among in
       let wide_enough : type_width h.ty ≡ (footprint v op).given =
       wide home.ty ∙ (ap size home.letter_is ∙ sym (given-width v letter x)) in
-      let run = run_alike (renamed_cell (rename s place)) (rename s place) v w z t i there.instruction s h letter
-      (alike v w s place laid (executed w laid.new) i op z t b g) agree held wide_enough in
-      let p = alike_steps w (rename s place) z t i there.instruction op other o laid.code.same (one_to_one w s place laid)
-      b.executes there.executes run step fine in
-      record {
-        count = 1;
-        more = omega arith;
-        fewer = omega arith;
-        outcome = p.0;
-        runs = one-step w t p.0 p.1;
-        comes =
-            comes v w s place laid (executed w laid.new) i op z t b g insn other count found resolves refl
-            (λ y u stays. stay (footprint v op) (footprint v other) z y t u s i.place stays.first stays.second
-            (writes letter x) (writes letter r) b.held.locals)
-            (λ k. refl) (called v i.insn op z) o p.0 p.2;
-      }
-
--- the registers of homes have numbers of one byte
-pub small-register :
-    (v : Linked) → HomesServe v → (s : Source) (h : Home) → s.world ≡ v → IsPlanned s → HasRegister s.homes h → register s h < 256
-small-register v serves s h is plan has =
-    let serve : Serve s.world s.method s.frames s.homes = (subst HomesServe (sym is) serves) s.method s.frames s.homes plan.homes in
-    let e : register s h ≡ has.0 = ap or_first has.1 in
-    let inside = serve.within h has.0 has.1 in
-    let few = plan.few in
-    let some = some-width h.ty in
-    omega (arith, e, inside, few, some)
+      let run = loads-run-alike (renamed_cell (rename s place)) (rename s place) v w z t i there.instruction s h letter
+      (alike laid b) agree held wide_enough in
+      runs laid b insn other are resolves refl
+      (λ y u stays. locals-stay (footprint v op) (footprint v other) z y t u s i.place stays.first stays.second
+      (loads-write-none v letter x) (loads-write-none v letter r) b.held.locals)
+      (λ k. refl) alike_steps o step fine run

@@ -19,15 +19,13 @@ use Rattle.vm_step.specs.Raising.{running}
 use Rattle.xf_homes.specs.Source.{Source}
 use Rattle.xf_homes.specs.Plan.{needed}
 use Rattle.xf_emission.specs.Group.{body}
-use Rattle.law_rewritten_typing.specs.Edges.{CellsFillStack, NeededHaveHomes}
-use Rattle.law_homes.specs.Edges.{CellsAreFew, CopiesAreFew, EdgesRun, KeptStacksStay, StacksSpill}
 use Rattle.law_homes.specs.Held.{HoldsValue}
 use Rattle.law_homes.proofs.Standing.{steps-stand-at-places}
 use Rattle.law_groups.specs.Laid.{IsLaidIn, body_at, count_of, steps_of}
 use Rattle.law_groups.specs.Beside.{AreEqualBut, IsTypedAt}
 use Rattle.law_groups.specs.Comes.{ComesToGroup, ComesWithin}
 use Rattle.law_groups.specs.Laws.{CallsEnd, IsAfterCall}
-use Rattle.law_groups.specs.Steps.{GroupsFollow, GroupsStandAtSteps}
+use Rattle.law_groups.specs.Moves.{MovesRun}
 use Rattle.law_groups.proofs.Arriving.{falls-arrive}
 use Rattle.law_groups.proofs.Context.{reached-some, steps-are}
 use Rattle.law_groups.proofs.Following.{next-place, steps-here}
@@ -40,13 +38,13 @@ pub call-kept : (s : Source) (i : Placed) (c : Callee) → body s i (Call c) ≡
 unfolding body
 call-kept s i c = refl
 
-pub calls-end : GroupsStandAtSteps → GroupsFollow → (v : Linked) → CallsEnd v
-calls-end stand follow v w s place laid f g reached under =
+pub calls-end : (v : Linked) → CallsEnd v
+calls-end v w s place laid f g reached under =
     let i = under.within.instruction in
     let op = Call under.callee in
     let some : is_some (s.frames i.place) ≡ true =
-    ap (λ p. is_some (s.frames p)) under.within.there ∙ reached-some v w s place laid f.place reached in
-    let own = steps-here v w s place laid stand follow i op under.within.stands some under.calls in
+    ap (λ p. is_some (s.frames p)) under.within.there ∙ reached-some laid f.place reached in
+    let own = steps-here laid i op under.within.stands some under.calls in
     let n : ℕ = body_at s i.place in
     let step : Step = record { insn = i.insn; targets = []; keys = [] } in
     let found : slice_get (steps_of s) n ≡ Some step =
@@ -55,12 +53,12 @@ calls-end stand follow v w s place laid f g reached under =
     let same : body_at s f.place ≡ n = ap (body_at s) (sym under.within.there) in
     let method : g.method ≡ s.method.number = under.within.of.target in
     let code : List ℕ = code_at w s.method.number in
-    let here = steps-stand-at-places code place (steps_of s) n step (steps-are v w s place laid) found in
+    let here = steps-stand-at-places code place (steps_of s) n step (steps-are laid) found in
     let at : g.place ≡ place n = under.within.at ∙ ap place (under.first ∙ same) in
     let next : return_place (instruction_at code g.place) ≡ place (n + 1) =
     ap (λ p. return_place (instruction_at code p)) at ∙ (ap return_place here.found ∙ here.ends) in
     let there : IsPlace code (place (n + 1)) =
-    next-place v w s place laid stand follow i op under.within.stands some under.calls
+    next-place laid i op under.within.stands some under.calls
     (ap count_of (call-kept s i under.callee)) refl in
     record {
       next =
@@ -71,12 +69,7 @@ calls-end stand follow v w s place laid f g reached under =
           (subst (λ m. IsPlace (code_at w m) (place (n + 1))) (sym method) there);
     }
 
-module _
-    (v w : Linked) (s : Source) (place : ℕ → ℕ) (laid : IsLaidIn v w s place)
-    (stand : GroupsStandAtSteps) (follow : GroupsFollow)
-    (needs : NeededHaveHomes v) (fill : CellsFillStack v)
-    (spills : StacksSpill v w) (stay : KeptStacksStay v w) (edges : EdgesRun v w)
-    (few_copies : CopiesAreFew v) (few_cells : CellsAreFew v) where
+module _ {v w : Linked} {s : Source} {place : ℕ → ℕ} (laid : IsLaidIn v w s place) (moving : MovesRun v) where
   pub call-returns :
       (z t : State Cell) (i : Placed)
       → IsTypedAt v s z
@@ -85,12 +78,12 @@ module _
       → ComesWithin w 0 1000 t (ComesToGroup s place z t)
   call-returns z t i typed equal after =
       let op = Call after.callee in
-      let some : is_some (s.frames i.place) ≡ true = reached-some v w s place laid i.place after.reached in
+      let some : is_some (s.frames i.place) ≡ true = reached-some laid i.place after.reached in
       let kept : count_of (body s i op) ≡ 1 = ap count_of (call-kept s i after.callee) in
       let frames = equal.frames in
       let runs = typed.runs in
       let going : IsRunning t = omega (arith, frames, runs) in
-      let a = falls-arrive v w s place laid stand follow needs fill spills stay edges few_copies few_cells i op z t z t after.stands some
+      let a = falls-arrive laid moving i op z t z t after.stands some
       after.calls refl
       (record {
         first = record { frames = frames-are z typed.runs };

@@ -6,14 +6,16 @@ use Rattle.std.proofs.lemmas.List.Concat.{flat_map-append, flat_map-cons}
 use Rattle.std.proofs.lemmas.Option.{slice_get_within}
 use Rattle.jc_decode.specs.declared.insn.Placed.{Placed}
 use Rattle.jc_decode.specs.declared.symbols.Item.TheVariants.{Label}
-use Rattle.jc_decode.specs.Laws.{InstructionsAreListed}
 use Rattle.jc_decode.specs.Listing.{listing}
 use Rattle.jc_decode.specs.Symbols.{IsOnce, place_of}
+use Rattle.jc_decode.proofs.InstructionLists.{all-are-listed}
 use Rattle.jc_control.specs.WellFormed.{HasInstruction}
 use Rattle.xf_homes.specs.Source.{Source}
 use Rattle.xf_emission.specs.Emission.{items}
 use Rattle.xf_emission.specs.Group.{group}
-use Rattle.xf_emission.specs.Laws.{GroupStands, GroupsStand, LabelsStandOnce, IsCode, of_place}
+use Rattle.xf_emission.specs.Laws.{GroupStands, IsCode, of_place}
+use Rattle.xf_emission.proofs.GroupPlaces.{groups-stand}
+use Rattle.xf_emission.proofs.Once.{labels-stand-once}
 use Rattle.law_laid.proofs.Steps.{at-contains}
 use Rattle.law_groups.specs.Laid.{count_of, group_at}
 use Rattle.law_groups.proofs.Placing.{count-append, group-begins, place-once}
@@ -54,9 +56,7 @@ in-parts (b ∷ before) after (suc k) x e = by (in-parts before after k x e)
 
 -- ---- groups
 
-module _
-    (once : LabelsStandOnce) (stand : GroupsStand) (listed : InstructionsAreListed)
-    (s : Source) (code : IsCode s) where
+module _ (s : Source) (code : IsCode s) where
   -- the group of a later reached instruction comes after that of an earlier one
   pub groups-rise :
       (i j : Placed)
@@ -70,7 +70,7 @@ module _
       by (in-parts g.earlier (i ∷ g.later) next.0 j (ap (λ ps. slice_get ps next.0) (sym g.listed) ∙ at-contains (listing s.method.code) j next))
     where
       g : GroupStands s i
-      g = stand s code i stands reached
+      g = groups-stand s code i stands reached
 
       -- its number in the listing
       own : slice_get (listing s.method.code) (length g.earlier) ≡ Some i
@@ -99,7 +99,7 @@ module _
           ∙ (ap (λ xs. g.before ++ xs) (sym (append_assoc (group s i) (flat_map (group s) l.before) (Label j.place ∷ rest)))
           ∙ sym (append_assoc g.before (group s i ++ flat_map (group s) l.before) (Label j.place ∷ rest)))) in
           let one : IsOnce (before ++ (Label j.place ∷ rest)) j.place =
-          subst (λ xs. IsOnce xs j.place) parts (once s code j.place (of_place next also)) in
+          subst (λ xs. IsOnce xs j.place) parts (labels-stand-once s code j.place (of_place next also)) in
           let at : group_at s j.place ≡ count_of before = ap (place_of j.place) parts ∙ place-once j.place before rest one in
           let two = count-append g.before (group s i ++ flat_map (group s) l.before) in
           let three = count-append (group s i) (flat_map (group s) l.before) in
@@ -109,7 +109,7 @@ module _
       by : InParts g.earlier (i ∷ g.later) next.0 j → group_at s i.place + count_of (group s i) ≤ group_at s j.place
       by (in_first h) =
           let sooner : next.0 < length g.earlier = slice_get_within g.earlier next.0 j h in
-          let back = (listed s.method.code).rising next.0 (length g.earlier) j i (at-contains (listing s.method.code) j next) own sooner in
+          let back = (all-are-listed s.method.code).rising next.0 (length g.earlier) j i (at-contains (listing s.method.code) j next) own sooner in
           absurd (omega (arith, back, lt))
       by (in_second zero h at) =
           let same : i ≡ j = cc in

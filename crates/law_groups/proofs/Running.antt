@@ -7,31 +7,19 @@ use Rattle.jc_ops.specs.declared.operation.Holder.TheVariants as holders
 use Rattle.jc_ops.specs.declared.operation.Operation.{Operation}
 use Rattle.jc_ops.specs.declared.operation.Operation.TheVariants as ops
 use Rattle.law_alike.specs.Running.{Executes}
-use Rattle.law_rewritten_typing.specs.Edges.{CellsFillStack, NeededHaveHomes}
 use Rattle.law_rewritten_typing.proofs.Turns.{none-asked}
-use Rattle.law_homes.specs.Moves.{IsExecutable}
-use Rattle.law_homes.specs.Edges.{CellsAreFew, CopiesAreFew, EdgesRun, KeptStacksStay, LeadersLoad, StacksSpill}
 use Rattle.law_groups.specs.Comes.{GroupRuns}
 use Rattle.law_groups.specs.Fields.{ThisReadsRun, ThisWritesRun}
 use Rattle.law_groups.specs.Increasing.{IncrementBodiesRun}
 use Rattle.law_groups.specs.Laws.{ForkGroupsRun, GotoGroupsRun, GroupsRun, KeptGroupsRun, LoadGroupsRun}
-use Rattle.law_groups.specs.Steps.{GroupsFollow, GroupsStandAtSteps}
 use Rattle.law_groups.specs.Storing.{StoreBodiesRun}
+use Rattle.law_groups.specs.Moves.{MovesRun}
 use Rattle.law_groups.proofs.OneGroup.{no-fault, turn-of}
 use Rattle.law_groups.proofs.Groups.{still-group}
 
 pub groups-run :
     (v : Linked)
-    → GroupsStandAtSteps
-    → GroupsFollow
-    → NeededHaveHomes v
-    → CellsFillStack v
-    → ((w : Linked) → IsExecutable w → LeadersLoad v w)
-    → ((w : Linked) → IsExecutable w → StacksSpill v w)
-    → ((w : Linked) → IsExecutable w → KeptStacksStay v w)
-    → ((w : Linked) → IsExecutable w → EdgesRun v w)
-    → CopiesAreFew v
-    → CellsAreFew v
+    → MovesRun v
     → KeptGroupsRun v
     → LoadGroupsRun v
     → StoreBodiesRun v
@@ -41,28 +29,23 @@ pub groups-run :
     → GotoGroupsRun v
     → ForkGroupsRun v
     → GroupsRun v
-groups-run v stand follow needs fill loading spills stay edges few_copies few_cells kept loads stores increments reads writes gotos forks
-    w s place laid z t o typed group equal step stays =
-    let turn = turn-of v w s place laid z o typed step stays in
+groups-run v moving kept loads stores increments reads writes gotos forks w s place laid z t o typed group equal step stays =
+    let turn = turn-of laid z o typed step stays in
     by turn.instruction turn.op turn.executes
   where
     by : (i : Placed) (op : Operation) → Executes v z i op → GroupRuns v w s place z t o
     by i (ops.Load letter x) ex = loads w s place z t o i letter x laid typed group equal step stays ex
     by i (ops.Store letter x) ex =
-        still-group v w s place laid stand follow needs fill (loading w laid.new) (spills w laid.new) (stay w laid.new) (edges w laid.new)
-        few_copies few_cells z t o i (ops.Store letter x) typed group equal step stays ex refl
+        still-group laid moving z t o i (ops.Store letter x) typed group equal step stays ex refl
         (λ u before. stores w s place i letter x z u o laid before step (no-fault v s o stays) stays)
     by i (ops.Increment width x amount) ex =
-        still-group v w s place laid stand follow needs fill (loading w laid.new) (spills w laid.new) (stay w laid.new) (edges w laid.new)
-        few_copies few_cells z t o i (ops.Increment width x amount) typed group equal step stays ex refl
+        still-group laid moving z t o i (ops.Increment width x amount) typed group equal step stays ex refl
         (λ u before. increments w s place i width x amount z u o laid before step (no-fault v s o stays))
     by i (ops.FieldRead f holders.This) ex =
-        still-group v w s place laid stand follow needs fill (loading w laid.new) (spills w laid.new) (stay w laid.new) (edges w laid.new)
-        few_copies few_cells z t o i (ops.FieldRead f holders.This) typed group equal step stays ex refl
+        still-group laid moving z t o i (ops.FieldRead f holders.This) typed group equal step stays ex refl
         (λ u before. reads w s place i f z u o laid before step (no-fault v s o stays) stays)
     by i (ops.FieldWrite f holders.This) ex =
-        still-group v w s place laid stand follow needs fill (loading w laid.new) (spills w laid.new) (stay w laid.new) (edges w laid.new)
-        few_copies few_cells z t o i (ops.FieldWrite f holders.This) typed group equal step stays ex refl
+        still-group laid moving z t o i (ops.FieldWrite f holders.This) typed group equal step stays ex refl
         (λ u before. writes w s place i f z u o laid before step (no-fault v s o stays) stays)
     by i (ops.FieldRead f holders.Stack) ex =
         kept w s place z t o i (ops.FieldRead f holders.Stack) laid typed group equal step stays ex refl

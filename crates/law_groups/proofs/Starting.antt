@@ -12,9 +12,9 @@ use Rattle.jc_base.specs.World.{Linked, IsWorld}
 use Rattle.jc_base.proofs.Lists.{All-slice_get}
 use Rattle.jc_decode.specs.declared.symbols.Item.{Item}
 use Rattle.jc_decode.specs.declared.symbols.Item.TheVariants.{Label}
-use Rattle.jc_decode.specs.Laws.{InstructionsAreListed}
 use Rattle.jc_decode.specs.Listing.{listing}
 use Rattle.jc_decode.specs.Symbols.{IsOnce, place_of, steps_in}
+use Rattle.jc_decode.proofs.InstructionLists.{all-are-listed}
 use Rattle.jc_control.specs.Control.{IsReached}
 use Rattle.jc_rules.specs.Demand.{Frame as Types}
 use Rattle.jc_rules.specs.Flow.{FrameBelow, receiver_of}
@@ -36,16 +36,17 @@ use Rattle.xf_emission.specs.declared.origin.Origin.TheVariants.{Start}
 use Rattle.xf_emission.specs.Edge.{copies}
 use Rattle.xf_emission.specs.Emission.{catching_stubs, items, rewritten, stubs}
 use Rattle.xf_emission.specs.Group.{group}
-use Rattle.xf_emission.specs.Laws.{LabelsStandOnce, of_place}
-use Rattle.law_rewritten_typing.specs.Edges.{CellsFillStack, NeededHaveHomes, leads_start}
-use Rattle.law_homes.specs.Edges.{CellsAreFew, CopiesAreFew, EdgesRun, IsBeside, StacksSpill, StartsHold, insns, top_at}
+use Rattle.xf_emission.specs.Laws.{of_place}
+use Rattle.xf_emission.proofs.Once.{labels-stand-once}
+use Rattle.law_rewritten_typing.specs.Edges.{leads_start}
+use Rattle.law_homes.specs.Edges.{IsBeside, StartsHold, insns, top_at}
 use Rattle.law_homes.specs.Held.{HoldsValue, HoldsLocals, slots}
-use Rattle.law_homes.specs.Laws.{StepsExecute}
 use Rattle.law_homes.proofs.Beside.{among-each, each-among, held-as}
 use Rattle.law_groups.specs.Laid.{IsLaidIn, count_of, group_at, rename, steps_of}
 use Rattle.law_groups.specs.Beside.{AreEqualBut, AreOf, HeldOrWaits, IsTypedAt}
 use Rattle.law_groups.specs.Comes.{ComesToGroup, ComesWithin}
-use Rattle.law_groups.specs.Steps.{GroupsFollow, GroupsStandAtSteps, StartsStandAtSteps}
+use Rattle.law_groups.specs.Steps.{StartsStandAtSteps}
+use Rattle.law_groups.specs.Moves.{MovesRun}
 use Rattle.law_groups.proofs.Arriving.{at-step, beside, leader-holds, other-holds, same-count}
 use Rattle.law_groups.proofs.Context.{here-at, method-of, reached-some, target-at}
 use Rattle.law_groups.proofs.Going.{group-inside}
@@ -62,10 +63,10 @@ module _ (s : Source) where
   unfolding items
   items-begin = refl
 
-pub starts-stand : LabelsStandOnce → InstructionsAreListed → StartsStandAtSteps
-starts-stand once listed s i code stands reached zero_at =
+pub starts-stand : StartsStandAtSteps
+starts-stand s i code stands reached zero_at =
     let cs = copies s Start 0 in
-    let ls = listed s.method.code in
+    let ls = all-are-listed s.method.code in
     let l = starts-later s.method.code code.lists (listing s.method.code) 0 i code.lists (ls.decodes i stands) zero_at in
     let b = group-begins s i reached in
     let rest : List Item = b.0 ++ (flat_map (group s) l.0 ++ ending s) in
@@ -75,7 +76,8 @@ starts-stand once listed s i code stands reached zero_at =
     ∙ (append_assoc (group s i) (flat_map (group s) l.0) (ending s)
     ∙ ap (λ xs. xs ++ (flat_map (group s) l.0 ++ ending s)) b.1)) in
     let parts : items s ≡ cs ++ Label i.place ∷ rest = items-begin s ∙ ap (λ xs. cs ++ xs) tail in
-    let one : IsOnce (cs ++ Label i.place ∷ rest) i.place = subst (λ xs. IsOnce xs i.place) parts (once s code i.place (of_place stands reached)) in (
+    let one : IsOnce (cs ++ Label i.place ∷ rest) i.place =
+    subst (λ xs. IsOnce xs i.place) parts (labels-stand-once s code i.place (of_place stands reached)) in (
       record {
         before = [];
         after = steps_in s.method.code (items s) (Label i.place ∷ rest);
@@ -88,11 +90,8 @@ starts-stand once listed s i code stands reached zero_at =
 -- ---- the first group
 
 module _
-    (v w : Linked) (world : IsWorld v) (s : Source) (place : ℕ → ℕ) (laid : IsLaidIn v w s place)
-    (stand : GroupsStandAtSteps) (follow : GroupsFollow) (starts : StartsStandAtSteps) (executed : StepsExecute w)
-    (needs : NeededHaveHomes v) (fill : CellsFillStack v)
-    (spills : StacksSpill v w) (edges : EdgesRun v w) (few_copies : CopiesAreFew v) (few_cells : CellsAreFew v)
-    (holds : StartsHold v) where
+    {v w : Linked} {s : Source} {place : ℕ → ℕ} (laid : IsLaidIn v w s place)
+    (world : IsWorld v) (moving : MovesRun v) (holds : StartsHold v) where
   -- the target has a register for each of the homes'
   homes-counted : s.method.rec.nargs ≤ register_sum s.homes
   unfolding register_sum
@@ -107,7 +106,7 @@ module _
   unfolding rewritten
   registers-are =
       let one : register_count w.methods s.method.number ≡ laid.code.target.rec.nargs + laid.code.target.rec.max_locals =
-      ap register_count_of (target-at v w s place laid) in
+      ap register_count_of (target-at laid) in
       let two : laid.code.target.rec.nargs ≡ s.method.rec.nargs = laid.code.has.nargs ∙ laid.code.stands.nargs in
       let three : laid.code.target.rec.max_locals ≡ register_sum s.homes - s.method.rec.nargs = laid.code.has.max_locals ∙ laid.code.stands.max_locals in
       let least = homes-counted in
@@ -120,7 +119,7 @@ module _
 
   arguments-counted : length (argument_types s.method.rec) ≡ s.method.rec.nargs
   arguments-counted =
-      let own = method-of v w s place laid in
+      let own = method-of laid in
       let is = All-slice_get (IsMethod v.infos v.pools v.classes) v.methods s.method.number s.method.rec world.methods own.rec in
       let words = is.words in
       let both = length-append (receiver_of s.method.rec) s.method.rec.sig.args in
@@ -175,35 +174,35 @@ module _
     start-enters =
         let cs = copies s Start 0 in
         let some : is_some (s.frames 0) ≡ true =
-        reached-some v w s place laid 0 (subst (IsReached s.method) at-zero typed.reached) in
-        let h = here-at v w s place laid 0 some in
+        reached-some laid 0 (subst (IsReached s.method) at-zero typed.reached) in
+        let h = here-at laid 0 some in
         let also : is_some (s.frames h.instruction.place) ≡ true = ap (λ p. is_some (s.frames p)) h.at ∙ some in
-        let st = starts s h.instruction laid.planned.code h.stands also h.at in
+        let st = starts-stand s h.instruction laid.planned.code h.stands also h.at in
         let moves = copies-move s Start 0 in
         let size : count_of cs ≡ length (insns cs) = count-moves cs moves in
         let first = st.1 in
         let inside : group_at s 0 < length (steps_of s) =
-        group-inside v w s place laid stand follow 0
+        group-inside laid 0
         (subst (IsReached s.method) at-zero typed.reached) in
         let frames = equal.frames in
         let runs = typed.runs in
         let going : IsRunning t = omega (arith, frames, runs) in
         let origin : (top t).place ≡ place 0 = ap (λ (f : Frame Cell). f.place) from_there ∙ sym laid.code.stands.begins in
         let near : IsBeside w s 0 (top z) t =
-        subst (λ q. IsBeside w s q (top z) t) at-zero (beside v w s place laid z t typed equal.heap of-both) in
+        subst (λ q. IsBeside w s q (top z) t) at-zero (beside laid z t typed equal.heap of-both) in
         let depth = ap length bare-too in
         let before = holds s (top z) (top t) args (register_count v.methods s.method.number - length args)
         (register_count w.methods s.method.number - length args) laid.world laid.planned
         (ap (λ (f : Frame Cell). f.registers) from_here) (ap (λ (f : Frame Cell). f.registers) from_there)
         (given ∙ sym arguments-counted) in
-        let c = edges place (steps_of s) t 0 s Start 0 (top z) laid.world laid.planned near leads_start
-        (at-step v w s place laid t 0 (length (insns cs)) going of-both.target origin (omega (arith, first, size, inside)))
+        let c = moving.edges w laid.new place (steps_of s) t 0 s Start 0 (top z) laid.world laid.planned near leads_start
+        (at-step laid t 0 (length (insns cs)) going of-both.target origin (omega (arith, first, size, inside)))
         (moves-stand s 0 cs moves st.0) (omega (arith, depth)) before in
         let u : State Cell = top_at t (place (0 + length (insns cs))) c.registers (top t).stack in
         let last : 0 + length (insns cs) ≡ group_at s (top z).place =
         let e = ap (group_at s) at-zero in omega (arith, first, size, e) in
         let whole = ap length (frames-are t going) in
-        let small = few_copies s Start 0 laid.world laid.planned leads_start in
+        let small = moving.few_copies s Start 0 laid.world laid.planned leads_start in
         let locals : HoldsLocals s (top z).place (top z) (top u) =
         subst (λ q. HoldsLocals s q (top z) (top u)) (sym at-zero)
         (λ x. each-among (HoldsValue s (top z).registers (top u)) (needed s 0 x)
@@ -239,12 +238,12 @@ module _
             → is_leader s (top z).place ≡ b
             → HeldOrWaits (is_leader s (top z).place) s place (top z) (top u)
         at-first u none locals true e =
-            leader-holds v w s place laid (top z) (top u) e
+            leader-holds laid (top z) (top u) e
             (record {
               stack = none;
               cells = subst (λ hs. Each (HoldsValue s (slots (top z)) (top u)) hs) (sym none-kept) tt;
               locals = locals;
             })
         at-first u none locals false e =
-            other-holds v w s place laid (top z) (top u) e
+            other-holds laid (top z) (top u) e
             (record { stack = none ∙ sym (ap (map (renamed_cell (rename s place))) bare); locals = locals })

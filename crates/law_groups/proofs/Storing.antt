@@ -10,10 +10,11 @@ use Rattle.jc_base.specs.declared.ty.Ty.{Ty}
 use Rattle.jc_base.specs.declared.ty.Ty.TheVariants.{Bottom, Short, IntHigh, IntLow, Class, Top}
 use Rattle.jc_base.specs.Class.{ClassTable, object}
 use Rattle.jc_base.specs.Each.{Each, IsAmong}
-use Rattle.jc_base.specs.Laws.{IsOrderOfTypes, SameTypeDecides}
+use Rattle.jc_base.specs.Laws.{IsOrderOfTypes}
 use Rattle.jc_base.specs.Order.{Below}
 use Rattle.jc_base.specs.World.{Linked, IsWorld}
 use Rattle.jc_base.proofs.Lists.{All-slice_get, slice_get-set_here, slice_get-set_other}
+use Rattle.jc_base.proofs.SameTypes.{same_type-decides}
 use Rattle.jc_decode.specs.declared.insn.Placed.{Placed}
 use Rattle.jc_decode.specs.declared.symbols.Item.{Item}
 use Rattle.jc_ops.specs.declared.operation.Operation.{Operation}
@@ -45,10 +46,10 @@ use Rattle.law_alike.specs.Running.{Executes}
 use Rattle.law_alike.proofs.Asked.{passed-asks}
 use Rattle.law_alike.proofs.Settling.{unless-none}
 use Rattle.xf_homes.specs.declared.home.Home.{Home}
-use Rattle.xf_homes.specs.Laws.{NeededAreKept}
 use Rattle.xf_homes.specs.Value.{type_width}
 use Rattle.xf_homes.specs.Source.{Source}
 use Rattle.xf_homes.specs.Plan.{needed}
+use Rattle.xf_homes.proofs.Needed.{needed-are-kept}
 use Rattle.xf_emission.specs.Edge.{is_stored}
 use Rattle.xf_emission.specs.Group.{body, store_to_homes}
 use Rattle.xf_emission.specs.Move.{copy}
@@ -59,11 +60,12 @@ use Rattle.law_homes.specs.Stores.{IsInHomes, HasLocal}
 use Rattle.law_homes.proofs.Valued.{asked_types, IsCellOf, CellsAt, cell-of, load-asked, load-filled}
 use Rattle.law_homes.proofs.Few.{same-value, one-few}
 use Rattle.law_homes.proofs.Stores.{stores-run, none-low}
-use Rattle.law_homes.proofs.Beside.{AreLaws, Typed, each-among, among-each, objects, typed, types, needed-valued}
+use Rattle.law_homes.proofs.Beside.{Typed, each-among, among-each, objects, typed, types, needed-valued}
+use Rattle.law_homes.specs.Premises.{AreLaws}
 use Rattle.law_groups.specs.Laid.{IsLaidIn, body_at, count_of, rename, steps_of}
 use Rattle.law_groups.specs.Beside.{AreOf, IsTypedAt, StaysTyped}
 use Rattle.law_groups.specs.Body.{AreAtBody, BodyRuns, body_falls}
-use Rattle.law_groups.specs.Steps.{GroupsFollow, GroupsStandAtSteps, ItemsStandFrom}
+use Rattle.law_groups.specs.Steps.{ItemsStandFrom}
 use Rattle.law_groups.specs.Storing.{StoreBodiesRun}
 use Rattle.law_groups.proofs.Arriving.{at-step, beside, depth-fits}
 use Rattle.law_groups.proofs.Following.{next-of, steps-here}
@@ -250,9 +252,8 @@ stored-few s letter (h ∷ hs) le = let c = copies-few s h hs in (omega arith, o
 -- ---- the whole
 
 module _
-    (v : Linked) (world : IsWorld v) (decided : OperationsAreDecided v) (same_is : SameTypeDecides)
-    (stand : GroupsStandAtSteps) (follow : GroupsFollow) (laws : (w : Linked) → IsExecutable w → AreLaws v w) (kept : NeededAreKept)
-    (w : Linked) (s : Source) (place : ℕ → ℕ) (laid : IsLaidIn v w s place) (i : Placed) (x : ℕ)
+    {v w : Linked} {s : Source} {place : ℕ → ℕ} (laid : IsLaidIn v w s place)
+    (world : IsWorld v) (decided : OperationsAreDecided v) (laws : (w : Linked) → IsExecutable w → AreLaws v w) (i : Placed) (x : ℕ)
     (f : Frame Cell) (below : List (Frame Cell)) (heap : List (Object Cell)) (statics : List Cell) (t : State Cell) where
   abbrev z : State Cell
   z = record { frames = f ∷ below; heap = heap; statics = statics }
@@ -276,7 +277,7 @@ module _
     l = laws w laid.new
 
     beside_z : IsBeside w s f.place f t
-    beside_z = beside v w s place laid z t b.typed b.equal.heap b.of
+    beside_z = beside laid z t b.typed b.equal.heap b.of
 
     ty_z : Typed v w l s laid.world laid.planned f.place f t beside_z
     ty_z = typed v w l s laid.world laid.planned f.place f t beside_z
@@ -315,7 +316,7 @@ module _
       of_y = record { source = b.of.source; target = b.of.target; count = b.of.count }
 
       beside_y : IsBeside w s q (top (y after rest)) t
-      beside_y = beside v w s place laid (y after rest) t typed_y b.equal.heap of_y
+      beside_y = beside laid (y after rest) t typed_y b.equal.heap of_y
 
       value_w : CellsAt w.classes (kinds t) after x (asked_types w.classes letter)
       value_w =
@@ -346,7 +347,7 @@ module _
       body_is = refl
 
       g : GroupSteps s i (ops.Store letter x)
-      g = steps-here v w s place laid stand follow i (ops.Store letter x) b.stands b.reached b.does
+      g = steps-here laid i (ops.Store letter x) b.stands b.reached b.does
 
       n : ℕ
       n = body_at s i.place
@@ -359,7 +360,7 @@ module _
 
       further : body_at s i.place + length (insns (store_to_homes s letter (needed s q x))) < length (steps_of s)
       further =
-          let next = next-of v w s place laid stand follow i (ops.Store letter x) b.stands b.reached b.does refl in
+          let next = next-of laid i (ops.Store letter x) b.stands b.reached b.does refl in
           let later = next.follows_it in
           let inside = next.inside in
           let size = g.size in
@@ -371,11 +372,11 @@ module _
       stored_there =
           stores-run v w l place (steps_of s) t (body_at s i.place) s letter q x (top (y after rest)) (map (renamed_cell (rename s place)) rest) laid.world
           laid.planned beside_y local_y
-          (at-step v w s place laid t (body_at s i.place) (length (insns (store_to_homes s letter (needed s q x)))) (omega (arith, b.equal.frames))
+          (at-step laid t (body_at s i.place) (length (insns (store_to_homes s letter (needed s q x)))) (omega (arith, b.equal.frames))
           b.of.target b.at further)
           (moves-stand s (body_at s i.place) (store_to_homes s letter (needed s q x)) moves (subst (ItemsStandFrom s (body_at s i.place)) body_is g.body_steps))
           stack_t
-          (let deep = depth-fits v w s place laid z b.typed in let e = ap length b.held.stack in
+          (let deep = depth-fits laid z b.typed in let e = ap length b.held.stack in
           let m = length-map f.stack (renamed_cell (rename s place)) in omega (arith, deep, e, m))
 
       -- what is held afterwards
@@ -430,7 +431,8 @@ module _
       pub finished : (o : Outcome Cell) → o ≡ running (y after rest) → BodyRuns v w s place i (ops.Store letter x) z t o
       unfolding u
       finished o e =
-          let few = stored-few s letter (needed s q x) (one-few v same_is kept l.needed s laid.world laid.planned q typed_q.0 typed_q.1 x) in
+          let few = stored-few s letter (needed s q x)
+          (one-few v same_type-decides (needed-are-kept same_type-decides) l.needed s laid.world laid.planned q typed_q.0 typed_q.1 x) in
           subst (λ (p : Outcome Cell). BodyRuns v w s place i (ops.Store letter x) z t p) (sym e)
           (record {
             count = length (insns (store_to_homes s letter (needed s q x)));
@@ -510,9 +512,8 @@ module _
       finished sorts.Int b after (drop 2 f.stack) put (subst (StaysTyped v s) has.comes stays (omega arith) b.of.source) o has.comes
 
 pub store-bodies-run :
-    (v : Linked) → IsWorld v → OperationsAreDecided v → SameTypeDecides → GroupsStandAtSteps → GroupsFollow
-    → ((w : Linked) → IsExecutable w → AreLaws v w) → NeededAreKept → StoreBodiesRun v
-store-bodies-run v world decided same_is stand follow laws kept w s place i letter x z t o laid b step fine stays =
+    (v : Linked) → IsWorld v → OperationsAreDecided v → ((w : Linked) → IsExecutable w → AreLaws v w) → StoreBodiesRun v
+store-bodies-run v world decided laws w s place i letter x z t o laid b step fine stays =
     by z.frames z.heap z.statics b step
   where
     by :
@@ -522,4 +523,4 @@ store-bodies-run v world decided same_is stand follow laws kept w s place i lett
         → BodyRuns v w s place i (ops.Store letter x) (record { frames = fs; heap = heap; statics = statics }) t o
     by [] heap statics b step = absurd (let lt = b.typed.runs in omega (arith, lt))
     by (f ∷ below) heap statics b step =
-        by-letter v world decided same_is stand follow laws kept w s place laid i x f below heap statics t letter o b step fine stays
+        by-letter laid world decided laws i x f below heap statics t letter o b step fine stays

@@ -31,22 +31,22 @@ use Rattle.xf_emission.specs.Move.{copy}
 use Rattle.xf_emission.specs.Jump.{goto, label_by, lead, stub, stub_label, stub_of, branch_copies, under, way_of}
 use Rattle.xf_emission.proofs.Ways.{way-found}
 use Rattle.xf_emission.specs.Mnemonics.{goto_w}
-use Rattle.law_rewritten_typing.specs.Edges.{AreMatched, CellsFillStack, LeadsTo, NeededHaveHomes}
-use Rattle.law_homes.specs.Edges.{CellsAreFew, CellsRun, CopiesAreFew, EdgesRun, HoldsAfter, insns, top_at}
+use Rattle.law_rewritten_typing.specs.Edges.{AreMatched, LeadsTo}
+use Rattle.law_homes.specs.Edges.{HoldsAfter, insns, top_at}
 use Rattle.law_homes.specs.Held.{HoldsValue, HoldsLocals, slots}
-use Rattle.law_homes.specs.Laws.{StepsExecute}
 use Rattle.law_homes.proofs.Beside.{among-each, each-among, held-as, held-in-registers, held-in-slots}
 use Rattle.law_groups.specs.Laid.{IsLaidIn, count_of, group_at, steps_of}
 use Rattle.law_groups.specs.Beside.{AreEqualBut, AreOf, IsTypedAt}
 use Rattle.law_groups.specs.Comes.{ComesToGroup, ComesWithin}
-use Rattle.law_groups.specs.Steps.{GroupsFollow, GroupsStandAtSteps, ItemsStandFrom, StubsStandAtSteps}
+use Rattle.law_groups.specs.Steps.{ItemsStandFrom}
+use Rattle.law_groups.specs.Moves.{MovesRun}
 use Rattle.law_groups.proofs.Arriving.{at-step, beside, kept-registers, leader-holds, leader-keeps, runs-then, still-after}
 use Rattle.law_groups.proofs.Context.{here-at, reached-some, steps-are, target-at}
 use Rattle.law_groups.proofs.Going.{group-inside}
 use Rattle.law_groups.proofs.Leading.{goto-steps}
 use Rattle.law_groups.proofs.Moving.{AreMoves, copies-move, count-moves, moves-both, moves-if, moves-stand}
 use Rattle.law_groups.proofs.Plain.{frames-are}
-use Rattle.law_groups.proofs.Placing.{count-append}
+use Rattle.law_groups.proofs.Placing.{count-append, groups-stand-at-steps, stubs-stand-at-steps}
 use Rattle.law_groups.proofs.Standing.{stand-as, stand-at, stand-first, stand-inside, stand-labelled, stand-last, step-at}
 
 -- ---- copies of cells
@@ -72,10 +72,7 @@ cell-few s (h ∷ hs) (k ∷ ks) =
     one-few false = omega arith
 
 module _
-    (v w : Linked) (s : Source) (place : ℕ → ℕ) (laid : IsLaidIn v w s place)
-    (stand : GroupsStandAtSteps) (follow : GroupsFollow) (executed : StepsExecute w)
-    (needs : NeededHaveHomes v) (fill : CellsFillStack v)
-    (cells_run : CellsRun v w) (edges : EdgesRun v w) (few_copies : CopiesAreFew v) (few_cells : CellsAreFew v)
+    {v w : Linked} {s : Source} {place : ℕ → ℕ} (laid : IsLaidIn v w s place) (moving : MovesRun v)
     (p n : ℕ) (op : Operation) (y x : State Cell) (typed : IsTypedAt v s y) (equal : AreEqualBut y x) (of : AreOf s (top y) (top x))
     (leader : is_leader s (top y).place ≡ true) (leads : LeadsTo s (After p op) (top y).place) (from_p : IsReached s.method p)
     (match : AreMatched s (under s p n) (stack_homes s (top y).place))
@@ -110,11 +107,11 @@ module _
       let first_size : count_of cc_items ≡ length (insns cc_items) = count-moves cc_items first_moves in
       let size : count_of cs ≡ length (insns cs) = count-moves cs moves in
       let both = count-append cc_items cs in
-      let near = beside v w s place laid y x typed equal.heap of in
-      let keeps = leader-keeps v w s place laid q leader in
+      let near = beside laid y x typed equal.heap of in
+      let keeps = leader-keeps laid q leader in
       let depth = ap length bare in
-      let a = cells_run place (steps_of s) x m s q (top y) (under s p n) (stack_homes s q) laid.world laid.planned near match
-      (at-step v w s place laid x m (length (insns cc_items)) running-too of.target at (omega (arith, inside, first_size, both)))
+      let a = moving.cells_run w laid.new place (steps_of s) x m s q (top y) (under s p n) (stack_homes s q) laid.world laid.planned near match
+      (at-step laid x m (length (insns cc_items)) running-too of.target at (omega (arith, inside, first_size, both)))
       (moves-stand s m cc_items first_moves (stand-first s m cc_items cs st)) (omega (arith, depth)) (λ k among. among) keeps held in
       let r : ℕ = m + length (insns cc_items) in
       let x1 : State Cell = top_at x (place r) a.registers [] in
@@ -122,15 +119,15 @@ module _
       subst (λ stack. Runs tagged w (length (insns cc_items)) x (running (top_at x (place r) a.registers stack))) bare a.runs in
       let of1 : AreOf s (top y) (top x1) = record { source = of.source; target = of.target; count = a.count ∙ of.count } in
       let before1 : HoldsAfter s p op q (top y) (top x1) =
-      still-after v w s place laid needs p q op (top y) (top x) (top x1) from_p typed.reached
+      still-after laid moving.needs p q op (top y) (top x) (top x1) from_p typed.reached
       (λ h known own. held-in-registers s (top y) (top x1) h own.known
       (held-as s (slots (top y)) (record (top x) { registers = a.registers }) (top x1) h refl
       (a.others h known.has (held-in-slots s (top y) (top x) h own)))) before in
       let rest : ItemsStandFrom s r cs =
       stand-at s (m + count_of cc_items) r cs (ap (λ k. m + k) first_size) (stand-last s m cc_items cs st) in
-      let c = edges place (steps_of s) x1 r s (After p op) q (top y) laid.world laid.planned
-      (beside v w s place laid y x1 typed equal.heap of1) leads
-      (at-step v w s place laid x1 r (length (insns cs)) (omega arith) of.target refl (omega (arith, inside, first_size, size, both)))
+      let c = moving.edges w laid.new place (steps_of s) x1 r s (After p op) q (top y) laid.world laid.planned
+      (beside laid y x1 typed equal.heap of1) leads
+      (at-step laid x1 r (length (insns cs)) (omega arith) of.target refl (omega (arith, inside, first_size, size, both)))
       (moves-stand s r cs moves rest) (omega arith) before1 in
       let all : length (insns cc_items) + length (insns cs) ≡ count_of (cc_items ++ cs) = omega (arith, first_size, size, both) in
       let last : r + length (insns cs) ≡ m + count_of (cc_items ++ cs) = omega (arith, first_size, size, both) in
@@ -147,7 +144,7 @@ module _
             each-among (HoldsValue s (slots (top y)) (record (top x) { registers = c.registers })) (stack_homes s q)
             (λ h among. held-as s (slots (top y)) (record (top x1) { registers = c.registers }) (record (top x) { registers = c.registers }) h
             refl
-            (c.others h (kept-registers v w s place laid fill q h keeps typed.reached among)
+            (c.others h (kept-registers laid moving.fill q h keeps typed.reached among)
             (held-as s (slots (top y)) (record (top x) { registers = a.registers }) (top x1) h refl
             (among-each (HoldsValue s (slots (top y)) (record (top x) { registers = a.registers })) (stack_homes s q) h a.cells among))));
         locals = λ l.
@@ -188,7 +185,7 @@ module _
               of = record { source = of.source; target = of.target; count = count ∙ of.count };
               at = refl;
               holds =
-                  leader-holds v w s place laid (top y) (top u) leader
+                  leader-holds laid (top y) (top u) leader
                   (record {
                     stack = refl;
                     cells =
@@ -211,9 +208,9 @@ module _
   few-taken =
       let both = count-append (cell_copies s (under s p n) (stack_homes s q)) (copies s (After p op) q) in
       let one = cell-few s (under s p n) (stack_homes s q) in
-      let low = few_cells s q laid.world laid.planned (leader-keeps v w s place laid q leader) in
+      let low = moving.few_cells s q laid.world laid.planned (leader-keeps laid q leader) in
       let limit = laid.room in
-      let small = few_copies s (After p op) q laid.world laid.planned leads in
+      let small = moving.few_copies s (After p op) q laid.world laid.planned leads in
       let size = count-moves (copies s (After p op) q) (copies-move s (After p op) q) in
       omega (arith, both, one, low, limit, small, size)
 
@@ -225,7 +222,7 @@ module _
       → m + count_of (branch_copies s p op n q) ≡ group_at s q
       → ComesWithin w 0 1018 x (ComesToGroup s place y x)
   taken-falls m st at last =
-      let inside = group-inside v w s place laid stand follow q typed.reached in
+      let inside = group-inside laid q typed.reached in
       let a = taken-runs m st at (omega (arith, last, inside)) in
       let small = few-taken in
       arrives 0 1018 (count_of (branch_copies s p op n q)) a.registers (omega arith) small
@@ -250,10 +247,10 @@ module _
       let found : slice_get (steps_of s) k ≡ Some (record { insn = jump goto_w; targets = group_at s q ∷ []; keys = [] }) =
       step-at s k (goto q) [] (record { insn = jump goto_w; targets = place_of q (items s) ∷ []; keys = [] }) [] rest refl in
       let method : (top x1).method ≡ s.method.number = of.target in
-      let jumped = goto-steps w laid.new executed place (steps_of s) x1 laid.code.target.rec k (group_at s q) (omega arith)
-      (ap (slice_get w.methods) method ∙ target-at v w s place laid)
-      (subst (λ r. AreSteps (code_at w r) place 0 (steps_of s) (listing (code_at w r))) (sym method) (steps-are v w s place laid))
-      found refl (group-inside v w s place laid stand follow q typed.reached) (omega arith) in
+      let jumped = goto-steps w laid.new place (steps_of s) x1 laid.code.target.rec k (group_at s q) (omega arith)
+      (ap (slice_get w.methods) method ∙ target-at laid)
+      (subst (λ r. AreSteps (code_at w r) place 0 (steps_of s) (listing (code_at w r))) (sym method) (steps-are laid))
+      found refl (group-inside laid q typed.reached) (omega arith) in
       let small = few-taken in
       arrives 0 1019 (count_of ts + 1) a.registers (omega arith) (omega (arith, small))
       (runs-then w (count_of ts) 1 x x1 (running (top_at x (place (group_at s q)) a.registers [])) a.runs (after_step jumped none_taken))
@@ -261,8 +258,7 @@ module _
 
   -- from the label to which a branch leads
   pub led-arrives :
-      StubsStandAtSteps
-      → (i : Placed) (k : ℕ)
+      (i : Placed) (k : ℕ)
       → i.place ≡ p
       → HasInstruction s.method.code i
       → operation s i ≡ Ok op
@@ -271,14 +267,14 @@ module _
       → (top x).place ≡ place (place_of (lead s p op n (way_of (targets s.method.code i) (pos q)) (pos q)) (items s))
       → ComesWithin w 0 1019 x (ComesToGroup s place y x)
   unfolding lead stub
-  led-arrives stubs i k here stands does some target at = by (branch_copies s p op n q) refl at
+  led-arrives i k here stands does some target at = by (branch_copies s p op n q) refl at
     where
       direct : branch_copies s p op n q ≡ [] → (top x).place ≡ place (group_at s q) → ComesWithin w 0 1018 x (ComesToGroup s place y x)
       direct e there =
-          let h = here-at v w s place laid q (reached-some v w s place laid q typed.reached) in
+          let h = here-at laid q (reached-some laid q typed.reached) in
           let also : is_some (s.frames h.instruction.place) ≡ true =
-          ap (λ r. is_some (s.frames r)) h.at ∙ reached-some v w s place laid q typed.reached in
-          let whole = stand s h.instruction laid.planned.code h.stands also in
+          ap (λ r. is_some (s.frames r)) h.at ∙ reached-some laid q typed.reached in
+          let whole = groups-stand-at-steps s h.instruction laid.planned.code h.stands also in
           let none : ItemsStandFrom s (group_at s q) [] =
           subst (λ r. ItemsStandFrom s (group_at s r) []) h.at (stand-first s (group_at s h.instruction.place) [] (group s h.instruction) whole) in
           let zero_count : count_of (branch_copies s p op n q) ≡ 0 = ap count_of e in
@@ -299,8 +295,8 @@ module _
       by (t ∷ ts) e there =
           let some_taken : branch_copies s i.place op n q ≢ [] = λ none. absurd
           (let bad = sym none ∙ (ap (λ r. branch_copies s r op n q) here ∙ e) in not-none t ts bad) in
-          let reached : is_some (s.frames i.place) ≡ true = reached-some v w s place laid i.place (subst (IsReached s.method) (sym here) from_p) in
-          let st = stubs s i op n (way_of (targets s.method.code i) (pos q)) (pos q) laid.planned.code stands reached does some
+          let reached : is_some (s.frames i.place) ≡ true = reached-some laid i.place (subst (IsReached s.method) (sym here) from_p) in
+          let st = stubs-stand-at-steps s i op n (way_of (targets s.method.code i) (pos q)) (pos q) laid.planned.code stands reached does some
           (way-found (targets s.method.code i) k (pos q) target) some_taken in
           let own : ItemsStandFrom s (place_of (stub_label p (way_of (targets s.method.code i) (pos q))) (items s))
           (stub_of (stub_label p (way_of (targets s.method.code i) (pos q))) q (branch_copies s p op n q)) =

@@ -58,7 +58,7 @@ use Rattle.law_alike.proofs.Simulation.{one-step}
 use Rattle.xf_homes.specs.declared.home.Home.{Home}
 use Rattle.xf_homes.specs.Value.{type_width}
 use Rattle.law_laid.specs.Apart.{apart_from_code}
-use Rattle.law_laid.specs.Laws.{OperationsAreKept}
+use Rattle.law_laid.proofs.SameBut.{operations-are-kept}
 use Rattle.xf_homes.specs.Source.{Source}
 use Rattle.xf_homes.specs.Plan.{needed, register}
 use Rattle.xf_emission.specs.Group.{body, field_read, itself, stays}
@@ -68,18 +68,19 @@ use Rattle.law_rewritten_typing.proofs.Rows.{read-on-stack}
 use Rattle.law_sound.proofs.Passing.{passes-before}
 use Rattle.law_homes.specs.Edges.{top_at, IsBeside}
 use Rattle.law_homes.specs.Held.{HoldsValue, HoldsLocals}
-use Rattle.law_homes.specs.Laws.{ExecutesStep, StepsExecute}
+use Rattle.law_homes.specs.Laws.{ExecutesStep}
 use Rattle.law_homes.specs.Moves.{IsExecutable, letter_of, value_in_register, size, load_of, InstructionsStandFrom as StandAmong}
 use Rattle.jc_decode.specs.Places.{place_after}
 use Rattle.law_homes.proofs.Copies.{wide}
 use Rattle.law_homes.proofs.Going.{operations-go-on}
 use Rattle.law_homes.proofs.Loading.{loads-run, step-place}
-use Rattle.law_homes.proofs.Beside.{AreLaws, among-each, held-can-load, needed-valued, register-small}
+use Rattle.law_homes.proofs.Beside.{among-each, held-can-load, needed-valued, register-small}
+use Rattle.law_homes.specs.Premises.{AreLaws}
+use Rattle.law_homes.proofs.Standing.{steps-execute}
 use Rattle.law_groups.specs.Laid.{IsLaidIn, body_at, count_of, rename, steps_of}
 use Rattle.law_groups.specs.Beside.{IsTypedAt, StandsInGroup, StaysTyped}
 use Rattle.law_groups.specs.Body.{AreAtBody, BodyRuns, body_done, body_falls}
 use Rattle.law_groups.specs.Comes.{group_raises}
-use Rattle.law_groups.specs.Steps.{GroupsFollow, GroupsStandAtSteps}
 use Rattle.law_groups.proofs.Arriving.{at-step, beside, depth-fits, runs-then}
 use Rattle.law_groups.proofs.Context.{steps-are, target-at, target-room}
 use Rattle.law_groups.proofs.Following.{next-of, steps-here}
@@ -132,11 +133,61 @@ same-locals s p f g k e locals x =
       equal = λ n lt. ap (λ (rs : List Cell). slice_get rs (register s h + n)) e ∙ held.equal n lt;
     }) (needed s p x) (locals x)
 
+-- ---- the load of the object, where register 0 is not the home of local 0
+
 module _
-    (v : Linked) (world : IsWorld v) (decided : OperationsAreDecided v) (operations : OperationsAreKept)
-    (stand : GroupsStandAtSteps) (follow : GroupsFollow) (laws : (w : Linked) → IsExecutable w → AreLaws v w)
-    (executed : (w : Linked) → IsExecutable w → StepsExecute w)
-    (w : Linked) (s : Source) (place : ℕ → ℕ) (laid : IsLaidIn v w s place) (i : Placed) (fd : InstanceField)
+    {v w : Linked} {s : Source} {place : ℕ → ℕ} (laid : IsLaidIn v w s place) (l : AreLaws v w) {i : Placed} {op : Operation}
+    (f : Frame Cell) (below : List (Frame Cell)) (heap : List (Object Cell)) (statics : List Cell) (t : State Cell)
+    (b : AreAtBody v w s place i op (record { frames = f ∷ below; heap = heap; statics = statics }) t)
+    (home : IsHomeOf s i.place 0 sorts.Reference)
+    (stand : StandAmong (steps_of s) (body_at s i.place) (load_of s (record { slot = 0; ty = home.ty }) ∷ []))
+    (inside : body_at s i.place + 1 < length (steps_of s)) where
+  beside_z : IsBeside w s f.place f t
+  beside_z = beside laid _ t b.typed b.equal.heap b.of
+
+  held : HoldsValue s f.registers (top t) (record { slot = 0; ty = home.ty })
+  held = among-each (HoldsValue s f.registers (top t)) (needed s i.place 0) (record { slot = 0; ty = home.ty }) (b.held.locals 0) home.among
+
+  some : 0 < type_width home.ty
+  some = let e = wide home.ty in let k = ap size home.letter_is in omega (arith, e, k)
+
+  cell_is : nth tagged (top t).registers (register s (record { slot = 0; ty = home.ty })) ≡ nth tagged f.registers 0
+  cell_is =
+      let here : register s (record { slot = 0; ty = home.ty }) ≡ register s (record { slot = 0; ty = home.ty }) + 0 = omega arith in
+      ap (nth tagged (top t).registers) here ∙ register-same f.registers (top t).registers 0 (register s (record { slot = 0; ty = home.ty }) + 0)
+      (held.equal 0 some)
+
+  pub this-loaded :
+      Runs tagged w 1 t (running (top_at t (place (body_at s i.place + 1)) (top t).registers (nth tagged f.registers 0 ∷ (top t).stack)))
+  this-loaded =
+      let valued = needed-valued v w l s laid.world laid.planned f.place f t beside_z 0 (record { slot = 0; ty = home.ty })
+      (subst (λ (p : ℕ). IsAmong (record { slot = 0; ty = home.ty }) (needed s p 0)) (sym b.here) home.among) in
+      let stack_is : value_in_register (letter_of home.ty) (register s (record { slot = 0; ty = home.ty })) (top t).registers ++ (top t).stack
+      ≡ nth tagged f.registers 0 ∷ (top t).stack =
+      ap (λ (a : Sort). value_in_register a (register s (record { slot = 0; ty = home.ty })) (top t).registers ++ (top t).stack) home.letter_is
+      ∙ ap (λ (d : Cell). d ∷ (top t).stack) cell_is in
+      let deep = depth-fits laid _ b.typed in
+      let e = ap length b.held.stack in
+      let m = length-map f.stack (renamed_cell (rename s place)) in
+      let own = target-room laid in
+      let method = ap (max_stack_of w) b.of.target in
+      let fits : length (value_in_register (letter_of home.ty) (register s (record { slot = 0; ty = home.ty })) (top t).registers ++ (top t).stack) ≤
+      max_stack_of w (top t).method =
+      omega (arith, ap length stack_is, deep, e, m, own, method) in
+      let ran = loads-run w l.world place (steps_of s) t (body_at s i.place) s (record { slot = 0; ty = home.ty } ∷ [])
+      (at-step laid t (body_at s i.place) 1 (omega (arith, b.equal.frames)) b.of.target b.at (omega (arith, inside))) stand (
+        held-can-load w s f.registers t (record { slot = 0; ty = home.ty })
+            (register-small v w l s laid.world laid.planned (record { slot = 0; ty = home.ty }) valued.1.has) held valued.2,
+        tt,
+      ) fits in
+      subst (λ (cs : List Cell). Runs tagged w 1 t (running (top_at t (place (body_at s i.place + 1)) (top t).registers cs))) stack_is ran
+
+-- ---- the read
+
+module _
+    {v w : Linked} {s : Source} {place : ℕ → ℕ} (laid : IsLaidIn v w s place)
+    (world : IsWorld v) (decided : OperationsAreDecided v) (laws : (w : Linked) → IsExecutable w → AreLaws v w)
+    (i : Placed) (fd : InstanceField)
     (f : Frame Cell) (below : List (Frame Cell)) (heap : List (Object Cell)) (statics : List Cell) (t : State Cell) where
   abbrev z : State Cell
   z = record { frames = f ∷ below; heap = heap; statics = statics }
@@ -165,9 +216,6 @@ module _
     abbrev h : Home
     h = record { slot = 0; ty = home.ty }
 
-    l : AreLaws v w
-    l = laws w laid.new
-
     body_is : body s i (ops.FieldRead fd holders.This) ≡ load s (record { slot = 0; ty = home.ty }) ∷ Plain (record i.insn { op = i.insn.op - from_read }) ∷ []
     unfolding body
     body_is =
@@ -176,7 +224,7 @@ module _
         moves
 
     g : GroupSteps s i (ops.FieldRead fd holders.This)
-    g = steps-here v w s place laid stand follow i (ops.FieldRead fd holders.This) b.stands b.reached b.does
+    g = steps-here laid i (ops.FieldRead fd holders.This) b.stands b.reached b.does
 
     count : count_of (body s i (ops.FieldRead fd holders.This)) ≡ 2
     count = ap count_of body_is
@@ -189,7 +237,7 @@ module _
 
     further : body_at s i.place + 2 < length (steps_of s)
     further =
-        let next = next-of v w s place laid stand follow i (ops.FieldRead fd holders.This) b.stands b.reached b.does refl in
+        let next = next-of laid i (ops.FieldRead fd holders.This) b.stands b.reached b.does refl in
         let later = next.follows_it in
         let inside = next.inside in
         let size = g.size in
@@ -201,54 +249,16 @@ module _
     has : HasSettled v i (ops.FieldRead fd holders.This) f below heap statics o
     has = has-settled v world decided i (ops.FieldRead fd holders.This) f below heap statics o b.executes step fine
 
-    beside_z : IsBeside w s f.place f t
-    beside_z = beside v w s place laid z t b.typed b.equal.heap b.of
-
-    -- ---- the load
-
-    held : HoldsValue s f.registers (top t) (record { slot = 0; ty = home.ty })
-    held = among-each (HoldsValue s f.registers (top t)) (needed s i.place 0) (record { slot = 0; ty = home.ty }) (b.held.locals 0) home.among
-
-    some : 0 < type_width home.ty
-    some = let e = wide home.ty in let k = ap size home.letter_is in omega (arith, e, k)
-
-    cell_is : nth tagged (top t).registers (register s (record { slot = 0; ty = home.ty })) ≡ nth tagged f.registers 0
-    cell_is =
-        let here : register s (record { slot = 0; ty = home.ty }) ≡ register s (record { slot = 0; ty = home.ty }) + 0 = omega arith in
-        ap (nth tagged (top t).registers) here ∙ register-same f.registers (top t).registers 0 (register s (record { slot = 0; ty = home.ty }) + 0)
-        (held.equal 0 some)
-
     loaded : Runs tagged w 1 t (running t1)
-    loaded =
-        let valued = needed-valued v w l s laid.world laid.planned f.place f t beside_z 0 (record { slot = 0; ty = home.ty })
-        (subst (λ (p : ℕ). IsAmong (record { slot = 0; ty = home.ty }) (needed s p 0)) (sym b.here) home.among) in
-        let stack_is : value_in_register (letter_of home.ty) (register s (record { slot = 0; ty = home.ty })) (top t).registers ++ (top t).stack
-        ≡ nth tagged f.registers 0 ∷ (top t).stack =
-        ap (λ (a : Sort). value_in_register a (register s (record { slot = 0; ty = home.ty })) (top t).registers ++ (top t).stack) home.letter_is
-        ∙ ap (λ (d : Cell). d ∷ (top t).stack) cell_is in
-        let deep = depth-fits v w s place laid z b.typed in
-        let e = ap length b.held.stack in
-        let m = length-map f.stack (renamed_cell (rename s place)) in
-        let own = target-room v w s place laid in
-        let method = ap (max_stack_of w) b.of.target in
-        let fits : length (value_in_register (letter_of home.ty) (register s (record { slot = 0; ty = home.ty })) (top t).registers ++ (top t).stack) ≤
-        max_stack_of w (top t).method =
-        omega (arith, ap length stack_is, deep, e, m, own, method) in
-        let ran = loads-run w l.world place (steps_of s) t (body_at s i.place) s (record { slot = 0; ty = home.ty } ∷ [])
-        (at-step v w s place laid t (body_at s i.place) 1 runs_t b.of.target b.at (omega (arith, further))) (there.0, tt) (
-          held-can-load w s f.registers t (record { slot = 0; ty = home.ty })
-              (register-small v w l s laid.world laid.planned (record { slot = 0; ty = home.ty }) valued.1.has) held valued.2,
-          tt,
-        ) fits in
-        subst (λ (cs : List Cell). Runs tagged w 1 t (running (top_at t (place (body_at s i.place + 1)) (top t).registers cs))) stack_is ran
+    loaded = this-loaded laid (laws w laid.new) f below heap statics t b home (there.0, tt) (omega (arith, further))
 
     -- ---- the field
 
     resolves : Resolves w laid.code.target.rec i.place (record i.insn { op = i.insn.op - from_read }) (Ok (ops.FieldRead fd holders.Stack))
     resolves =
-        let same_method = method-is v w s place laid (executed w laid.new) i (ops.FieldRead fd holders.This) z t b g in
+        let same_method = method-is laid b in
         let own : Resolves w laid.code.target.rec i.place i.insn (Ok (ops.FieldRead fd holders.This)) =
-        operations v w b.executes.method laid.code.target.rec i.place i.insn (Ok (ops.FieldRead fd holders.This)) laid.code.same
+        operations-are-kept v w b.executes.method laid.code.target.rec i.place i.insn (Ok (ops.FieldRead fd holders.This)) laid.code.same
         (ap apart_from_code same_method ∙ sym laid.code.has.same) b.executes.resolved in
         let small = op-fits s.method.code i.place i.insn laid.planned.code.bytes ((all-are-listed s.method.code).decodes i b.stands) in
         sym (read-on-stack w laid.code.target.rec laid.code.target.rec i.place i.place i.insn fd small refl (sym own))
@@ -256,11 +266,11 @@ module _
     ex : ExecutesStep w t1 place (body_at s i.place + 1) (record { insn = record i.insn { op = i.insn.op - from_read }; targets = []; keys = [] })
         (ops.FieldRead fd holders.Stack)
     ex =
-        executed w laid.new t1 laid.code.target.rec place (steps_of s) (body_at s i.place + 1) i.place
+        steps-execute w laid.new t1 laid.code.target.rec place (steps_of s) (body_at s i.place + 1) i.place
         (record { insn = record i.insn { op = i.insn.op - from_read }; targets = []; keys = [] })
         (ops.FieldRead fd holders.Stack) (omega arith)
-        (ap (slice_get w.methods) b.of.target ∙ target-at v w s place laid)
-        (subst (λ m. AreSteps (code_at w m) place 0 (steps_of s) (listing (code_at w m))) (sym b.of.target) (steps-are v w s place laid))
+        (ap (slice_get w.methods) b.of.target ∙ target-at laid)
+        (subst (λ m. AreSteps (code_at w m) place 0 (steps_of s) (listing (code_at w m))) (sym b.of.target) (steps-are laid))
         there.1.0 refl resolves
 
     asked : SatisfiesAll w.classes (types_of_frame w.classes Bottom (kinds t) (top t1)) (demands w (ops.FieldRead fd holders.Stack))
@@ -279,7 +289,7 @@ module _
     next_place =
         subst (λ (p : ℕ). IsPlace (code_at w (top t).method) p) (sym ex.ends)
         (subst (λ (m : ℕ). IsPlace (code_at w m) (place (body_at s i.place + 1 + 1))) (sym b.of.target)
-        (step-place (code_at w s.method.number) place (steps_of s) (body_at s i.place + 1 + 1) (steps-are v w s place laid) (omega (arith, further))))
+        (step-place (code_at w s.method.number) place (steps_of s) (body_at s i.place + 1 + 1) (steps-are laid) (omega (arith, further))))
 
     within : StandsInGroup s place f (top t1)
     within =
@@ -358,10 +368,10 @@ module _
         ∙ replaced-renamed (rename s place) 0 (value_in tagged fd.kind (object_cells z (word_of (nth tagged f.registers 0))) fd.cell)
         (value_in tagged fd.kind (object_cells t1 (word_of (nth tagged f.registers 0))) fd.cell) f.stack renamed_value in
         let room : length (top u1).stack ≤ max_stack_of w (top t).method =
-        let deep = depth-fits v w s place laid y typed_y in
+        let deep = depth-fits laid y typed_y in
         let k = ap length stack_is in
         let m = length-map (top y).stack (renamed_cell (rename s place)) in
-        let own = target-room v w s place laid in
+        let own = target-room laid in
         let method = ap (max_stack_of w) b.of.target in
         omega (arith, k, m, deep, own, method) in
         let does : act tagged w ex.instruction.insn (ops.FieldRead fd holders.Stack) t1 ≡ goes u1 =

@@ -9,7 +9,6 @@ use Rattle.std.proofs.lemmas.List.{length-map}
 use Rattle.jc_base.specs.Cell.{IsDeclared, IsOfKind, width as cells_of_kind}
 use Rattle.jc_base.specs.Class.{ClassTable}
 use Rattle.jc_base.specs.declared.ty.Ty.{Ty}
-use Rattle.jc_base.specs.Each.{IsAmong}
 use Rattle.jc_base.specs.Laws.{IsOrderOfTypes}
 use Rattle.jc_base.specs.Order.{Below}
 use Rattle.jc_base.specs.World.{Linked, IsWorld}
@@ -24,7 +23,6 @@ use Rattle.jc_control.specs.WellFormed.{IsPlace}
 use Rattle.jc_ops.specs.declared.operation.Holder.TheVariants as holders
 use Rattle.jc_ops.specs.declared.operation.InstanceField.{InstanceField}
 use Rattle.jc_ops.specs.declared.operation.Operation.TheVariants as ops
-use Rattle.jc_ops.specs.declared.operation.Sort.{Sort}
 use Rattle.jc_ops.specs.declared.operation.Sort.TheVariants as sorts
 use Rattle.jc_ops.specs.Resolve.{Resolves}
 use Rattle.jc_ops.specs.Sound.{IsFieldOf, OperationsAreDecided, OperationsAreSound}
@@ -50,11 +48,9 @@ use Rattle.law_sound.specs.Frames.{least_types, types_of_frame}
 use Rattle.law_sound.proofs.Cells.{cell-at}
 use Rattle.law_erasure.specs.Erasure.{IsNoFault}
 use Rattle.law_alike.specs.Alike.{renamed_cell}
-use Rattle.law_alike.proofs.Asked.{register-same}
 use Rattle.law_alike.proofs.Settling.{unless-none}
-use Rattle.xf_homes.specs.Value.{type_width}
 use Rattle.law_laid.specs.Apart.{apart_from_code}
-use Rattle.law_laid.specs.Laws.{OperationsAreKept}
+use Rattle.law_laid.proofs.SameBut.{operations-are-kept}
 use Rattle.xf_homes.specs.Source.{Source}
 use Rattle.xf_homes.specs.Plan.{needed, register}
 use Rattle.xf_emission.specs.Group.{body, field_written, itself, stays, swap_words}
@@ -64,21 +60,20 @@ use Rattle.law_rewritten_typing.proofs.Rows.{write-on-stack}
 use Rattle.law_alike.proofs.Storing.{object-written}
 use Rattle.law_alike.proofs.Simulation.{one-step}
 use Rattle.law_sound.proofs.Passing.{passes-before}
-use Rattle.law_homes.specs.Edges.{top_at, IsBeside}
+use Rattle.law_homes.specs.Edges.{top_at}
 use Rattle.law_homes.specs.Held.{HoldsValue, HoldsLocals}
-use Rattle.law_homes.specs.Laws.{ExecutesStep, StepsExecute}
-use Rattle.law_homes.specs.Moves.{IsExecutable, letter_of, value_in_register, size, load_of, InstructionsStandFrom as StandAmong}
+use Rattle.law_homes.specs.Laws.{ExecutesStep}
+use Rattle.law_homes.specs.Moves.{IsExecutable, size, load_of, InstructionsStandFrom as StandAmong}
 use Rattle.jc_decode.specs.Places.{place_after}
-use Rattle.law_homes.proofs.Copies.{wide}
 use Rattle.law_homes.proofs.Going.{operations-go-on}
-use Rattle.law_homes.proofs.Loading.{loads-run, step-place}
-use Rattle.law_homes.proofs.Beside.{AreLaws, among-each, held-can-load, needed-valued, register-small}
+use Rattle.law_homes.proofs.Loading.{step-place}
+use Rattle.law_homes.specs.Premises.{AreLaws}
+use Rattle.law_homes.proofs.Standing.{steps-execute}
 use Rattle.law_groups.specs.Laid.{IsLaidIn, body_at, count_of, rename, steps_of}
 use Rattle.law_groups.specs.Beside.{StandsInGroup}
 use Rattle.law_groups.specs.Body.{AreAtBody, BodyRuns, body_done, body_falls}
 use Rattle.law_groups.specs.Comes.{group_raises}
-use Rattle.law_groups.specs.Steps.{GroupsFollow, GroupsStandAtSteps}
-use Rattle.law_groups.proofs.Arriving.{at-step, beside, depth-fits, runs-then}
+use Rattle.law_groups.proofs.Arriving.{depth-fits, runs-then}
 use Rattle.law_groups.proofs.Context.{steps-are, target-at, target-room}
 use Rattle.law_groups.proofs.Following.{next-of, steps-here}
 use Rattle.law_groups.proofs.Moving.{moves-stand}
@@ -86,13 +81,12 @@ use Rattle.law_groups.proofs.Plain.{frames-are, method-is}
 use Rattle.law_groups.proofs.Reading.{IsHomeOf}
 use Rattle.law_groups.proofs.Standing.{GroupSteps, stand-as}
 use Rattle.law_groups.proofs.FieldCells.{Swaps, drop-shorter, last-held, swap-is, swaps, written}
-use Rattle.law_groups.proofs.ThisReads.{HasSettled, has-settled, same-locals}
+use Rattle.law_groups.proofs.ThisReads.{HasSettled, has-settled, same-locals, this-loaded}
 
 module _
-    (v : Linked) (world : IsWorld v) (decided : OperationsAreDecided v) (operations : OperationsAreKept)
-    (stand : GroupsStandAtSteps) (follow : GroupsFollow) (laws : (w : Linked) → IsExecutable w → AreLaws v w)
-    (executed : (w : Linked) → IsExecutable w → StepsExecute w) (types : IsOrderOfTypes v.classes) (source_sound : OperationsAreSound v)
-    (w : Linked) (s : Source) (place : ℕ → ℕ) (laid : IsLaidIn v w s place) (i : Placed) (fd : InstanceField)
+    {v w : Linked} {s : Source} {place : ℕ → ℕ} (laid : IsLaidIn v w s place)
+    (world : IsWorld v) (decided : OperationsAreDecided v) (laws : (w : Linked) → IsExecutable w → AreLaws v w)
+    (types : IsOrderOfTypes v.classes) (source_sound : OperationsAreSound v) (i : Placed) (fd : InstanceField)
     (f : Frame Cell) (below : List (Frame Cell)) (heap : List (Object Cell)) (statics : List Cell) (t : State Cell) where
   abbrev z : State Cell
   z = record { frames = f ∷ below; heap = heap; statics = statics }
@@ -103,9 +97,6 @@ module _
   module _ (o : Outcome Cell) (b : AreAtBody v w s place i (ops.FieldWrite fd holders.This) z t) (home : IsHomeOf s i.place 0 sorts.Reference)
       (moves : stays s (record { slot = 0; ty = home.ty }) ≡ false)
       (step : Steps tagged v z o) (fine : IsNoFault o) where
-    l : AreLaws v w
-    l = laws w laid.new
-
     body_is : body s i (ops.FieldWrite fd holders.This) ≡ load s (record { slot = 0; ty = home.ty }) ∷ Plain
         (with_byte swap_x (swap_words fd.kind)) ∷ Plain (record i.insn { op = i.insn.op - from_write }) ∷ []
     unfolding body
@@ -115,7 +106,7 @@ module _
         (record i.insn { op = i.insn.op - from_write }) ∷ []) moves
 
     g : GroupSteps s i (ops.FieldWrite fd holders.This)
-    g = steps-here v w s place laid stand follow i (ops.FieldWrite fd holders.This) b.stands b.reached b.does
+    g = steps-here laid i (ops.FieldWrite fd holders.This) b.stands b.reached b.does
 
     count : count_of (body s i (ops.FieldWrite fd holders.This)) ≡ 3
     count = ap count_of body_is
@@ -132,7 +123,7 @@ module _
 
     further : body_at s i.place + 3 < length (steps_of s)
     further =
-        let next = next-of v w s place laid stand follow i (ops.FieldWrite fd holders.This) b.stands b.reached b.does refl in
+        let next = next-of laid i (ops.FieldWrite fd holders.This) b.stands b.reached b.does refl in
         let later = next.follows_it in
         let inside = next.inside in
         let size = g.size in
@@ -144,53 +135,15 @@ module _
     has : HasSettled v i (ops.FieldWrite fd holders.This) f below heap statics o
     has = has-settled v world decided i (ops.FieldWrite fd holders.This) f below heap statics o b.executes step fine
 
-    beside_z : IsBeside w s f.place f t
-    beside_z = beside v w s place laid z t b.typed b.equal.heap b.of
-
-    -- ---- the load
-
-    held : HoldsValue s f.registers (top t) (record { slot = 0; ty = home.ty })
-    held = among-each (HoldsValue s f.registers (top t)) (needed s i.place 0) (record { slot = 0; ty = home.ty }) (b.held.locals 0) home.among
-
-    some : 0 < type_width home.ty
-    some = let e = wide home.ty in let k = ap size home.letter_is in omega (arith, e, k)
-
-    cell_is : nth tagged (top t).registers (register s (record { slot = 0; ty = home.ty })) ≡ nth tagged f.registers 0
-    cell_is =
-        let here : register s (record { slot = 0; ty = home.ty }) ≡ register s (record { slot = 0; ty = home.ty }) + 0 = omega arith in
-        ap (nth tagged (top t).registers) here ∙ register-same f.registers (top t).registers 0 (register s (record { slot = 0; ty = home.ty }) + 0)
-        (held.equal 0 some)
-
     loaded : Runs tagged w 1 t (running t1)
-    loaded =
-        let valued = needed-valued v w l s laid.world laid.planned f.place f t beside_z 0 (record { slot = 0; ty = home.ty })
-        (subst (λ (p : ℕ). IsAmong (record { slot = 0; ty = home.ty }) (needed s p 0)) (sym b.here) home.among) in
-        let stack_is : value_in_register (letter_of home.ty) (register s (record { slot = 0; ty = home.ty })) (top t).registers ++ (top t).stack
-        ≡ nth tagged f.registers 0 ∷ (top t).stack =
-        ap (λ (a : Sort). value_in_register a (register s (record { slot = 0; ty = home.ty })) (top t).registers ++ (top t).stack) home.letter_is
-        ∙ ap (λ (d : Cell). d ∷ (top t).stack) cell_is in
-        let deep = depth-fits v w s place laid z b.typed in
-        let e = ap length b.held.stack in
-        let m = length-map f.stack (renamed_cell (rename s place)) in
-        let own = target-room v w s place laid in
-        let method = ap (max_stack_of w) b.of.target in
-        let fits : length (value_in_register (letter_of home.ty) (register s (record { slot = 0; ty = home.ty })) (top t).registers ++ (top t).stack) ≤
-        max_stack_of w (top t).method =
-        omega (arith, ap length stack_is, deep, e, m, own, method) in
-        let ran = loads-run w l.world place (steps_of s) t (body_at s i.place) s (record { slot = 0; ty = home.ty } ∷ [])
-        (at-step v w s place laid t (body_at s i.place) 1 runs_t b.of.target b.at (omega (arith, further))) (there.0, tt) (
-          held-can-load w s f.registers t (record { slot = 0; ty = home.ty })
-              (register-small v w l s laid.world laid.planned (record { slot = 0; ty = home.ty }) valued.1.has) held valued.2,
-          tt,
-        ) fits in
-        subst (λ (cs : List Cell). Runs tagged w 1 t (running (top_at t (place (body_at s i.place + 1)) (top t).registers cs))) stack_is ran
+    loaded = this-loaded laid (laws w laid.new) f below heap statics t b home (there.0, tt) (omega (arith, further))
 
     -- ---- the swap
 
     own : Resolves w laid.code.target.rec i.place i.insn (Ok (ops.FieldWrite fd holders.This))
     own =
-        let same_method = method-is v w s place laid (executed w laid.new) i (ops.FieldWrite fd holders.This) z t b g in
-        operations v w b.executes.method laid.code.target.rec i.place i.insn (Ok (ops.FieldWrite fd holders.This)) laid.code.same
+        let same_method = method-is laid b in
+        operations-are-kept v w b.executes.method laid.code.target.rec i.place i.insn (Ok (ops.FieldWrite fd holders.This)) laid.code.same
         (ap apart_from_code same_method ∙ sym laid.code.has.same) b.executes.resolved
 
     kind_is : IsOfKind fd.kind fd.ty
@@ -228,25 +181,25 @@ module _
     next_at : (k : ℕ) → k < length (steps_of s) → IsPlace (code_at w (top t).method) (place k)
     next_at k lt =
         subst (λ (m : ℕ). IsPlace (code_at w m) (place k)) (sym b.of.target)
-        (step-place (code_at w s.method.number) place (steps_of s) k (steps-are v w s place laid) lt)
+        (step-place (code_at w s.method.number) place (steps_of s) k (steps-are laid) lt)
 
     deep_t : suc (length (top t).stack) ≤ max_stack_of w (top t).method
     deep_t =
-        let deep = depth-fits v w s place laid z b.typed in
+        let deep = depth-fits laid z b.typed in
         let e = ap length b.held.stack in
         let m = length-map f.stack (renamed_cell (rename s place)) in
-        let room = target-room v w s place laid in
+        let room = target-room laid in
         let method = ap (max_stack_of w) b.of.target in
         omega (arith, deep, e, m, room, method)
 
     ex2 : ExecutesStep w t1 place (body_at s i.place + 1) (record { insn = with_byte swap_x (swap_words fd.kind); targets = []; keys = [] })
         (ops.Move (shifts.Exchange 1 (cells_of_kind fd.kind)))
     ex2 =
-        executed w laid.new t1 laid.code.target.rec place (steps_of s) (body_at s i.place + 1) i.place
+        steps-execute w laid.new t1 laid.code.target.rec place (steps_of s) (body_at s i.place + 1) i.place
         (record { insn = with_byte swap_x (swap_words fd.kind); targets = []; keys = [] })
         (ops.Move (shifts.Exchange 1 (cells_of_kind fd.kind))) (omega arith)
-        (ap (slice_get w.methods) b.of.target ∙ target-at v w s place laid)
-        (subst (λ m. AreSteps (code_at w m) place 0 (steps_of s) (listing (code_at w m))) (sym b.of.target) (steps-are v w s place laid))
+        (ap (slice_get w.methods) b.of.target ∙ target-at laid)
+        (subst (λ m. AreSteps (code_at w m) place 0 (steps_of s) (listing (code_at w m))) (sym b.of.target) (steps-are laid))
         there.1.0 refl (swap-is w laid.code.target.rec i.place fd.kind)
 
     swapping : Runs tagged w 1 t1 (running t2)
@@ -270,11 +223,11 @@ module _
     ex : ExecutesStep w t2 place (body_at s i.place + 1 + 1) (record { insn = record i.insn { op = i.insn.op - from_write }; targets = []; keys = [] })
         (ops.FieldWrite fd holders.Stack)
     ex =
-        executed w laid.new t2 laid.code.target.rec place (steps_of s) (body_at s i.place + 1 + 1) i.place
+        steps-execute w laid.new t2 laid.code.target.rec place (steps_of s) (body_at s i.place + 1 + 1) i.place
         (record { insn = record i.insn { op = i.insn.op - from_write }; targets = []; keys = [] })
         (ops.FieldWrite fd holders.Stack) (omega arith)
-        (ap (slice_get w.methods) b.of.target ∙ target-at v w s place laid)
-        (subst (λ m. AreSteps (code_at w m) place 0 (steps_of s) (listing (code_at w m))) (sym b.of.target) (steps-are v w s place laid))
+        (ap (slice_get w.methods) b.of.target ∙ target-at laid)
+        (subst (λ m. AreSteps (code_at w m) place 0 (steps_of s) (listing (code_at w m))) (sym b.of.target) (steps-are laid))
         there.1.1.0 refl resolves
 
     within : StandsInGroup s place f (top t2)

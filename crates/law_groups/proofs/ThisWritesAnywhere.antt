@@ -18,8 +18,6 @@ use Rattle.vm_store.specs.State.{Frame, Object}
 use Rattle.vm_step.specs.Step.{Steps}
 use Rattle.law_alike.specs.Likeness.{StepsAreAlike}
 use Rattle.xf_homes.specs.declared.home.Home.{Home}
-use Rattle.xf_homes.specs.Laws.{NeededAreKept}
-use Rattle.law_laid.specs.Laws.{DemandsAreKept, OperationsAreKept}
 use Rattle.xf_homes.specs.Source.{Source}
 use Rattle.xf_homes.specs.Plan.{local, register}
 use Rattle.xf_emission.specs.Group.{body, field_written, itself, stays, swap_words}
@@ -27,10 +25,7 @@ use Rattle.xf_emission.specs.Move.{load, with_byte}
 use Rattle.xf_emission.specs.Mnemonics.{from_write, swap_x}
 use Rattle.law_rewritten_typing.specs.Whole.{DerivedAreWhole}
 use Rattle.law_homes.specs.Moves.{IsExecutable}
-use Rattle.law_homes.specs.Laws.{LocalsStay, StepsExecute}
-use Rattle.law_homes.proofs.Beside.{AreLaws}
-use Rattle.law_groups.specs.Laws.{RenamesOneToOne}
-use Rattle.law_groups.specs.Steps.{GroupsFollow, GroupsStandAtSteps}
+use Rattle.law_homes.specs.Premises.{AreLaws}
 use Rattle.law_groups.specs.Body.{AreAtBody, BodyRuns}
 use Rattle.law_groups.specs.Fields.{ThisWritesRun}
 use Rattle.law_groups.proofs.Reading.{IsHomeOf}
@@ -46,7 +41,6 @@ writes-this v f = record {
   still = refl;
   same = λ g. refl;
   unstored = λ x. refl;
-  falls = refl;
 }
 
 kept-body :
@@ -60,17 +54,16 @@ kept-body s i f h at e =
     (record i.insn { op = i.insn.op - from_write }) ∷ []) e
 
 module _
-    (v : Linked) (world : IsWorld v) (decided : OperationsAreDecided v) (alike_steps : StepsAreAlike v) (operations : OperationsAreKept)
-    (demanded : DemandsAreKept) (stand : GroupsStandAtSteps) (follow : GroupsFollow) (one_to_one : RenamesOneToOne v) (stay : LocalsStay Cell)
-    (executed : (w : Linked) → IsExecutable w → StepsExecute w) (laws : (w : Linked) → IsExecutable w → AreLaws v w)
-    (types : IsOrderOfTypes v.classes) (source_sound : OperationsAreSound v) (whole : DerivedAreWhole v) (needs : NeededAreKept) where
+    (v : Linked) (world : IsWorld v) (decided : OperationsAreDecided v) (alike_steps : StepsAreAlike v)
+    (laws : (w : Linked) → IsExecutable w → AreLaws v w) (types : IsOrderOfTypes v.classes) (source_sound : OperationsAreSound v)
+    (whole : DerivedAreWhole v) where
   pub this-writes-run : ThisWritesRun v
   this-writes-run w s place i f z t o laid b step fine typed_after =
       by-frames z.frames z.heap z.statics b step
     where
       home : IsHomeOf s i.place 0 sorts.Reference
       home =
-          this-home v w s place laid types whole needs i (ops.FieldWrite f holders.This) f.class (λ k asked. last-held v.classes k f.ty f.class asked.1)
+          this-home v w s place laid types whole i (ops.FieldWrite f holders.This) f.class (λ k asked. last-held v.classes k f.ty f.class asked.1)
           b.stands b.reached b.does
 
       is-zero : (n : ℕ) → (n == 0) ≡ true → n ≡ 0
@@ -88,9 +81,8 @@ module _
               (d : Bool) → stays s (record { slot = 0; ty = home.ty }) ≡ d
               → BodyRuns v w s place i (ops.FieldWrite f holders.This) (record { frames = g ∷ below; heap = heap; statics = statics }) t o
           by true e =
-              stays-run v alike_steps operations demanded stand follow one_to_one stay executed w s place i (ops.FieldWrite f holders.This)
+              stays-run v alike_steps w s place i (ops.FieldWrite f holders.This)
               (record { frames = g ∷ below; heap = heap; statics = statics }) t o home.ty laid b (writes-this v f) home.among
               (is-zero (register s (record { slot = 0; ty = home.ty })) e) (kept-body s i f (record { slot = 0; ty = home.ty }) home.at e) step fine
           by false e =
-              write-moved v world decided operations stand follow laws executed types source_sound w s place laid i f g below heap statics t o b home e step
-              fine
+              write-moved laid world decided laws types source_sound i f g below heap statics t o b home e step fine

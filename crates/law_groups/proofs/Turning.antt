@@ -35,21 +35,21 @@ use Rattle.xf_emission.specs.Edge.{copies}
 use Rattle.xf_emission.specs.Group.{body, first_place, gone}
 use Rattle.xf_emission.specs.Jump.{goto, place as place_named}
 use Rattle.xf_emission.specs.Move.{spill}
-use Rattle.law_rewritten_typing.specs.Edges.{CellsFillStack, NeededHaveHomes, leads_after}
+use Rattle.law_rewritten_typing.specs.Edges.{leads_after}
 use Rattle.law_sound.proofs.Branches.{targets-are}
-use Rattle.law_homes.specs.Edges.{CellsAreFew, CopiesAreFew, EdgesRun, HoldsAfter, KeptStacksStay, LeadersLoad, StacksSpill}
+use Rattle.law_homes.specs.Edges.{HoldsAfter}
 use Rattle.law_homes.specs.Held.{HoldsValue}
-use Rattle.law_homes.specs.Laws.{StepsExecute}
 use Rattle.law_groups.specs.Laid.{IsLaidIn, body_at, rename}
 use Rattle.law_groups.specs.Beside.{AreEqualBut, AreOf, IsAtGroup, IsTypedAt, StaysTyped}
-use Rattle.law_groups.specs.Comes.{GroupRuns, group_stays}
-use Rattle.law_groups.specs.Steps.{GroupsFollow, GroupsStandAtSteps, ItemsStandFrom}
-use Rattle.law_groups.proofs.Arriving.{beside, leader-keeps, runs-then, still-after}
+use Rattle.law_groups.specs.Comes.{GroupRuns}
+use Rattle.law_groups.specs.Steps.{ItemsStandFrom}
+use Rattle.law_groups.specs.Moves.{MovesRun}
+use Rattle.law_groups.proofs.Arriving.{beside, leader-keeps, still-after}
 use Rattle.law_groups.proofs.Context.{some-reached, typing-of}
 use Rattle.law_groups.proofs.Entering.{enters}
 use Rattle.law_groups.proofs.Following.{steps-here}
 use Rattle.law_groups.proofs.Going.{spilled-goes}
-use Rattle.law_groups.proofs.OneGroup.{no-fault, turn-by}
+use Rattle.law_groups.proofs.OneGroup.{no-fault, stays-on, turn-by}
 use Rattle.law_groups.proofs.Plain.{frames-are}
 use Rattle.law_groups.proofs.Standing.{stand-as}
 
@@ -87,11 +87,8 @@ leads-there code i jumping all =
 -- ---- the group
 
 module _
-    (v w : Linked) (s : Source) (place : ℕ → ℕ) (laid : IsLaidIn v w s place)
-    (stand : GroupsStandAtSteps) (follow : GroupsFollow) (executed : StepsExecute w) (decided : OperationsAreDecided v)
-    (needs : NeededHaveHomes v) (fill : CellsFillStack v)
-    (loading : LeadersLoad v w) (spills : StacksSpill v w) (stay : KeptStacksStay v w) (edges : EdgesRun v w)
-    (few_copies : CopiesAreFew v) (few_cells : CellsAreFew v) where
+    {v w : Linked} {s : Source} {place : ℕ → ℕ} (laid : IsLaidIn v w s place)
+    (decided : OperationsAreDecided v) (moving : MovesRun v) where
   goes-there :
       (z : State Cell) (o : Outcome Cell) (i : Placed)
       → Executes v z i (ops.Branch Always)
@@ -123,18 +120,18 @@ module _
   unfolding turn-by body
   goto-group z t o i typed group equal step stays ex =
       let op = ops.Branch Always in
-      let turn = turn-by v w s place laid z typed i op ex in
-      let e = enters v w s place laid stand follow loading stay few_cells z t typed equal group in
+      let turn = turn-by laid z typed i op ex in
+      let e = enters laid moving z t typed equal group in
       let u = e.state in
-      let own = steps-here v w s place laid stand follow i op turn.stands turn.reached turn.does in
+      let own = steps-here laid i op turn.stands turn.reached turn.does in
       let jumping = jumps-on v ex.method i.place i.insn op ex.resolved refl in
-      let there = leads-there s.method.code i jumping ((typing-of v w s place laid).formed.targets i turn.stands) in
+      let there = leads-there s.method.code i jumping ((typing-of laid).formed.targets i turn.stands) in
       let q = there.place in
       let to : target (top z).place i.insn.x ≡ pos q = ap (λ p. target p i.insn.x) turn.here ∙ there.operand in
       let y : State Cell = with_place (dropped z 0) q in
       let is : o ≡ running y = goes-there z o i ex step (no-fault v s o stays) q to in
       let typed_y : IsTypedAt v s y = (subst (StaysTyped v s) is stays) (omega arith) typed.method in
-      let from_p : IsReached s.method i.place = some-reached v w s place laid i.place turn.reached in
+      let from_p : IsReached s.method i.place = some-reached laid i.place turn.reached in
       let leader : is_leader s q ≡ true = (laid.planned.leaders q).1 (led_to turn.stands from_p there.among) in
       let leads = leads_after turn.stands from_p turn.does (jumped there.among) in
       let whole = ap length (frames-are z typed.runs) in
@@ -142,9 +139,9 @@ module _
       let equal_y : AreEqualBut y u =
       record { frames = omega (arith, whole, frames); heap = e.equal.heap; statics = e.equal.statics } in
       let of_y : AreOf s (top y) (top u) = record { source = e.of.source; target = e.of.target; count = e.of.count } in
-      let near = beside v w s place laid y u typed_y equal_y.heap of_y in
+      let near = beside laid y u typed_y equal_y.heap of_y in
       let same : (top u).stack ≡ (top y).stack =
-      e.held.stack ∙ stay s q (top y) u (rename s place) laid.world laid.planned near (leader-keeps v w s place laid q leader) in
+      e.held.stack ∙ moving.stay w laid.new s q (top y) u (rename s place) laid.world laid.planned near (leader-keeps laid q leader) in
       let st : ItemsStandFrom s (body_at s i.place) (spill s (stack_homes s q) ++ (copies s (After i.place op) q ++ goto q ∷ [])) =
       stand-as s (body_at s i.place) (body s i op) (spill s (stack_homes s q) ++ (copies s (After i.place op) q ++ goto q ∷ []))
       (ap (gone s i.place op) there.first) own.body_steps in
@@ -155,28 +152,11 @@ module _
             Each-weaker (HoldsValue s (top z).registers (top u)) _ (λ h held free. held) (needed s i.place x)
             (subst (λ p. Each (HoldsValue s (top z).registers (top u)) (needed s p x)) turn.here (e.held.locals x));
       } in
-      let c = spilled-goes v w s place laid stand follow executed needs fill spills edges few_copies few_cells y u (After i.place op) typed_y
+      let c = spilled-goes laid moving y u (After i.place op) typed_y
       equal_y of_y leader leads (body_at s i.place) st (e.at ∙ ap (λ p. place (body_at s p)) turn.here) same
-      (λ k keeps. still-after v w s place laid needs i.place q op (top y) (top u) k from_p typed_y.reached keeps first) in
+      (λ k keeps. still-after laid moving.needs i.place q op (top y) (top u) k from_p typed_y.reached keeps first) in
       let few = e.few in
       let more = c.more in
       let fewer = c.fewer in
-      group_stays y is (record {
-        count = e.count + c.count;
-        more = omega (arith, more);
-        fewer = omega (arith, few, fewer);
-        outcome = c.outcome;
-        runs = runs-then w e.count c.count t u c.outcome e.runs c.runs;
-        comes = (
-          c.comes.state,
-          c.comes.is,
-          record {
-            first = record { frames = refl };
-            second = record {
-              frames = c.comes.are.second.frames ∙ ap (λ fs. top c.comes.state ∷ fs) (ap other_frames e.moves.frames);
-            };
-            equal = c.comes.are.equal;
-            group = c.comes.are.group;
-          },
-        );
-      })
+      stays-on y u e.count is (record { frames = refl }) e.runs (ap other_frames e.moves.frames) c (omega (arith, more))
+      (omega (arith, few, fewer))

@@ -4,6 +4,7 @@ pub mod Beside
 pub mod Comes
 pub mod Body
 pub mod Laws
+pub mod Moves
 pub mod Matching
 pub mod Storing
 pub mod Increasing

@@ -5,25 +5,18 @@ use crate::branches::branch_groups_run;
 use crate::fields::{fields_in_groups, writes_in_groups};
 use crate::increments::increments_in_groups;
 use crate::laws::{
-    groups_are_entered, groups_catch, groups_stand_at_steps, places_are_renamed, plain_groups_run,
+    groups_are_entered, groups_catch, moves_run, places_are_renamed, plain_groups_run,
 };
 use crate::stores::stores_in_groups;
 use jc_base::World;
 use jc_ops::operations_are_sound;
-use law_homes::{edges_run, moves_are_few, stacks_move};
-use law_laid::{catches_by_pool, methods_are_kept, operations_are_kept};
-use law_rewritten_typing::edges_carry;
 
 /// From the group of a typed frame's place laid code comes to what the step of the source comes to, in one step at least
 /// and in at most 2,000.
 pub fn groups_run(world: &World<'_>)
     ensures { GroupsRun world.now }
 {
-    edges_carry(world);
-    stacks_move(world);
-    edges_run(world);
-    moves_are_few(world);
-    groups_stand_at_steps();
+    moves_run(world);
     plain_groups_run(world);
     stores_in_groups(world);
     increments_in_groups(world);
@@ -37,9 +30,6 @@ pub fn groups_run(world: &World<'_>)
 pub fn rewritten_matches(world: &World<'_>)
     ensures { RewrittenMatches world.now }
 {
-    methods_are_kept();
-    operations_are_kept();
-    catches_by_pool();
     operations_are_sound(world);
     places_are_renamed(world);
     groups_catch(world);

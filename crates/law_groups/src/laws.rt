@@ -1,18 +1,13 @@
 ghost use Rattle.law_groups.specs.Body.{KeptRuns};
 ghost use Rattle.law_groups.specs.Laws.{CallsEnd, CallsReturn, GroupsCatch, HandlersEnter, HasRoomForMore, KeptGroupsRun, LoadGroupsRun, RenamesOneToOne, StartsEnter};
+ghost use Rattle.law_groups.specs.Moves.{MovesRun};
 ghost use Rattle.law_groups.specs.Steps.{GroupsFollow, GroupsStandAtSteps, HandlersStandAtSteps, StartsStandAtSteps, StubsStandAtSteps};
 
 use jc_base::{World, types_are_ordered};
-use jc_decode::instructions_are_listed;
 use jc_ops::operations_are_sound;
 use law_alike::steps_are_alike;
-use law_homes::{
-    edges_run, homes_hold, homes_run_alike, moves_are_few, none_are_written, stacks_move,
-};
-use law_laid::operations_are_kept;
+use law_homes::{edges_run, moves_are_few, stacks_move};
 use law_rewritten_typing::{derived_are_whole, edges_carry};
-use xf_emission::{groups_stand, labels_stand_once, stubs_stand};
-use xf_homes::{homes_serve, needed_are_kept};
 
 /// The steps of groups and of stubs follow one another from the places of their labels, and a group follows that of the
 /// instruction before it.
@@ -22,22 +17,14 @@ pub fn groups_stand_at_steps()
     ensures handlers { HandlersStandAtSteps }
     ensures follow { GroupsFollow }
     ensures starts { StartsStandAtSteps }
-{
-    groups_stand();
-    stubs_stand();
-    labels_stand_once();
-    instructions_are_listed();
-}
+{}
 
 /// No two places of uninitialised objects become one where code is laid, and its stack has room for one cell more.
 pub fn places_are_renamed(world: &World<'_>)
     ensures renames { RenamesOneToOne world.now }
     ensures room { HasRoomForMore world.now }
 {
-    groups_stand();
-    labels_stand_once();
-    instructions_are_listed();
-    groups_stand_at_steps();
+    let _ = world;
 }
 
 /// A frame under a call goes on at the step after it, and from the steps of a group the same handlers catch as from its
@@ -46,10 +33,17 @@ pub fn groups_catch(world: &World<'_>)
     ensures ends { CallsEnd world.now }
     ensures catches { GroupsCatch world.now }
 {
-    groups_stand();
-    labels_stand_once();
-    instructions_are_listed();
-    groups_stand_at_steps();
+    let _ = world;
+}
+
+/// The moves between homes come to what they are for wherever code is laid, and are few.
+pub(crate) fn moves_run(world: &World<'_>)
+    ensures { MovesRun world.now }
+{
+    edges_carry(world);
+    stacks_move(world);
+    edges_run(world);
+    moves_are_few(world);
 }
 
 /// An instruction that is kept takes one step in laid code, to what it comes to in the source.
@@ -57,13 +51,7 @@ pub(crate) fn kept_run(world: &World<'_>)
     ensures { KeptRuns world.now }
 {
     operations_are_sound(world);
-    operations_are_kept();
     steps_are_alike(world);
-    homes_run_alike();
-    homes_hold();
-    none_are_written(world);
-    groups_stand_at_steps();
-    places_are_renamed(world);
     let _ = world.classes().records();
 }
 
@@ -73,12 +61,8 @@ pub fn groups_are_entered(world: &World<'_>)
     ensures handlers { HandlersEnter world.now }
     ensures starts { StartsEnter world.now }
 {
-    needed_are_kept(world);
-    edges_carry(world);
-    stacks_move(world);
+    moves_run(world);
     edges_run(world);
-    moves_are_few(world);
-    groups_stand_at_steps();
     let _ = world.classes().records();
 }
 
@@ -88,19 +72,9 @@ pub(crate) fn plain_groups_run(world: &World<'_>)
     ensures loads { LoadGroupsRun world.now }
 {
     types_are_ordered(world.classes());
-    homes_serve(world);
-    needed_are_kept(world);
     derived_are_whole(world);
-    edges_carry(world);
-    stacks_move(world);
-    edges_run(world);
-    moves_are_few(world);
+    moves_run(world);
     steps_are_alike(world);
-    homes_run_alike();
-    homes_hold();
-    none_are_written(world);
-    groups_stand_at_steps();
-    places_are_renamed(world);
     kept_run(world);
     let _ = world.classes().records();
 }

@@ -7,17 +7,17 @@ use Rattle.jc_base.specs.declared.ty.Ty.{Ty}
 use Rattle.jc_base.specs.declared.ty.Ty.TheVariants.{Bottom, IntHigh, Top}
 use Rattle.jc_base.specs.Class.{ClassTable}
 use Rattle.jc_base.specs.Each.{Each, IsAmong}
-use Rattle.jc_base.specs.Laws.{ClassesAreObjects, IsOrderOfTypes, SameTypeDecides}
+use Rattle.jc_base.specs.Laws.{ClassesAreObjects, IsOrderOfTypes}
 use Rattle.jc_base.specs.Order.{IsKnown}
 use Rattle.jc_base.specs.World.{Linked}
 use Rattle.jc_rules.specs.Demand.{Frame as Types}
 use Rattle.jc_rules.specs.Flow.{CellsBelow, FrameBelow, IsFit}
-use Rattle.jc_rules.specs.FlowLaws.{AreRules, IsOrderOfCells}
+use Rattle.jc_rules.specs.FlowLaws.{IsOrderOfCells}
 use Rattle.vm_store.specs.declared.cell.Cell.{Cell}
 use Rattle.vm_store.specs.declared.kind.ObjectKind.{ObjectKind}
 use Rattle.vm_store.specs.Typing.{least_type}
 use Rattle.vm_store.specs.Objects.{kinds}
-use Rattle.vm_store.specs.State.{State, Frame, top}
+use Rattle.vm_store.specs.State.{State, Frame, Object, top}
 use Rattle.vm_store.proofs.Stacks.{reverse-map}
 use Rattle.law_sound.specs.Frames.{least_types, types_of_frame}
 use Rattle.xf_homes.specs.declared.home.Home.{Home}
@@ -28,24 +28,14 @@ use Rattle.xf_homes.specs.Value.{value_in_cells, type_width}
 use Rattle.xf_homes.specs.Source.{Source}
 use Rattle.xf_homes.specs.Plan.{stack_homes, needed, or_first, register}
 use Rattle.law_rewritten_typing.specs.Planned.{IsPlanned, KeepsValues}
-use Rattle.law_rewritten_typing.specs.Edges.{NeededHaveHomes, slot_types, CellsFillStack, EdgesCarry}
+use Rattle.law_rewritten_typing.specs.Edges.{NeededHaveHomes, slot_types, CellsFillStack}
 use Rattle.law_rewritten_typing.proofs.Registers.{both-below}
 use Rattle.law_homes.specs.Edges.{IsBeside}
 use Rattle.law_homes.specs.Held.{HoldsValue, slots}
-use Rattle.law_homes.specs.Moves.{IsExecutable, letter_of, CanLoad, OwnRegisters}
+use Rattle.law_homes.specs.Moves.{letter_of, CanLoad, OwnRegisters}
+use Rattle.law_homes.specs.Premises.{AreLaws}
 use Rattle.law_homes.proofs.Copies.{homes-own-registers, wide}
 use Rattle.law_homes.proofs.Valued.{asked_types, asked-size, CellsAt, cells-moved, load-asked, load-filled, value-cells}
-
--- what lists of moves rest on: laws of the source's world v, and that code can run in w
-pub record AreLaws (v w : Linked) : Type 0 where
-  pub serve : HomesServe v
-  pub needed : NeededHaveHomes v
-  pub fill : CellsFillStack v
-  pub carry : EdgesCarry v
-  pub rules : AreRules v
-  pub objects : ClassesAreObjects v.classes
-  pub same_is : SameTypeDecides
-  pub world : IsExecutable w
 
 pub some-width : (ty : Ty) → 0 < type_width ty
 some-width IntHigh = omega arith
@@ -59,6 +49,25 @@ pub among-each : (P : Home → Type 0) (hs : List Home) (h : Home) → Each P hs
 among-each P [] h all a = absurd a
 among-each P (k ∷ ks) h all (inl e) = subst P e all.0
 among-each P (k ∷ ks) h all (inr a) = among-each P ks h all.1 a
+
+-- a state whose frame on top is at this place
+pub placed-state :
+    (g : Frame Cell) (below : List (Frame Cell)) (heap : List (Object Cell)) (statics : List Cell) (p : ℕ)
+    → g.place ≡ p
+    → ◌≡◌ {A = State Cell}
+    (record {
+      frames = record { method = g.method; place = p; registers = g.registers; stack = g.stack } ∷ below;
+      heap = heap;
+      statics = statics;
+    })
+    (record { frames = g ∷ below; heap = heap; statics = statics })
+placed-state g below heap statics p at =
+    ap
+    (λ (q : ℕ). record {
+      frames = record { method = g.method; place = q; registers = g.registers; stack = g.stack } ∷ below;
+      heap = heap;
+      statics = statics;
+    }) (sym at)
 
 -- ---- held values, whatever else the frame has
 

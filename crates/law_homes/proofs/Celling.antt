@@ -32,7 +32,8 @@ use Rattle.law_homes.specs.Edges.{insns, top_at, IsBeside, AreMoved, CellsRun, S
 use Rattle.law_homes.specs.Held.{HoldsValue, slots}
 use Rattle.law_homes.specs.Moves.{letter_of, InstructionsStandFrom, IsAtStep}
 use Rattle.law_homes.proofs.Valued.{asked_types, CellsAt}
-use Rattle.law_homes.proofs.Beside.{AreLaws, each-among, among-each, own, register-inside, register-small, cells-valued, held-as, get-left}
+use Rattle.law_homes.proofs.Beside.{each-among, among-each, own, register-inside, register-small, cells-valued, held-as, get-left, placed-state}
+use Rattle.law_homes.specs.Premises.{AreLaws}
 use Rattle.law_homes.proofs.Carrying.{same-letter, same-or-reference, ArePairs, no_pairs, more_pairs, cells-run}
 use Rattle.law_homes.proofs.Edging.{home-same}
 
@@ -90,17 +91,7 @@ module _ (v w : Linked) (l : AreLaws v w) (place : ℕ → ℕ) (steps : List St
         let ran = cells-run w l.world place steps s (own v w l s is plan) (slots f) g.method g.stack below heap statics at.method at.is_method at.are room
         l.same_is g.registers g.registers (pairs-of matched held inside) n (record { many = refl; keeps = λ a has held. held }) stand
         (omega (arith, at.further, is_count)) in
-        let begins : record {
-          frames = record { method = g.method; place = place n; registers = g.registers; stack = g.stack } ∷ below;
-          heap = heap;
-          statics = statics;
-        } ≡ t =
-        ap
-        (λ (p : ℕ). record {
-          frames = record { method = g.method; place = p; registers = g.registers; stack = g.stack } ∷ below;
-          heap = heap;
-          statics = statics;
-        }) (sym at.at) in
+        let begins = placed-state g below heap statics (place n) at.at in
         record {
           registers = ran.after;
           runs =

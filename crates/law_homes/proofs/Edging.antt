@@ -35,7 +35,8 @@ use Rattle.law_homes.specs.Held.{HoldsValue, slots}
 use Rattle.law_homes.specs.Moves.{size, letter_of, InstructionsStandFrom, IsAtStep}
 use Rattle.law_homes.proofs.Copies.{wide}
 use Rattle.law_homes.proofs.Valued.{asked_types, CellsAt, cells-left, value-inside}
-use Rattle.law_homes.proofs.Beside.{AreLaws, each-among, among-each, own, register-inside, register-small, needed-valued, count-registers, held-as}
+use Rattle.law_homes.proofs.Beside.{each-among, among-each, own, register-inside, register-small, needed-valued, count-registers, held-as, placed-state}
+use Rattle.law_homes.specs.Premises.{AreLaws}
 use Rattle.law_homes.proofs.Beside.{held-in-slots, held-in-registers}
 use Rattle.law_homes.proofs.Carrying.{same-letter, same-or-reference, IsFrom, LocalIs, locals-run}
 
@@ -192,17 +193,7 @@ module _ (v w : Linked) (l : AreLaws v w) (place : ℕ → ℕ) (steps : List St
         let ran = locals-run w l.world place steps s (own v w l s is plan) (slots f) g.method g.stack below heap statics at.method at.is_method at.are room
         g.registers g.registers o q needed-own local-here n 0 (register_count s.method.rec) (record { many = refl; keeps = λ a has held. held }) stand
         at.further in
-        let begins : record {
-          frames = record { method = g.method; place = place n; registers = g.registers; stack = g.stack } ∷ below;
-          heap = heap;
-          statics = statics;
-        } ≡ t =
-        ap
-        (λ (p : ℕ). record {
-          frames = record { method = g.method; place = p; registers = g.registers; stack = g.stack } ∷ below;
-          heap = heap;
-          statics = statics;
-        }) (sym at.at) in
+        let begins = placed-state g below heap statics (place n) at.at in
         record {
           registers = ran.after;
           runs =

@@ -49,7 +49,8 @@ use Rattle.law_homes.proofs.Valued.{asked_types, IsCellOf, CellsAt, at-nth}
 use Rattle.law_homes.proofs.StackStores.{piled, piled-stack}
 use Rattle.law_homes.proofs.Spilling.{reverse-among}
 use Rattle.law_homes.proofs.Carrying.{insns-append}
-use Rattle.law_homes.proofs.Beside.{AreLaws, each-among, typed, types, count-registers, count-stack, cells-valued}
+use Rattle.law_homes.proofs.Beside.{each-among, typed, types, count-registers, count-stack, cells-valued}
+use Rattle.law_homes.specs.Premises.{AreLaws}
 
 -- ---- stacks that are kept
 

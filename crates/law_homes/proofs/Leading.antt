@@ -21,7 +21,8 @@ use Rattle.law_homes.specs.Held.{HoldsValue, slots}
 use Rattle.law_homes.specs.Moves.{InstructionsStandFrom, load_of, loaded_stack, CanLoad}
 use Rattle.law_homes.proofs.Loading.{loads-run}
 use Rattle.law_homes.proofs.Stacked.{loaded-is-stack}
-use Rattle.law_homes.proofs.Beside.{AreLaws, each-among, among-each, typed, count-registers, count-stack, stack-fits, cells-valued, register-small}
+use Rattle.law_homes.proofs.Beside.{each-among, among-each, typed, count-registers, count-stack, stack-fits, cells-valued, register-small}
+use Rattle.law_homes.specs.Premises.{AreLaws}
 use Rattle.law_homes.proofs.Beside.{held-can-load}
 
 pub insns-loads : (s : Source) (hs : List Home) → insns (loads s hs) ≡ map (load_of s) hs

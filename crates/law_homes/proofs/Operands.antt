@@ -36,7 +36,8 @@ use Rattle.law_homes.proofs.Copies.{wide}
 use Rattle.law_homes.proofs.Loading.{loads-run}
 use Rattle.law_homes.proofs.StackStores.{piled, piled-append, piled-from}
 use Rattle.law_homes.proofs.Leading.{insns-loads}
-use Rattle.law_homes.proofs.Beside.{AreLaws, each-among, among-each, typed, count-registers, count-stack, stack-fits, cells-valued, register-small}
+use Rattle.law_homes.proofs.Beside.{each-among, among-each, typed, count-registers, count-stack, stack-fits, cells-valued, register-small}
+use Rattle.law_homes.specs.Premises.{AreLaws}
 use Rattle.law_homes.proofs.Beside.{held-can-load, get-left}
 
 -- ---- values that are loaded

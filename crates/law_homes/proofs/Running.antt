@@ -1,20 +1,25 @@
 -- Which frames run alike: kept instructions, and loads, increments and stores of homes.
-use Rattle.std.proofs.Common.{◌≡◌, ℕ, ◌+◌, ◌<◌, List, [], ◌∷◌, map, refl, sym, ap, ◌∙◌, arith}
+use Rattle.std.proofs.Common.{◌≡◌, ℕ, ◌+◌, ◌<◌, ◌≤◌, List, [], ◌∷◌, length, map, refl, sym, ap, ◌∙◌, arith}
 use Rattle.std.specs.Prelude.{max, slice_get}
+use Rattle.jc_base.specs.World.{Linked}
+use Rattle.jc_decode.specs.declared.insn.Placed.{Placed}
+use Rattle.jc_ops.specs.declared.operation.Operation.{Operation}
 use Rattle.jc_ops.specs.declared.operation.Sort.TheVariants as sorts
 use Rattle.jc_ops.specs.declared.operation.Width.TheVariants as widths
-use Rattle.jc_ops.specs.Alike.{loads, stores, increments}
+use Rattle.jc_ops.specs.Alike.{IsAlike, loads, stores, increments}
 use Rattle.jc_rules.specs.declared.demand.Demand.{Demand}
 use Rattle.jc_rules.specs.declared.demand.Demand.TheVariants.{Registers, Depth, Cell as ACell, Cut, Held as Reads}
 use Rattle.jc_rules.specs.Footprint.{registers_asked, registers_read}
 use Rattle.jc_rules.specs.Rule.{demands}
 use Rattle.vm_store.specs.State.{State, top}
+use Rattle.law_alike.specs.Alike.{AreAlike, renamed_new}
+use Rattle.law_alike.specs.Running.{RunAlike}
 use Rattle.xf_homes.specs.declared.home.Home.{Home}
 use Rattle.xf_homes.specs.Value.{type_width}
 use Rattle.xf_homes.specs.Source.{Source}
 use Rattle.xf_homes.specs.Plan.{register}
 use Rattle.law_homes.specs.Held.{HoldsValue}
-use Rattle.law_homes.specs.Laws.{KeptRunAlike, LoadsRunAlike, IncrementsRunAlike, StoresRunAlike}
+use Rattle.law_homes.specs.Laws.{CodesAgree, KeptRunAlike, LoadsRunAlike, IncrementsRunAlike, StoresRunAlike}
 
 -- ---- what names no register reads none
 
@@ -45,120 +50,60 @@ module _ {A : Type 0} where
       → slice_get (top t).registers (register source h + 1) ≡ slice_get (top s).registers (h.slot + 1)
   second-cell s t source h held wide = held.equal 1 (omega (arith, wide))
 
+  -- frames run alike where their codes agree, and what is read is equal
+  alike-by :
+      {e : A → A} {place : ℕ → ℕ} {v w : Linked} {s t : State A} {i j : Placed} {a b : Operation}
+      → IsAlike (renamed_new place a) b
+      → CodesAgree v w s t i j a b
+      → AreAlike e s t
+      → registers_asked (demands w b) ≤ length (top t).registers
+      → map (slice_get (top t).registers) (registers_read (demands w b)) ≡ map (slice_get (top s).registers) (registers_read (demands v a))
+      → RunAlike e place v w s t i j a b
+  alike-by alike codes states named read = record {
+    operations = alike;
+    keys = codes.keys;
+    targets = codes.targets;
+    next = codes.next;
+    states = states;
+    named = named;
+    read = read;
+    room = codes.room;
+  }
+
   pub kept-run-alike : KeptRunAlike A
   kept-run-alike e place v w s t i j a b states codes alike none also =
       let reads : registers_read (demands v a) ≡ [] = none-read (demands v a) none in
       let others : registers_read (demands w b) ≡ [] = none-read (demands w b) also in
-      record {
-        operations = alike;
-        keys = codes.keys;
-        targets = codes.targets;
-        next = codes.next;
-        states = states;
-        named = omega (arith, also);
-        read = ap (map (slice_get (top t).registers)) others ∙ sym (ap (map (slice_get (top s).registers)) reads);
-        room = codes.room;
-      }
+      alike-by alike codes states (omega (arith, also))
+      (ap (map (slice_get (top t).registers)) others ∙ sym (ap (map (slice_get (top s).registers)) reads))
 
   pub loads-run-alike : LoadsRunAlike A
   loads-run-alike e place v w s t i j source h sorts.Reference states codes held wide =
       let inside = held.there in
-      record {
-        operations = loads;
-        keys = codes.keys;
-        targets = codes.targets;
-        next = codes.next;
-        states = states;
-        named = omega (arith, inside, wide);
-        read = ap (λ c. c ∷ []) (first-cell s t source h 1 held wide (omega arith));
-        room = codes.room;
-      }
+      alike-by loads codes states (omega (arith, inside, wide)) (ap (λ c. c ∷ []) (first-cell s t source h 1 held wide (omega arith)))
   loads-run-alike e place v w s t i j source h sorts.Short states codes held wide =
       let inside = held.there in
-      record {
-        operations = loads;
-        keys = codes.keys;
-        targets = codes.targets;
-        next = codes.next;
-        states = states;
-        named = omega (arith, inside, wide);
-        read = ap (λ c. c ∷ []) (first-cell s t source h 1 held wide (omega arith));
-        room = codes.room;
-      }
+      alike-by loads codes states (omega (arith, inside, wide)) (ap (λ c. c ∷ []) (first-cell s t source h 1 held wide (omega arith)))
   loads-run-alike e place v w s t i j source h sorts.Int states codes held wide =
       let inside = held.there in
       let one = first-cell s t source h 2 held wide (omega arith) in
       let two = second-cell s t source h held wide in
-      record {
-        operations = loads;
-        keys = codes.keys;
-        targets = codes.targets;
-        next = codes.next;
-        states = states;
-        named = omega (arith, inside, wide);
-        read = cc (one, two);
-        room = codes.room;
-      }
+      alike-by loads codes states (omega (arith, inside, wide)) (cc (one, two))
 
   pub increments-run-alike : IncrementsRunAlike A
   increments-run-alike e place v w s t i j source h widths.Short amount states codes held wide =
       let inside = held.there in
-      record {
-        operations = increments;
-        keys = codes.keys;
-        targets = codes.targets;
-        next = codes.next;
-        states = states;
-        named = omega (arith, inside, wide);
-        read = ap (λ c. c ∷ []) (first-cell s t source h 1 held wide (omega arith));
-        room = codes.room;
-      }
+      alike-by increments codes states (omega (arith, inside, wide)) (ap (λ c. c ∷ []) (first-cell s t source h 1 held wide (omega arith)))
   increments-run-alike e place v w s t i j source h widths.Int amount states codes held wide =
       let inside = held.there in
       let one = first-cell s t source h 2 held wide (omega arith) in
       let two = second-cell s t source h held wide in
-      record {
-        operations = increments;
-        keys = codes.keys;
-        targets = codes.targets;
-        next = codes.next;
-        states = states;
-        named = omega (arith, inside, wide);
-        read = cc (one, two);
-        room = codes.room;
-      }
+      alike-by increments codes states (omega (arith, inside, wide)) (cc (one, two))
 
   pub stores-run-alike : StoresRunAlike A
   stores-run-alike e place v w s t i j source h sorts.Reference states codes inside wide =
-      record {
-        operations = stores;
-        keys = codes.keys;
-        targets = codes.targets;
-        next = codes.next;
-        states = states;
-        named = omega (arith, inside, wide);
-        read = refl;
-        room = codes.room;
-      }
+      alike-by stores codes states (omega (arith, inside, wide)) refl
   stores-run-alike e place v w s t i j source h sorts.Short states codes inside wide =
-      record {
-        operations = stores;
-        keys = codes.keys;
-        targets = codes.targets;
-        next = codes.next;
-        states = states;
-        named = omega (arith, inside, wide);
-        read = refl;
-        room = codes.room;
-      }
+      alike-by stores codes states (omega (arith, inside, wide)) refl
   stores-run-alike e place v w s t i j source h sorts.Int states codes inside wide =
-      record {
-        operations = stores;
-        keys = codes.keys;
-        targets = codes.targets;
-        next = codes.next;
-        states = states;
-        named = omega (arith, inside, wide);
-        read = refl;
-        room = codes.room;
-      }
+      alike-by stores codes states (omega (arith, inside, wide)) refl

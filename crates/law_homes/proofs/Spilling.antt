@@ -45,7 +45,8 @@ use Rattle.law_homes.proofs.Loading.{store-resolves, step-place}
 use Rattle.law_homes.proofs.Standing.{steps-execute}
 use Rattle.law_homes.proofs.Valued.{asked_types, CellsAt, value-inside}
 use Rattle.law_homes.proofs.StackStores.{piled, piled-stack, stored, stored-count, stored-holds, stored-apart, store-asked}
-use Rattle.law_homes.proofs.Beside.{AreLaws, each-among, among-each, own, register-inside, register-small, typed, count-registers, count-stack, stack-fits}
+use Rattle.law_homes.proofs.Beside.{each-among, among-each, own, register-inside, register-small, typed, count-registers, count-stack, stack-fits, placed-state}
+use Rattle.law_homes.specs.Premises.{AreLaws}
 use Rattle.law_homes.proofs.Beside.{cells-valued, held-as}
 
 -- a store into a home
@@ -301,12 +302,7 @@ module _ (v w : Linked) (l : AreLaws v w) (place : ℕ → ℕ) (steps : List St
         heap = heap;
         statics = statics;
       }) whole
-      ∙ ap
-      (λ (p : ℕ). record {
-        frames = record { method = g.method; place = p; registers = g.registers; stack = g.stack } ∷ below;
-        heap = heap;
-        statics = statics;
-      }) (sym at.at) in
+      ∙ placed-state g below heap statics (place n) at.at in
       record {
         registers = ran.after;
         runs =

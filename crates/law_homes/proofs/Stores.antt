@@ -63,7 +63,8 @@ use Rattle.law_homes.proofs.Valued.{asked_types, IsCellOf, CellsAt, at-nth, valu
 use Rattle.law_homes.proofs.StackStores.{stored, stored-count, stored-holds, stored-apart}
 use Rattle.law_homes.proofs.Spilling.{one-store}
 use Rattle.law_homes.proofs.Carrying.{insns-append, copies-count, copy-fits}
-use Rattle.law_homes.proofs.Beside.{AreLaws, each-among, among-each, own, register-inside, register-small, needed-valued, types, held-as}
+use Rattle.law_homes.proofs.Beside.{each-among, among-each, own, register-inside, register-small, needed-valued, types, held-as}
+use Rattle.law_homes.specs.Premises.{AreLaws}
 
 -- ---- what was loaded is of its letter alone
 

@@ -2,6 +2,7 @@ ghost use Rattle.jc_base.specs.World.{Linked};
 ghost use Rattle.vm_store.specs.declared.cell.Cell.{Cell};
 ghost use Rattle.law_homes.specs.Edges.{CellsAreFew, CellsRun, CopiesAreFew, EdgesRun, KeptStacksStay, LeadersLoad, OperandsLoad, StacksSpill, StartsHold, UnderHold, UnderLoads};
 ghost use Rattle.law_homes.specs.Moves.{IsExecutable, CopiesKeepHomes, CopiesRun, HomesAreCopied, HomesOwnRegisters, LoadedIsStack, LoadsRun, OperationsGoOn};
+ghost use Rattle.law_homes.specs.Premises.{AreLaws};
 ghost use Rattle.law_homes.specs.Stores.{StoresRun};
 ghost use Rattle.law_homes.specs.Laws.{HomesStay, IncrementsRunAlike, KeptRunAlike, LoadsRunAlike, LoadsWriteNone, LocalsStay, NamesNoneWritesNone, StepsExecute, StepsStandAtPlaces, StoresRunAlike, WrittenHold};
 
@@ -81,17 +82,24 @@ pub fn none_are_written(world: &World<'_>)
     let _ = world.classes().records();
 }
 
-/// In code of each world that can run: the loads of a leader put its stack back, and the stores before one keep the stack
-/// in homes.
-pub fn stacks_move(source: &World<'_>)
-    ensures loads { (w : Linked) → IsExecutable w → LeadersLoad source.now w }
-    ensures stores { (w : Linked) → IsExecutable w → StacksSpill source.now w }
+/// What lists of moves rest on holds of each world, beside one that can run.
+pub fn premises_hold(source: &World<'_>)
+    ensures { (w : Linked) → IsExecutable w → AreLaws source.now w }
 {
     homes_serve(source);
     edges_carry(source);
     rule_laws(source);
     types_are_ordered(source.classes());
     subclasses_extend(source.classes());
+}
+
+/// In code of each world that can run: the loads of a leader put its stack back, and the stores before one keep the stack
+/// in homes.
+pub fn stacks_move(source: &World<'_>)
+    ensures loads { (w : Linked) → IsExecutable w → LeadersLoad source.now w }
+    ensures stores { (w : Linked) → IsExecutable w → StacksSpill source.now w }
+{
+    premises_hold(source);
 }
 
 /// There the copies of an edge bring each local into all homes that are needed where it leads, and those of cells each cell
@@ -102,10 +110,7 @@ pub fn edges_run(source: &World<'_>)
     ensures starts { StartsHold source.now }
 {
     homes_serve(source);
-    edges_carry(source);
-    rule_laws(source);
-    types_are_ordered(source.classes());
-    subclasses_extend(source.classes());
+    premises_hold(source);
 }
 
 /// There the loads after the stores of a conditional's stack put its operands back, and the cells under them, which stand in their
@@ -115,11 +120,8 @@ pub fn operands_load(source: &World<'_>)
     ensures under { (w : Linked) → IsExecutable w → UnderLoads source.now w }
     ensures holds { (w : Linked) → IsExecutable w → UnderHold source.now w }
 {
-    homes_serve(source);
     edges_carry(source);
-    rule_laws(source);
-    types_are_ordered(source.classes());
-    subclasses_extend(source.classes());
+    premises_hold(source);
 }
 
 /// No more cells are kept than a stack has, and an edge has no more copies than there are homes. A stack that is kept has no
@@ -129,21 +131,15 @@ pub fn moves_are_few(source: &World<'_>)
     ensures copies { CopiesAreFew source.now }
     ensures stacks { (w : Linked) → IsExecutable w → KeptStacksStay source.now w }
 {
-    homes_serve(source);
     needed_are_kept(source);
     edges_carry(source);
-    rule_laws(source);
     types_are_ordered(source.classes());
-    subclasses_extend(source.classes());
+    premises_hold(source);
 }
 
 /// There a store of the source goes into the first home that is needed afterwards, and from there to the others.
 pub fn stores_run(source: &World<'_>)
     ensures stores { (w : Linked) → IsExecutable w → StoresRun source.now w }
 {
-    homes_serve(source);
-    edges_carry(source);
-    rule_laws(source);
-    types_are_ordered(source.classes());
-    subclasses_extend(source.classes());
+    premises_hold(source);
 }

@@ -8,6 +8,6 @@ mod laws;
 
 pub use laws::{
     copies_keep_homes, copies_run, edges_run, homes_are_copied, homes_hold, homes_run_alike,
-    loads_run, moves_are_few, none_are_written, operands_load, stacks_move, steps_execute,
-    steps_stand_at_places, stores_run,
+    loads_run, moves_are_few, none_are_written, operands_load, premises_hold, stacks_move,
+    steps_execute, steps_stand_at_places, stores_run,
 };

@@ -14,7 +14,7 @@ use Rattle.jc_control.specs.WellFormed.{IsPlace, IsBoundary, IsHandlerOf, IsWell
 use Rattle.card_typing.proofs.Own.{of_world, handler_of}
 use Rattle.vm_step.specs.Raising.{catches}
 use Rattle.law_laid.specs.Laid.{catching, HasLaid}
-use Rattle.law_laid.specs.Laws.{CatchesByPool}
+use Rattle.law_laid.proofs.Catching.{catches-by-pool}
 use Rattle.law_share.specs.Renamed.{CatchAlike}
 use Rattle.law_renumbered.specs.Symbols.{range_of}
 
@@ -26,7 +26,7 @@ pub record KeepsOrder (code there : List ℕ) (f : ℕ → ℕ) : Type 0 where
   pub le : (p q : ℕ) → IsBoundary code p → IsBoundary code q → nat_le (f p) (f q) ≡ nat_le p q
   pub lt : (p q : ℕ) → IsBoundary code p → IsBoundary code q → nat_lt (f p) (f q) ≡ nat_lt p q
 
-module _ (v : Linked) (links : IsWorld v) (by_pool : CatchesByPool) (m target : Method) (is : IsMethodOf v m) (formed : IsWellFormed m) (laid : Laid)
+module _ (v : Linked) (links : IsWorld v) (m target : Method) (is : IsMethodOf v m) (formed : IsWellFormed m) (laid : Laid)
     (has : HasLaid m.rec laid target) (at_label : ℕ → ℕ) (laid_for : laid.handlers ≡ map (laid_handler at_label) (map range_of m.rec.handlers))
     (f : ℕ → ℕ) (comes : (p : ℕ) → IsBoundary m.code p → f p ≡ at_label p) (keeps : KeepsOrder m.code target.code f)
   where
@@ -63,7 +63,7 @@ module _ (v : Linked) (links : IsWorld v) (by_pool : CatchesByPool) (m target : 
     class-there : (h : Handler) → Contains m.rec.handlers h → (there h).class ≡ h.class
     unfolding there
     class-there h c =
-        by_pool v.classes (list_at v.pools m.rec.package) m.rec.code_len m.rec.handlers h h.class (of_world v links m is).handlers c
+        catches-by-pool v.classes (list_at v.pools m.rec.package) m.rec.code_len m.rec.handlers h h.class (of_world v links m is).handlers c
         (handler_of v links m is h c).catches
 
     both : (a b c d : Bool) → a ≡ b → c ≡ d → (a && c) ≡ (b && d)

@@ -24,9 +24,9 @@ use Rattle.vm_step.specs.Settled.{place_number}
 use Rattle.law_alike.specs.Alike.{renamed_new}
 use Rattle.law_alike.proofs.Views.{same-new, demands-new}
 use Rattle.law_laid.specs.Apart.{apart_from_code, IsSameBut}
-use Rattle.law_laid.specs.Laws.{OperationsAreKept, DemandsAreKept}
 use Rattle.law_laid.proofs.Forms.{falls-form, jumps-form, resolves-renamed}
 use Rattle.law_laid.proofs.Operations.{operation_renamed}
+use Rattle.law_laid.proofs.SameBut.{demands-are-kept, operations-are-kept}
 use Rattle.law_share.specs.Live.{Operates, Writes}
 use Rattle.law_share.specs.Renamed.{AreMatched, register_total}
 use Rattle.law_share.specs.Renumbered.{renumbered}
@@ -70,7 +70,7 @@ pub record IsStated (m target : Method) (f reg : ℕ → ℕ) (i j : Placed) : T
   pub keys : map (λ c. c.key) (cases m.code i.place i.insn) ≡ map (λ c. c.key) (cases target.code j.place j.insn)
   pub leads : targets target.code j ≡ map (λ t. pos (f (place_number t))) (targets m.code i)
 
-module _ (v w : Linked) (sound : OperationsAreSound v) (operations : OperationsAreKept) (kept : DemandsAreKept) (same : IsSameBut v w)
+module _ (v w : Linked) (sound : OperationsAreSound v) (same : IsSameBut v w)
     (m target : Method) (reg : ℕ → ℕ) (total : ℕ) (declared : IfSome m.rec.sig.result (IsDeclared v.classes)) (serve : NumbersServe v m reg total)
     (apart : apart_from_code target.rec ≡ apart_from_code m.rec) (count : register_total target ≡ total) (f : ℕ → ℕ)
   where
@@ -89,7 +89,7 @@ module _ (v w : Linked) (sound : OperationsAreSound v) (operations : OperationsA
         let moved : Resolves v m.rec (f i.place) j.insn (Ok (operation_renamed f (renumbered reg op))) =
         resolves-renamed v m.rec sound declared f i.place j.insn (stated reg i.insn) (renumbered reg op) s.same (does-it i op o) in
         let there : Resolves w target.rec (f i.place) j.insn (Ok (operation_renamed f (renumbered reg op))) =
-        operations v w m.rec target.rec (f i.place) j.insn (Ok (operation_renamed f (renumbered reg op))) same (sym apart) moved in
+        operations-are-kept v w m.rec target.rec (f i.place) j.insn (Ok (operation_renamed f (renumbered reg op))) same (sym apart) moved in
         subst (λ p. Resolves w target.rec p j.insn (Ok (renamed_new f (renumbered reg op)))) (sym s.at)
         (subst (λ (a : Operation). Resolves w target.rec (f i.place) j.insn (Ok a)) (same-new f (renumbered reg op)) there)
 
@@ -104,7 +104,7 @@ module _ (v w : Linked) (sound : OperationsAreSound v) (operations : OperationsA
     are-matched i j op s o =
         let new = renamed_new f (renumbered reg op) in
         let is = serve.same i op o in
-        let second : demands w new ≡ demands v (renumbered reg op) = sym (kept v w new same) ∙ demands-new v f (renumbered reg op) in
+        let second : demands w new ≡ demands v (renumbered reg op) = sym (demands-are-kept v w new same) ∙ demands-new v f (renumbered reg op) in
         let foot : footprint v new ≡ footprint v (renumbered reg op) = footprint-new v f (renumbered reg op) in
         let few : registers_asked (demands w new) ≤ total =
         (let e = ap registers_asked second in let le = is.asked in omega (arith, e, le)) in

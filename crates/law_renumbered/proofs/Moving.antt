@@ -8,11 +8,11 @@ use Rattle.std.proofs.lemmas.List.{length-map}
 use Rattle.std.proofs.lemmas.Option.{slice_get-map, slice_get_within}
 use Rattle.jc_base.proofs.Lists.{slice_get-some}
 use Rattle.jc_decode.specs.declared.insn.Placed.{Placed}
-use Rattle.jc_decode.specs.Laws.{InstructionsAreListed}
 use Rattle.jc_decode.specs.Listing.{listing, listing_end, end_from}
 use Rattle.jc_decode.specs.Standing.{StandsForStep, AreSteps}
 use Rattle.jc_decode.specs.Symbols.{Step, place_of, steps}
 use Rattle.jc_decode.proofs.Elements.{Contains-slice_get, slice_get-Contains}
+use Rattle.jc_decode.proofs.InstructionLists.{all-are-listed}
 use Rattle.jc_control.specs.Laws.{InstructionsArePlaced}
 use Rattle.jc_control.specs.Method.{Method}
 use Rattle.jc_control.specs.WellFormed.{HasInstruction, IsPlace, IsBoundary, IsWellFormed}
@@ -22,7 +22,7 @@ use Rattle.law_renumbered.proofs.Items.{step_of}
 use Rattle.law_renumbered.proofs.Places.{known, is-known, known-is, number-last, number-most, number-next, number-of, number-rises, of-place}
 use Rattle.law_renumbered.proofs.Places.{spread, spread-known, spread-one, steps-made}
 
-module _ (m : Method) (reg : ℕ → ℕ) (listed : InstructionsAreListed) (placed : InstructionsArePlaced) (formed : IsWellFormed m) (filled : 0 < length m.code)
+module _ (m : Method) (reg : ℕ → ℕ) (placed : InstructionsArePlaced) (formed : IsWellFormed m) (filled : 0 < length m.code)
     (place : ℕ → ℕ) (code : List ℕ) (begins : place 0 ≡ 0)
     (laid : AreSteps code place 0 (steps m.code (items_from m.code reg (listing m.code))) (listing code))
     (ends : place (length (steps m.code (items_from m.code reg (listing m.code)))) ≡ length code)
@@ -40,10 +40,10 @@ module _ (m : Method) (reg : ℕ → ℕ) (listed : InstructionsAreListed) (plac
     step_there i = step_of m.code reg number i
 
     made-laid : AreSteps code place 0 (map step_there insns) (listing code)
-    made-laid = subst (λ ss. AreSteps code place 0 ss (listing code)) (steps-made m reg listed placed formed) laid
+    made-laid = subst (λ ss. AreSteps code place 0 ss (listing code)) (steps-made m reg placed formed) laid
 
     end-there : place count ≡ length code
-    end-there = sym (ap (λ ss. place (length ss)) (steps-made m reg listed placed formed) ∙ ap place (length-map insns step_there)) ∙ ends
+    end-there = sym (ap (λ ss. place (length ss)) (steps-made m reg placed formed) ∙ ap place (length-map insns step_there)) ∙ ends
 
     -- ---- instructions
 
@@ -94,7 +94,7 @@ module _ (m : Method) (reg : ℕ → ℕ) (listed : InstructionsAreListed) (plac
     rise k lt =
         let i = slice_get-some insns k lt in
         let x = laid-as k i.0 i.1 in
-        let a = listed code in
+        let a = all-are-listed code in
         let long : 0 < x.other.insn.len = a.long x.other.place x.other.insn (a.decodes x.other (Contains-slice_get (listing code) k x.other x.found)) in
         let at = x.at in
         let after = x.after in
@@ -134,22 +134,22 @@ module _ (m : Method) (reg : ℕ → ℕ) (listed : InstructionsAreListed) (plac
     at_number p = place (number p)
 
     pub moved : ℕ → ℕ
-    moved = spread (known m reg listed placed formed) at_number (length code)
+    moved = spread (known m reg placed formed) at_number (length code)
 
     most : (p : ℕ) → IsBoundary m.code p → number p ≤ count
-    most = number-most m reg listed placed formed
+    most = number-most m reg placed formed
 
     pub moved-is : (p : ℕ) → IsBoundary m.code p → moved p ≡ place (number p)
     unfolding moved
-    moved-is p b = spread-known (known m reg listed placed formed) at_number (length code) p (is-known m reg listed placed formed p b)
+    moved-is p b = spread-known (known m reg placed formed) at_number (length code) p (is-known m reg placed formed p b)
 
     known-one : (p q : ℕ) → IsBoundary m.code p → IsBoundary m.code q → place (number p) ≡ place (number q) → p ≡ q
     known-one p q a b e =
         let same : number p ≡ number q = rise-one (number p) (number q) (most p a) (most q b) e in
         elim (cases_lt p q) [
-          | inl lt ↦ (let up = number-rises m reg listed placed formed p q a b lt in absurd (omega (arith, up, same)))
+          | inl lt ↦ (let up = number-rises m reg placed formed p q a b lt in absurd (omega (arith, up, same)))
           | inr ge ↦ elim (cases_lt q p) [
-            | inl lt ↦ (let up = number-rises m reg listed placed formed q p b a lt in absurd (omega (arith, up, same)))
+            | inl lt ↦ (let up = number-rises m reg placed formed q p b a lt in absurd (omega (arith, up, same)))
             | inr also ↦ omega (arith, ge, also)
           ]
         ]
@@ -157,13 +157,13 @@ module _ (m : Method) (reg : ℕ → ℕ) (listed : InstructionsAreListed) (plac
     pub moved-one : (p q : ℕ) → moved p ≡ moved q → p ≡ q
     unfolding moved
     moved-one =
-        spread-one (known m reg listed placed formed) at_number (length code)
-        (λ p k. rise-most (number p) (most p (known-is m reg listed placed formed p k)))
-        (λ p q k l e. known-one p q (known-is m reg listed placed formed p k) (known-is m reg listed placed formed q l) e)
+        spread-one (known m reg placed formed) at_number (length code)
+        (λ p k. rise-most (number p) (most p (known-is m reg placed formed p k)))
+        (λ p q k l e. known-one p q (known-is m reg placed formed p k) (known-is m reg placed formed q l) e)
 
     pub moved-rises : (p q : ℕ) → IsBoundary m.code p → IsBoundary m.code q → p < q → moved p < moved q
     moved-rises p q a b lt =
-        let up = rise-from (number p) (number q) (number-rises m reg listed placed formed p q a b lt) (most q b) in
+        let up = rise-from (number p) (number q) (number-rises m reg placed formed p q a b lt) (most q b) in
         let x = moved-is p a in
         let y = moved-is q b in
         omega (arith, up, x, y)
@@ -177,33 +177,33 @@ module _ (m : Method) (reg : ℕ → ℕ) (listed : InstructionsAreListed) (plac
         zero_there : number 0 ≡ 0
         zero_there = elim (cases_lt 0 (number 0)) [
           | inl more ↦
-              let a = of-place m reg listed placed formed 0 here in
+              let a = of-place m reg placed formed 0 here in
               let less = a.inside in
               let y = slice_get-some insns 0 (omega (arith, less)) in
-              let up = (listed m.code).rising 0 (number 0) y.0 a.instruction y.1 a.at more in
+              let up = (all-are-listed m.code).rising 0 (number 0) y.0 a.instruction y.1 a.at more in
               let at = a.there in
               absurd (omega (arith, up, at))
           | inr none ↦ omega (arith, none)
         ]
 
     pub moved-last : moved (length m.code) ≡ length code
-    moved-last = moved-is (length m.code) (inl refl) ∙ (ap place (number-last m reg listed placed formed) ∙ end-there)
+    moved-last = moved-is (length m.code) (inl refl) ∙ (ap place (number-last m reg placed formed) ∙ end-there)
 
     -- an instruction stands where its place comes to, and ends where its end does
     pub laid-at : (k : ℕ) (i : Placed) → slice_get insns k ≡ Some i → (x : IsLaidAs k i) → x.other.place ≡ moved i.place
     laid-at k i e x =
         let there : IsPlace m.code i.place = (i, Contains-slice_get insns k i e, refl) in
-        x.at ∙ (ap place (sym (number-of m reg listed placed formed k i e)) ∙ sym (moved-is i.place (inr there)))
+        x.at ∙ (ap place (sym (number-of m reg placed formed k i e)) ∙ sym (moved-is i.place (inr there)))
 
     pub laid-after : (k : ℕ) (i : Placed) → slice_get insns k ≡ Some i → (x : IsLaidAs k i)
         → x.other.place + x.other.insn.len ≡ moved (i.place + i.insn.len)
     laid-after k i e x =
         let next : IsBoundary m.code (i.place + i.insn.len) = (placed m formed).next i (Contains-slice_get insns k i e) in
-        x.after ∙ (ap place (sym (number-next m reg listed placed formed k i e)) ∙ sym (moved-is (i.place + i.insn.len) next))
+        x.after ∙ (ap place (sym (number-next m reg placed formed k i e)) ∙ sym (moved-is (i.place + i.insn.len) next))
 
     pub moved-place : (p : ℕ) → IsPlace m.code p → IsPlace code (moved p)
     moved-place p here =
-        let a = of-place m reg listed placed formed p here in
+        let a = of-place m reg placed formed p here in
         let x = laid-as (number p) a.instruction a.at in
         (x.other, Contains-slice_get (listing code) (number p) x.other x.found, x.at ∙ sym (moved-is p (inr here)))
 

@@ -8,10 +8,10 @@ use Rattle.std.proofs.lemmas.Option.{slice_get_within}
 use Rattle.jc_base.proofs.Lists.{slice_get-some}
 use Rattle.jc_decode.specs.declared.insn.Placed.{Placed}
 use Rattle.jc_decode.specs.declared.symbols.Item.{Item}
-use Rattle.jc_decode.specs.Laws.{InstructionsAreListed}
 use Rattle.jc_decode.specs.Listing.{listing}
 use Rattle.jc_decode.specs.Symbols.{place_of, steps}
 use Rattle.jc_decode.proofs.Elements.{Contains-slice_get, slice_get-Contains}
+use Rattle.jc_decode.proofs.InstructionLists.{all-are-listed}
 use Rattle.jc_control.specs.Laws.{InstructionsArePlaced}
 use Rattle.jc_control.specs.Method.{Method}
 use Rattle.jc_control.specs.WellFormed.{HasInstruction, IsPlace, IsBoundary, IsWellFormed}
@@ -46,7 +46,7 @@ module _ (known : ℕ → Bool) (f : ℕ → ℕ) (bound : ℕ) where
 
 -- ---- the places of a method
 
-module _ (m : Method) (reg : ℕ → ℕ) (listed : InstructionsAreListed) (placed : InstructionsArePlaced) (formed : IsWellFormed m) where
+module _ (m : Method) (reg : ℕ → ℕ) (placed : InstructionsArePlaced) (formed : IsWellFormed m) where
   abbrev pub insns : List Placed
   insns = listing m.code
 
@@ -67,10 +67,10 @@ module _ (m : Method) (reg : ℕ → ℕ) (listed : InstructionsAreListed) (plac
   steps-made = steps-are m.code reg items insns
 
   pub number-of : (k : ℕ) (i : Placed) → slice_get insns k ≡ Some i → number i.place ≡ k
-  number-of k i e = number-at m.code reg insns k i e (λ j y there lt. (listed m.code).rising j k y i there e lt)
+  number-of k i e = number-at m.code reg insns k i e (λ j y there lt. (all-are-listed m.code).rising j k y i there e lt)
 
   pub number-last : number (length m.code) ≡ count
-  number-last = number-end m.code reg insns (listed m.code).inside
+  number-last = number-end m.code reg insns (all-are-listed m.code).inside
 
   -- a place and its instruction
   pub record IsAt (p : ℕ) : Type 0 where
@@ -106,7 +106,7 @@ module _ (m : Method) (reg : ℕ → ℕ) (listed : InstructionsAreListed) (plac
 
   near : (p : ℕ) → IsBoundary m.code p → p ≤ length m.code
   near p b = ⊎_elim (λ end. omega (arith, end))
-      (λ here. (let inside = (listed m.code).inside here.0 here.1 in let at = here.2 in omega (arith, inside, at))) b
+      (λ here. (let inside = (all-are-listed m.code).inside here.0 here.1 in let at = here.2 in omega (arith, inside, at))) b
 
   -- places rise with their numbers
   place-rises : (p q : ℕ) (a : IsAt p) (b : IsAt q) → p < q → number p < number q
@@ -114,7 +114,7 @@ module _ (m : Method) (reg : ℕ → ℕ) (listed : InstructionsAreListed) (plac
     | inl less ↦ less
     | inr ge ↦ elim (cases_lt (number q) (number p)) [
       | inl more ↦
-          let down = (listed m.code).rising (number q) (number p) b.instruction a.instruction b.at a.at more in
+          let down = (all-are-listed m.code).rising (number q) (number p) b.instruction a.instruction b.at a.at more in
           let x = a.there in
           let y = b.there in
           absurd (omega (arith, down, x, y, lt))
@@ -154,21 +154,21 @@ module _ (m : Method) (reg : ℕ → ℕ) (listed : InstructionsAreListed) (plac
       -- no instruction stands between
       between : (j : ℕ) (y : Placed) → slice_get insns j ≡ Some y → k < j → after ≤ y.place
       between j y at lt =
-          (listed m.code).after i y c (Contains-slice_get insns j y at) ((listed m.code).rising k j i y e at lt)
+          (all-are-listed m.code).after i y c (Contains-slice_get insns j y at) ((all-are-listed m.code).rising k j i y e at lt)
 
       last : after ≡ length m.code → count ≡ suc k
       last end = elim (cases_lt (suc k) count) [
         | inl more ↦
             let y = slice_get-some insns (suc k) more in
             let le = between (suc k) y.0 y.1 (omega arith) in
-            let lt = (listed m.code).inside y.0 (Contains-slice_get insns (suc k) y.0 y.1) in
+            let lt = (all-are-listed m.code).inside y.0 (Contains-slice_get insns (suc k) y.0 y.1) in
             absurd (omega (arith, le, lt, end))
         | inr most ↦ (let lt = within in omega (arith, most, lt))
       ]
 
       next : IsAt after → number after ≡ suc k
       next a =
-          let long = (listed m.code).long i.place i.insn ((listed m.code).decodes i c) in
+          let long = (all-are-listed m.code).long i.place i.insn ((all-are-listed m.code).decodes i c) in
           let own : number i.place ≡ k = number-of k i e in
           let up = number-rises i.place after (inr (i, c, refl)) boundary (omega (arith, long)) in
           elim (cases_lt (suc k) (number after)) [
@@ -176,7 +176,7 @@ module _ (m : Method) (reg : ℕ → ℕ) (listed : InstructionsAreListed) (plac
                 let less = a.inside in
                 let y = slice_get-some insns (suc k) (omega (arith, more, less)) in
                 let le = between (suc k) y.0 y.1 (omega arith) in
-                let lt = (listed m.code).rising (suc k) (number after) y.0 a.instruction y.1 a.at more in
+                let lt = (all-are-listed m.code).rising (suc k) (number after) y.0 a.instruction y.1 a.at more in
                 let at = a.there in
                 absurd (omega (arith, le, lt, at))
             | inr most ↦ omega (arith, most, up, own)

@@ -7,7 +7,6 @@ use Rattle.jc_base.specs.Cell.{IsDeclared}
 use Rattle.jc_base.specs.World.{Linked, IsWorld}
 use Rattle.jc_decode.specs.declared.insn.Placed.{Placed}
 use Rattle.jc_decode.specs.declared.symbols.Laid.{Laid}
-use Rattle.jc_decode.specs.Laws.{InstructionsAreListed}
 use Rattle.jc_decode.specs.Listing.{listing, targets}
 use Rattle.jc_decode.specs.Standing.{AreSteps, StandsAt}
 use Rattle.jc_decode.specs.Symbols.{place_of, steps}
@@ -22,7 +21,6 @@ use Rattle.vm_step.specs.Settled.{place_number}
 use Rattle.law_alike.specs.Alike.{renamed_new}
 use Rattle.law_laid.specs.Apart.{IsSameBut}
 use Rattle.law_laid.specs.Laid.{HasLaid}
-use Rattle.law_laid.specs.Laws.{CatchesByPool, DemandsAreKept, OperationsAreKept}
 use Rattle.law_laid.proofs.Steps.{all-contained, preimage}
 use Rattle.law_share.specs.Live.{Operates}
 use Rattle.law_share.specs.Renamed.{CatchAlike, IsMatched, IsRenamed, register_total}
@@ -36,8 +34,8 @@ use Rattle.law_renumbered.proofs.Leading.{keys-are, targets-come}
 use Rattle.law_renumbered.proofs.Moving.{IsLaidAs, from-source, laid-after, laid-as, laid-at, listed-whole, moved, moved-boundary, moved-first}
 use Rattle.law_renumbered.proofs.Moving.{moved-is, moved-le, moved-lt, moved-one, moved-place, moved-rises}
 
-module _ (v w : Linked) (links : IsWorld v) (sound : OperationsAreSound v) (listed : InstructionsAreListed) (placed : InstructionsArePlaced)
-    (operations : OperationsAreKept) (kept : DemandsAreKept) (by_pool : CatchesByPool) (m target : Method) (reg : ℕ → ℕ) (locals : ℕ)
+module _ (v w : Linked) (links : IsWorld v) (sound : OperationsAreSound v) (placed : InstructionsArePlaced)
+    (m target : Method) (reg : ℕ → ℕ) (locals : ℕ)
     (place : ℕ → ℕ) (laid : Laid) (same : IsSameBut v w) (is : IsMethodOf v m) (formed : IsWellFormed m)
     (serve : NumbersServe v m reg (m.rec.nargs + locals)) (stand : StandsAt place m.code (renumbered_method m reg locals) laid)
     (is_target : IsMethodOf w target) (numbered : target.number ≡ m.number) (has : HasLaid m.rec laid target)
@@ -51,18 +49,18 @@ module _ (v w : Linked) (links : IsWorld v) (sound : OperationsAreSound v) (list
     ends = stand.ends ∙ ap length (sym has.code)
 
     f : ℕ → ℕ
-    f = moved m reg listed placed formed is.filled place target.code stand.begins laid-steps ends
+    f = moved m reg placed formed is.filled place target.code stand.begins laid-steps ends
 
     -- the number of a label
     abbrev label : ℕ → ℕ
     label l = place_of l (items_from m.code reg (listing m.code))
 
     abbrev Laying : ℕ → Placed → Type 0
-    Laying k i = IsLaidAs m reg listed placed formed is.filled place target.code stand.begins laid-steps ends k i
+    Laying k i = IsLaidAs m reg placed formed is.filled place target.code stand.begins laid-steps ends k i
 
     comes : (p : ℕ) → IsBoundary m.code p → f p ≡ place (label p)
     unfolding f
-    comes = moved-is m reg listed placed formed is.filled place target.code stand.begins laid-steps ends
+    comes = moved-is m reg placed formed is.filled place target.code stand.begins laid-steps ends
 
     place-comes : (p : ℕ) → IsPlace m.code p → f p ≡ place (label p)
     place-comes p here = comes p (inr here)
@@ -70,11 +68,11 @@ module _ (v w : Linked) (links : IsWorld v) (sound : OperationsAreSound v) (list
     keeps-order : KeepsOrder m.code target.code f
     unfolding f
     keeps-order = record {
-      place = moved-place m reg listed placed formed is.filled place target.code stand.begins laid-steps ends;
-      boundary = moved-boundary m reg listed placed formed is.filled place target.code stand.begins laid-steps ends;
-      rises = moved-rises m reg listed placed formed is.filled place target.code stand.begins laid-steps ends;
-      le = moved-le m reg listed placed formed is.filled place target.code stand.begins laid-steps ends;
-      lt = moved-lt m reg listed placed formed is.filled place target.code stand.begins laid-steps ends;
+      place = moved-place m reg placed formed is.filled place target.code stand.begins laid-steps ends;
+      boundary = moved-boundary m reg placed formed is.filled place target.code stand.begins laid-steps ends;
+      rises = moved-rises m reg placed formed is.filled place target.code stand.begins laid-steps ends;
+      le = moved-le m reg placed formed is.filled place target.code stand.begins laid-steps ends;
+      lt = moved-lt m reg placed formed is.filled place target.code stand.begins laid-steps ends;
     }
 
     -- ---- instructions
@@ -83,8 +81,8 @@ module _ (v w : Linked) (links : IsWorld v) (sound : OperationsAreSound v) (list
     unfolding f
     stated-there k i e x = record {
       stands = Contains-slice_get (listing target.code) k x.other x.found;
-      at = laid-at m reg listed placed formed is.filled place target.code stand.begins laid-steps ends k i e x;
-      next = laid-after m reg listed placed formed is.filled place target.code stand.begins laid-steps ends k i e x;
+      at = laid-at m reg placed formed is.filled place target.code stand.begins laid-steps ends k i e x;
+      next = laid-after m reg placed formed is.filled place target.code stand.begins laid-steps ends k i e x;
       same = x.stands.same;
       keys = sym (x.stands.keyed ∙ keys-are m.code reg label place f place-comes i);
       leads = x.stands.leads ∙ targets-come m.code reg label place f place-comes i (formed.targets i (Contains-slice_get (listing m.code) k i e));
@@ -102,12 +100,12 @@ module _ (v w : Linked) (links : IsWorld v) (sound : OperationsAreSound v) (list
     matched : (i : Placed) (a : Operation) → Operates v m i a → IsMatched v w m target f reg i a
     matched i a o =
         let at = slice_get-Contains (listing m.code) i o.stands in
-        let x : Laying at.0 i = laid-as m reg listed placed formed is.filled place target.code stand.begins laid-steps ends at.0 i at.1 in
+        let x : Laying at.0 i = laid-as m reg placed formed is.filled place target.code stand.begins laid-steps ends at.0 i at.1 in
         record {
           other = x.other;
           new = renamed_new f (renumbered reg a);
           are =
-              are-matched v w sound operations kept same m target reg (m.rec.nargs + locals) declared serve has.same total f i x.other a
+              are-matched v w sound same m target reg (m.rec.nargs + locals) declared serve has.same total f i x.other a
               (stated-there at.0 i at.1 x) o;
         }
 
@@ -119,7 +117,7 @@ module _ (v w : Linked) (links : IsWorld v) (sound : OperationsAreSound v) (list
 
     is-there : (j : Placed) → HasInstruction target.code j → IsThere j
     is-there j c =
-        let x = from-source m reg listed placed formed is.filled place target.code stand.begins laid-steps ends j c in
+        let x = from-source m reg placed formed is.filled place target.code stand.begins laid-steps ends j c in
         record {
           source = x.source;
           stands = Contains-slice_get (listing m.code) x.number_there x.source x.found;
@@ -141,22 +139,22 @@ module _ (v w : Linked) (links : IsWorld v) (sound : OperationsAreSound v) (list
         (formed.targets x.source x.stands)))
 
     handler-there : Handler → Handler
-    handler-there = there v links by_pool m target is formed laid has (λ l. place (label l)) stand.handlers f comes keeps-order
+    handler-there = there v links m target is formed laid has (λ l. place (label l)) stand.handlers f comes keeps-order
 
     handlers-alike : CatchAlike v m target f handler-there
     unfolding handler-there
-    handlers-alike = catch-alike v links by_pool m target is formed laid has (λ l. place (label l)) stand.handlers f comes keeps-order
+    handlers-alike = catch-alike v links m target is formed laid has (λ l. place (label l)) stand.handlers f comes keeps-order
 
     own-handler : (h : Handler) → Contains target.rec.handlers h → IsHandlerOf target.code h
     unfolding handler-there
     own-handler h c =
         let x = preimage handler-there m.rec.handlers h (subst (λ hs. Contains hs h) handlers-alike.handlers c) in
         subst (IsHandlerOf target.code) (sym x.is)
-        (handler-formed v links by_pool m target is formed laid has (λ l. place (label l)) stand.handlers f comes keeps-order x.of x.listed)
+        (handler-formed v links m target is formed laid has (λ l. place (label l)) stand.handlers f comes keeps-order x.of x.listed)
 
     well-formed : IsWellFormed target
     well-formed = record {
-      ends = listed-whole m reg listed placed formed is.filled place target.code stand.begins laid-steps ends;
+      ends = listed-whole m reg placed formed is.filled place target.code stand.begins laid-steps ends;
       targets = targets-formed;
       handlers = all-contained (IsHandlerOf target.code) target.rec.handlers own-handler;
     }
@@ -170,8 +168,8 @@ module _ (v w : Linked) (links : IsWorld v) (sound : OperationsAreSound v) (list
       formed = well-formed;
       nargs = has.nargs ∙ stand.nargs;
       room = has.max_stack ∙ stand.max_stack;
-      begins = moved-first m reg listed placed formed is.filled place target.code stand.begins laid-steps ends;
-      one_to_one = moved-one m reg listed placed formed is.filled place target.code stand.begins laid-steps ends;
+      begins = moved-first m reg placed formed is.filled place target.code stand.begins laid-steps ends;
+      one_to_one = moved-one m reg placed formed is.filled place target.code stand.begins laid-steps ends;
       places = keeps-order.place;
       start = λ x live. serve.start target x (record { same = has.same; nargs = has.nargs ∙ stand.nargs; total = total }) live;
       matched = matched;
@@ -184,7 +182,7 @@ module _ (v w : Linked) (links : IsWorld v) (sound : OperationsAreSound v) (list
     has-places = record { place = f; renamed = renamed }
 
 pub renumbered-is-renamed :
-    (v : Linked) → IsWorld v → OperationsAreSound v → InstructionsAreListed → InstructionsArePlaced → OperationsAreKept → DemandsAreKept → CatchesByPool
+    (v : Linked) → IsWorld v → OperationsAreSound v → InstructionsArePlaced
     → RenumberedIsRenamed v
-renumbered-is-renamed v links sound listed placed operations kept by_pool w m target reg locals place laid same is formed serve stand is_target numbered has =
-    has-places v w links sound listed placed operations kept by_pool m target reg locals place laid same is formed serve stand is_target numbered has
+renumbered-is-renamed v links sound placed w m target reg locals place laid same is formed serve stand is_target numbered has =
+    has-places v w links sound placed m target reg locals place laid same is formed serve stand is_target numbered has

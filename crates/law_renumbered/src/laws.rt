@@ -2,9 +2,7 @@ ghost use Rattle.law_renumbered.specs.Laws.{RenumberedIsRenamed, SharedNumbersSe
 
 use jc_base::World;
 use jc_control::instructions_are_placed;
-use jc_decode::instructions_are_listed;
 use jc_ops::operations_are_sound;
-use law_laid::{catches_by_pool, operations_are_kept};
 use law_share::operations_are_renumbered;
 
 /// The numbers that a method's variables share serve it, and so do those of a method that keeps its registers.
@@ -20,10 +18,7 @@ pub fn shared_numbers_serve(world: &World<'_>)
 pub fn renumbered_is_renamed(world: &World<'_>)
     ensures { RenumberedIsRenamed world.now }
 {
-    instructions_are_listed();
     instructions_are_placed();
     operations_are_sound(world);
-    operations_are_kept();
-    catches_by_pool();
     let _ = world.classes().records();
 }

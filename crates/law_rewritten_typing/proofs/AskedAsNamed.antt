@@ -34,11 +34,11 @@ use Rattle.xf_emission.proofs.Live.{live-is}
 use Rattle.xf_emission.proofs.Once.{named-among}
 use Rattle.xf_emission.proofs.Stubs.{all-rise}
 use Rattle.law_laid.specs.Laid.{class_by}
-use Rattle.law_laid.specs.Laws.{CatchesByPool}
 use Rattle.law_rewritten_typing.specs.Typed.{registers_of}
 use Rattle.law_rewritten_typing.proofs.Walks.{nothing_asked, emptied, catching, count}
 use Rattle.law_rewritten_typing.proofs.Ready.{IsReady}
-use Rattle.law_rewritten_typing.proofs.Running.{AreLaws, IsRecordFor}
+use Rattle.law_rewritten_typing.specs.Premises.{AreLaws}
+use Rattle.law_rewritten_typing.proofs.Running.{IsRecordFor}
 use Rattle.law_rewritten_typing.proofs.Listings.{filled}
 use Rattle.xf_emission.proofs.Ways.{way-found}
 use Rattle.law_rewritten_typing.proofs.Rewriting.{AreWanted}
@@ -49,7 +49,7 @@ use Rattle.law_rewritten_typing.proofs.Ordered.{ranges-filled, handlers-are}
 use Rattle.law_rewritten_typing.proofs.Others.{no-others}
 use Rattle.law_rewritten_typing.proofs.Named.{Names, items-name}
 
-module _ (s : Source) (l : AreLaws s.world) (ready : IsReady s) (code : IsCode s) (mo : IsMethodOf s.world s.method) (by_pool : CatchesByPool)
+module _ (s : Source) (l : AreLaws s.world) (ready : IsReady s) (code : IsCode s) (mo : IsMethodOf s.world s.method)
     (r : MethodRec) (own_rec : IsRecordFor s.method.rec r) where
   res : IfSome s.method.rec.sig.result (IsDeclared s.world.classes)
   res = (of_world s.world l.rules s.method mo).result
@@ -144,7 +144,7 @@ module _ (s : Source) (l : AreLaws s.world) (ready : IsReady s) (code : IsCode s
   are-asked =
       let listed = l.rules.listed s.method.code in
       let hs = s.method.rec.handlers in
-      let all = ranges-caught s l.rules mo by_pool 0 hs (λ j h e. let same_j : 0 + j ≡ j = omega arith in ap (slice_get s.method.rec.handlers) same_j
+      let all = ranges-caught s l.rules mo 0 hs (λ j h e. let same_j : 0 + j ≡ j = omega arith in ap (slice_get s.method.rec.handlers) same_j
       ∙ e) in
       record {
         low = 0;
@@ -152,11 +152,11 @@ module _ (s : Source) (l : AreLaws s.world) (ready : IsReady s) (code : IsCode s
         rise = all-rise s code.bytes code.lists code.short code.few;
         named = items-name IsEmptied s emitted (entries s.method.rec.handlers (λ h c. c));
         caught =
-            Each-weaker (IsCaught s l.rules mo by_pool)
+            Each-weaker (IsCaught s l.rules mo)
             (λ (q : Range). IsAmong q.entry (labels (items s)) × (asks_of s q.entry ≡ catching (class_by s.method.rec.handlers q.pool)))
             (λ q t. (t.0, t.1)) (ranges_from s 0 hs) all;
         classes =
-            Each-weaker (IsCaught s l.rules mo by_pool) (λ (q : Range). IsClass s.world.classes (class_by s.method.rec.handlers q.pool)) (λ q t. t.2)
+            Each-weaker (IsCaught s l.rules mo) (λ (q : Range). IsClass s.world.classes (class_by s.method.rec.handlers q.pool)) (λ q t. t.2)
             (ranges_from s 0 hs) all;
         order = ranges-filled s code listed ready.has full 0 hs (handlers-are s code listed ready.has full);
         no_others = λ m c a asks. no-others s listed code m c a asks;

@@ -5,7 +5,7 @@ use Rattle.std.specs.Prelude.{⊤}
 use Rattle.std.proofs.lemmas.Bool.Decides.{nat_tests}
 use Rattle.jc_base.specs.Class.{ClassTable}
 use Rattle.jc_base.specs.Each.{IsAmong}
-use Rattle.jc_base.specs.Laws.{ClassesAreObjects, SameTypeDecides, IsOrderOfTypes}
+use Rattle.jc_base.specs.Laws.{ClassesAreObjects, IsOrderOfTypes}
 use Rattle.jc_base.specs.Order.{Below, is_below, IsKnown}
 use Rattle.jc_base.specs.declared.ty.Ty.{Ty}
 use Rattle.jc_base.specs.declared.ty.Ty.TheVariants.{Bottom, Short, IntHigh, IntLow, Top}
@@ -13,6 +13,7 @@ use Rattle.jc_base.specs.declared.ty.Kind.TheVariants as kinds
 use Rattle.jc_base.specs.declared.record.MethodRec.{MethodRec}
 use Rattle.jc_base.specs.World.{Linked}
 use Rattle.jc_base.proofs.Lists.{All-slice_get}
+use Rattle.jc_base.proofs.SameTypes.{same_type-decides}
 use Rattle.jc_ops.specs.declared.operation.Arithmetic.TheVariants as arithmetic
 use Rattle.jc_ops.specs.declared.operation.Branch.TheVariants as branches
 use Rattle.jc_ops.specs.declared.operation.Constant.TheVariants as constants
@@ -36,7 +37,6 @@ use Rattle.jc_rules.specs.Laws.{IsNotBottom}
 use Rattle.jc_rules.specs.Rule.{effect}
 use Rattle.xf_homes.specs.declared.home.Home.{Home}
 use Rattle.xf_homes.specs.Home.{argument_types, asked_here}
-use Rattle.xf_homes.specs.Laws.{NeededAreKept}
 use Rattle.xf_homes.specs.Value.{value_in_cells}
 use Rattle.xf_homes.specs.Walk.{local_of}
 use Rattle.xf_homes.proofs.Events.{among-has}
@@ -243,7 +243,7 @@ home-at cells x from e = by (value_in_cells cells x) refl e
         let own : record { slot = x; ty = ty } ≡ from = cc in
         record { slot = ap (λ (k : Home). k.slot) (sym own); value = h ∙ ap (λ (k : Home). Some k.ty) own }
 
-module _ (same_is : SameTypeDecides) (kept : NeededAreKept) (s : Source) (objects : ClassesAreObjects s.world.classes) (rules : AreRules s.world)
+module _ {s : Source} (objects : ClassesAreObjects s.world.classes) (rules : AreRules s.world)
     (ready : IsReady s) (r : MethodRec) (asks : ℕ → Asked) where
   local-is : (p x : ℕ) (f : Frame) (from : Home) → s.frames p ≡ Some f → home_of x (local_of (s.frames p) x) ≡ Some from → IsHomeAt f.regs x from
   local-is p x f from e h = home-at f.regs x from (ap (λ (o : Option Frame). home_of x (local_of o x)) (sym e) ∙ h)
@@ -255,11 +255,11 @@ module _ (same_is : SameTypeDecides) (kept : NeededAreKept) (s : Source) (object
       → Stands s objects r (registers_of s.homes) asks from
   from-stands p x f from e is =
       subst (Stands s objects r (registers_of s.homes) asks) (home-is from x is.slot)
-      (local-stands same_is kept s objects rules ready r asks p f x from.ty e is.value)
+      (local-stands objects rules ready r asks p f x from.ty e is.value)
 
   is-needed : (p x : ℕ) (f : Frame) (from : Home) → s.frames p ≡ Some f → IsHomeAt f.regs x from → IsAmong from (needed s p x)
   is-needed p x f from e is =
-      ((needed-are same_is kept s objects rules ready r asks p x).all from).1
+      ((needed-are objects rules ready r asks p x).all from).1
       (is.slot, (0, asked_here (subst (λ (o : Option Frame). IsSomeAnd o (λ (g : Frame). value_in_cells g.regs x ≡ Some from.ty)) (sym e) is.value)))
 
   -- after an instruction, into a place whose frame is above what it leaves
@@ -269,11 +269,11 @@ module _ (same_is : SameTypeDecides) (kept : NeededAreKept) (s : Source) (object
       → OperationApplies s.world limit op Flow f after o
       → s.frames q ≡ Some g
       → CellsBelow s.world.classes after.regs g.regs
-      → (y : ℕ) (from : Home) → home_before s (After p op) y ≡ Some from → Carries same_is kept s objects rules ready r asks (After p op) q y from
+      → (y : ℕ) (from : Home) → home_before s (After p op) y ≡ Some from → Carries objects rules ready r asks (After p op) q y from
   carries-after p q limit op f after g o e a to below y from h = by (is_stored op y) refl h
     where
       by : (b : Bool) → is_stored op y ≡ b → (if b then None else home_of y (local_of (s.frames p) y)) ≡ Some from
-          → Carries same_is kept s objects rules ready r asks (After p op) q y from
+          → Carries objects rules ready r asks (After p op) q y from
       by true stored h = absurd (cc)
       by false stored h =
           let is = local-is p y f from e h in
@@ -281,21 +281,21 @@ module _ (same_is : SameTypeDecides) (kept : NeededAreKept) (s : Source) (object
           record {
             slot = is.slot;
             stands = from-stands p y f from e is;
-            there = among-has same_is (needed s p y) from (is-needed p y f from e is);
-            below = λ k among. (needed-served same_is kept s objects rules ready r asks q y k among).above after.regs g from.ty to below later;
+            there = among-has same_type-decides (needed s p y) from (is-needed p y f from e is);
+            below = λ k among. (needed-served objects rules ready r asks q y k among).above after.regs g from.ty to below later;
           }
 
   -- where a handler takes over, into its entry
   pub carries-entry : (q : ℕ) (g : Frame) → s.frames q ≡ Some g → (y : ℕ) (from : Home) → home_before s (Entry q) y ≡ Some from
-      → Carries same_is kept s objects rules ready r asks (Entry q) q y from
+      → Carries objects rules ready r asks (Entry q) q y from
   carries-entry q g to y from h =
       let is = local-is q y g from to h in
       record {
         slot = is.slot;
         stands = from-stands q y g from to is;
-        there = among-has same_is (from ∷ []) from (inl refl);
+        there = among-has same_type-decides (from ∷ []) from (inl refl);
         below =
-            λ k among. (needed-served same_is kept s objects rules ready r asks q y k among).above g.regs g from.ty to (rules.order.self g.regs)
+            λ k among. (needed-served objects rules ready r asks q y k among).above g.regs g from.ty to (rules.order.self g.regs)
             (value-is g.regs y from.ty is.value).first;
       }
 
@@ -308,7 +308,7 @@ module _ (same_is : SameTypeDecides) (kept : NeededAreKept) (s : Source) (object
   pub carries-start : (g : Frame) → s.frames 0 ≡ Some g → CellsBelow s.world.classes (start_frame s.method.rec Top).regs g.regs
       → All (IsKnown s.world.classes) (argument_types s.method.rec) → All IsNotBottom (argument_types s.method.rec)
       → All IsNotFresh (argument_types s.method.rec)
-      → (y : ℕ) (from : Home) → home_before s Start y ≡ Some from → Carries same_is kept s objects rules ready r asks Start 0 y from
+      → (y : ℕ) (from : Home) → home_before s Start y ≡ Some from → Carries objects rules ready r asks Start 0 y from
   carries-start g to below known full fresh y from h =
       let is = home-at (argument_types s.method.rec) y from h in
       let argument : value_in_cells (argument_types s.method.rec) from.slot ≡ Some from.ty = ap (value_in_cells (argument_types s.method.rec)) is.slot
@@ -316,10 +316,10 @@ module _ (same_is : SameTypeDecides) (kept : NeededAreKept) (s : Source) (object
       record {
         slot = is.slot;
         stands =
-            home-stands same_is kept s objects rules ready r asks from (from.slot, ready.serve.arguments from argument)
+            home-stands objects rules ready r asks from (from.slot, ready.serve.arguments from argument)
             (value-plain s.world.classes (argument_types s.method.rec) y from.ty is.value known full fresh);
-        there = among-has same_is (from ∷ []) from (inl refl);
-        below = λ k among. (needed-served same_is kept s objects rules ready r asks 0 y k among).above (start_frame s.method.rec Top).regs g from.ty to below
+        there = among-has same_type-decides (from ∷ []) from (inl refl);
+        below = λ k among. (needed-served objects rules ready r asks 0 y k among).above (start_frame s.method.rec Top).regs g from.ty to below
             (get-left (argument_types s.method.rec) (replicate s.method.rec.max_locals Top) y from.ty
             (value-is (argument_types s.method.rec) y from.ty is.value).first);
       }

@@ -2,18 +2,18 @@
 use Rattle.std.proofs.Common.{◌≡◌, ◌≢◌, ◌⊎◌, ℕ, zero, suc, ◌+◌, ◌≤◌, Bool, true, false, inl, inr, List, [], ◌∷◌, ◌++◌}
 use Rattle.std.proofs.Common.{length, flat_map, Option, Some, None, refl, sym, ◌∙◌, ap, subst, arith, length-append}
 use Rattle.jc_base.specs.Each.{IsAmong}
-use Rattle.jc_base.specs.Laws.{ClassesAreObjects, SameTypeDecides, IsOrderOfTypes}
+use Rattle.jc_base.specs.Laws.{ClassesAreObjects, IsOrderOfTypes}
 use Rattle.jc_base.specs.Class.{ClassTable}
 use Rattle.jc_base.specs.Order.{Below, is_below}
 use Rattle.jc_base.specs.declared.record.MethodRec.{MethodRec}
 use Rattle.jc_base.specs.declared.ty.Ty.{Ty}
 use Rattle.jc_base.specs.declared.ty.Ty.TheVariants.{Bottom, Short, IntHigh, Top}
+use Rattle.jc_base.proofs.SameTypes.{same_type-decides}
 use Rattle.jc_decode.specs.declared.symbols.Item.{Item}
 use Rattle.jc_rules.specs.Flow.{CellsBelow, no_cells, more_cells}
 use Rattle.jc_rules.specs.FlowLaws.{AreRules}
 use Rattle.xf_homes.specs.declared.home.Home.{Home}
 use Rattle.xf_homes.specs.Home.{register_count}
-use Rattle.xf_homes.specs.Laws.{NeededAreKept}
 use Rattle.xf_homes.specs.Walk.{has, same_home}
 use Rattle.xf_homes.proofs.Events.{home-itself}
 use Rattle.xf_homes.specs.Source.{Source}
@@ -68,7 +68,7 @@ module _ (t : ClassTable) (types : IsOrderOfTypes t) where
             one-on b (λ e. n (not-high a ((types.decided a IntHigh).1 (subst (Below t a) e le)) v)),
           )
 
-module _ (same_is : SameTypeDecides) (kept : NeededAreKept) (s : Source) (objects : ClassesAreObjects s.world.classes) (rules : AreRules s.world)
+module _ {s : Source} (objects : ClassesAreObjects s.world.classes) (rules : AreRules s.world)
     (ready : IsReady s) (r : MethodRec) (asks : ℕ → Asked) where
   abbrev regs : List Ty
   regs = registers_of s.homes
@@ -135,7 +135,7 @@ module _ (same_is : SameTypeDecides) (kept : NeededAreKept) (s : Source) (object
       by (Some from) c =
           let k = c from refl in
           flat-goes (copy_new s from (homes_held s o x from)) (needed s q x) (needed s q x) stack (λ h a. a)
-          (λ h a. let n = needed-served same_is kept s objects rules ready r asks q x h a in new-goes from h (homes_held s o x from) stack k.stands
+          (λ h a. let n = needed-served objects rules ready r asks q x h a in new-goes from h (homes_held s o x from) stack k.stands
           n.stands (k.below h a) (k.slot ∙ sym n.slot) k.there room)
 
   locals-go : (o : Origin) (q x n : ℕ) (stack : List Ty) → ((y : ℕ) (from : Home) → home_before s o y ≡ Some from → Carries o q y from)
@@ -171,5 +171,5 @@ module _ (same_is : SameTypeDecides) (kept : NeededAreKept) (s : Source) (object
     where
       by : same_home h k ≡ false → (h.ty ≡ k.ty) ⊎ ((cells_on h.ty ≡ h.ty ∷ []) × (cells_on k.ty ≡ k.ty ∷ []))
           → Goes s.world r (registers_of s.homes) asks (holding stack) (copy s h k) (holding stack)
-      by e (inl f) = absurd (never (same_home h k) (ap (same_home h) (sym (home-same h k slots f)) ∙ home-itself same_is h) e)
+      by e (inl f) = absurd (never (same_home h k) (ap (same_home h) (sym (home-same h k slots f)) ∙ home-itself same_type-decides h) e)
       by e (inr p) = copy-goes h k stack a b le p.0 p.1 room

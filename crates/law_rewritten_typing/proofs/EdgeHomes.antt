@@ -13,6 +13,7 @@ use Rattle.jc_base.specs.World.{Linked}
 use Rattle.jc_base.specs.declared.record.MethodRec.{MethodRec}
 use Rattle.jc_base.specs.declared.ty.Ty.{Ty}
 use Rattle.jc_base.specs.declared.ty.Ty.TheVariants.{Bottom, IntHigh, IntLow, Fresh, Top}
+use Rattle.jc_base.proofs.SameTypes.{same_type-decides}
 use Rattle.jc_decode.specs.declared.insn.Placed.{Placed}
 use Rattle.jc_ops.specs.declared.fault.RuleFault.{RuleFault}
 use Rattle.jc_ops.specs.declared.operation.Operation.{Operation}
@@ -23,25 +24,25 @@ use Rattle.jc_rules.specs.Flow.{FrameBelow, IsFit, IsFollowed, IsDerived, derive
 use Rattle.jc_rules.specs.Laws.{IsNotBottom}
 use Rattle.xf_homes.specs.declared.home.Home.{Home}
 use Rattle.xf_homes.specs.Home.{register_count, argument_types, IsAsked, asked_here, KeepsStack}
-use Rattle.xf_homes.specs.Laws.{HomesServe}
 use Rattle.xf_homes.specs.Order.{SlotsFollow, register_sum}
 use Rattle.xf_homes.specs.Value.{value_in_cells, value_of, type_width}
 use Rattle.xf_homes.specs.Walk.{local_of}
 use Rattle.xf_homes.proofs.Events.{among-has}
 use Rattle.xf_homes.specs.Source.{Source}
 use Rattle.xf_homes.specs.Plan.{stack_homes, cells_from, needed, operation, stack_of, with_home_of, home_of}
+use Rattle.xf_homes.proofs.Serving.{homes-serve}
 use Rattle.xf_emission.specs.declared.origin.Origin.{Origin}
 use Rattle.xf_emission.specs.declared.origin.Origin.TheVariants.{Start, After, Entry}
 use Rattle.xf_emission.specs.Edge.{is_stored}
 use Rattle.law_rewritten_typing.specs.Planned.{IsPlanned, IsKept, KeepsValues}
 use Rattle.law_rewritten_typing.specs.Edges.{IsNeededFor, NeededHaveHomes, slot_types, FillStack, CellsFillStack, LeadsTo, leads_start, leads_after}
 use Rattle.law_rewritten_typing.specs.Edges.{leads_entry, stored_at, IsCarried, EdgesCarry}
-use Rattle.law_rewritten_typing.specs.Whole.{IsWholeFrame, DerivedAreWhole}
+use Rattle.law_rewritten_typing.specs.Whole.{IsWholeFrame}
 use Rattle.law_rewritten_typing.proofs.Walks.{Asked, nothing_asked}
 use Rattle.law_rewritten_typing.proofs.Moves.{IsPlainValue}
 use Rattle.law_rewritten_typing.proofs.Ready.{IsReady, value-is, value-plain, framed, reached, found, needed-are}
 use Rattle.law_rewritten_typing.proofs.Registers.{kept-ready, arguments-known, arguments-full, arguments-ready}
-use Rattle.law_rewritten_typing.proofs.Running.{AreLaws}
+use Rattle.law_rewritten_typing.specs.Premises.{AreLaws}
 use Rattle.law_rewritten_typing.proofs.Carried.{is-high}
 use Rattle.law_rewritten_typing.proofs.Matching.{home-one, home-int}
 use Rattle.law_rewritten_typing.proofs.Below.{value-moved, value-before, value-below, loads-same, unwritten, unspoiled}
@@ -115,7 +116,7 @@ fills slot pre _ over (one_cell {a = a} {types = us} h is) top =
 
 -- ---- places and edges
 
-module _ (s : Source) (l : AreLaws s.world) (dw : DerivedAreWhole s.world) (sv : HomesServe s.world) (plan : IsPlanned s) where
+module _ (s : Source) (l : AreLaws s.world) (plan : IsPlanned s) where
   abbrev asks : ℕ → Asked
   asks n = nothing_asked
 
@@ -126,9 +127,9 @@ module _ (s : Source) (l : AreLaws s.world) (dw : DerivedAreWhole s.world) (sv :
   ready = record {
     typing = plan.typing;
     has = plan.frames;
-    whole = λ p f e. dw s.method p f plan.method (subst (λ (o : Option Frame). IfSome o (IsDerived s.world s.method Top p)) e (plan.derived p));
+    whole = λ p f e. l.derived s.method p f plan.method (subst (λ (o : Option Frame). IfSome o (IsDerived s.world s.method Top p)) e (plan.derived p));
     marks = plan.leaders;
-    serve = sv s.method s.frames s.homes plan.homes;
+    serve = homes-serve same_type-decides s.world s.method s.frames s.homes plan.homes;
     few = plan.few;
   }
 
@@ -136,11 +137,11 @@ module _ (s : Source) (l : AreLaws s.world) (dw : DerivedAreWhole s.world) (sv :
   some-same f g e = cc
 
   reached-at : (p : ℕ) (f : Frame) → s.frames p ≡ Some f → IsReached s.method p
-  reached-at p f e = reached l.same_is l.needed s l.objects l.rules ready r asks p f e
+  reached-at p f e = reached l.objects l.rules ready r asks p f e
 
   pub fit-at : (p : ℕ) (f : Frame) → s.frames p ≡ Some f → IsFit s.method f
   fit-at p f e =
-      let k = framed l.same_is l.needed s l.objects l.rules ready r asks (s.frames p) (IsFit s.method) (plan.typing.fit p (reached-at p f e)) in
+      let k = framed l.objects l.rules ready r asks (s.frames p) (IsFit s.method) (plan.typing.fit p (reached-at p f e)) in
       subst (IsFit s.method) (some-same k.0 f (sym k.1 ∙ e)) k.2
 
   home-is : (h : Home) (x : ℕ) → h.slot ≡ x → h ≡ record { slot = x; ty = h.ty }
@@ -157,8 +158,8 @@ module _ (s : Source) (l : AreLaws s.world) (dw : DerivedAreWhole s.world) (sv :
 
   needed-for : (q x : ℕ) (f : Frame) (h : Home) → s.frames q ≡ Some f → IsAmong h (needed s q x) → IsNeededFor s f x h
   needed-for q x f h e a =
-      let n = ((needed-are l.same_is l.needed s l.objects l.rules ready r asks q x).all h).0 a in
-      let k = found l.same_is l.needed s l.objects l.rules ready r asks q x n.1.0 h.ty n.1.1 in
+      let n = ((needed-are l.objects l.rules ready r asks q x).all h).0 a in
+      let k = found l.objects l.rules ready r asks q x n.1.0 h.ty n.1.1 in
       let value : value_in_cells k.frame.regs h.slot ≡ Some h.ty = ap (value_in_cells k.frame.regs) n.0 ∙ k.value in
       record {
         slot = n.0;
@@ -179,7 +180,7 @@ module _ (s : Source) (l : AreLaws s.world) (dw : DerivedAreWhole s.world) (sv :
       let types = reverse f.stack in
       let whole = ready.whole q f e in
       let no_top = All-reverse IsNotTop f.stack (fit-at q f e).no_top in
-      let fresh = kept-ready l.same_is l.needed s l.objects l.rules ready r asks l.alike plan.code q f e keeps in
+      let fresh = kept-ready l.objects l.rules ready r asks l.alike plan.code q f e keeps in
       let count : length f.regs ≡ base = subst (λ (o : Option Frame). IfSome o (λ g. length g.regs ≡ base)) e (plan.registers q) in
       let is = cells-are q f e in
       let full : types ++ [] ≡ types = append-nil types in
@@ -222,24 +223,24 @@ module _ (s : Source) (l : AreLaws s.world) (dw : DerivedAreWhole s.world) (sv :
 
   on-start : (x : ℕ) (h : Home) → IsAmong h (needed s 0 x) → (from : Home) × IsCarried s Start h from
   on-start x h a =
-      let begun = framed l.same_is l.needed s l.objects l.rules ready r asks (s.frames 0) (FrameBelow s.world.classes (start_frame s.method.rec Top))
+      let begun = framed l.objects l.rules ready r asks (s.frames 0) (FrameBelow s.world.classes (start_frame s.method.rec Top))
       plan.typing.start in
       let k = needed-for 0 x begun.0 h begun.1 a in
-      let whole : IsWholeFrame s.world (start_frame s.method.rec Top) = dw s.method 0 (start_frame s.method.rec Top) plan.method derived_start in
+      let whole : IsWholeFrame s.world (start_frame s.method.rec Top) = l.derived s.method 0 (start_frame s.method.rec Top) plan.method derived_start in
       let v = value-below s.world.classes l.rules.types (start_frame s.method.rec Top).regs k.types (l.rules.order.through begun.2.regs k.above) whole.regs
       h.slot h.ty k.value in
       let own : value_in_cells (argument_types s.method.rec) h.slot ≡ Some v.0 = value-before (argument_types s.method.rec) s.method.rec.max_locals h.slot v.0
       (ap (λ (ts : List Ty). value_in_cells ts h.slot) (start-is) ∙ v.1) in
       let from : Home = record { slot = h.slot; ty = v.0 } in
-      let known = arguments-known l.same_is l.needed s l.objects l.rules ready r asks l.alike plan.code plan.method dw plan.homes in
-      let full = arguments-full l.same_is l.needed s l.objects l.rules ready r asks l.alike plan.code plan.method dw plan.homes in
-      let fresh = arguments-ready l.same_is l.needed s l.objects l.rules ready r asks l.alike plan.code plan.method dw plan.homes in
+      let known = arguments-known l.objects l.rules ready r asks l.alike plan.code plan.method l.derived plan.homes in
+      let full = arguments-full l.objects l.rules ready r asks l.alike plan.code plan.method l.derived plan.homes in
+      let fresh = arguments-ready l.objects l.rules ready r asks l.alike plan.code plan.method l.derived plan.homes in
       let plain = value-plain s.world.classes (argument_types s.method.rec) h.slot v.0 own known full fresh in (
         from,
         record {
           before = home-of (argument_types s.method.rec) h v.0 own;
           slot = refl;
-          there = among-has l.same_is (from ∷ []) from (inl refl);
+          there = among-has same_type-decides (from ∷ []) from (inl refl);
           keeps = record { kept = kept-is v.0 plain.0; known = plain.1; has = (h.slot, ready.serve.arguments from own) };
           loads = loads-same s.world.classes l.rules.types v.0 h.ty v.2
               (All-slice_get IsNotBottom (start_frame s.method.rec Top).regs h.slot v.0 whole.regs
@@ -263,7 +264,7 @@ module _ (s : Source) (l : AreLaws s.world) (dw : DerivedAreWhole s.world) (sv :
         record {
           before = ap (λ (o : Option Frame). home_of h.slot (local_of o h.slot)) g.1 ∙ home-of g.0.regs h v.0 v.1;
           slot = refl;
-          there = among-has l.same_is (from ∷ []) from (inl refl);
+          there = among-has same_type-decides (from ∷ []) from (inl refl);
           keeps = local-keeps q g.0 from g.1 v.1;
           loads = loads-same s.world.classes l.rules.types v.0 h.ty v.2
               (All-slice_get IsNotBottom g.0.regs h.slot v.0 whole.regs (value-is g.0.regs h.slot v.0 v.1).first) (kept-not-top h.ty k.keeps.kept);
@@ -279,18 +280,18 @@ module _ (s : Source) (l : AreLaws s.world) (dw : DerivedAreWhole s.world) (sv :
       → IsSuccessor s.method.code i q → IsAmong h (needed s q x)
       → (is_stored op h.slot ≡ true) ⊎ ((from : Home) × IsCarried s (After i.place op) h from)
   on-after i op q x h st there is succ a =
-      let follows = framed l.same_is l.needed s l.objects l.rules ready r asks (s.frames i.place) (IsFollowed s.world s.method s.frames i)
+      let follows = framed l.objects l.rules ready r asks (s.frames i.place) (IsFollowed s.world s.method s.frames i)
       (plan.typing.rules i st there) in
       let f = follows.0 in
       let after = follows.2.after in
       let step = follows.2.steps.1 in
       let own_op : step.operation ≡ op = ok-same step.operation op (step.resolves ∙ is) in
-      let next = framed l.same_is l.needed s l.objects l.rules ready r asks (s.frames q) (FrameBelow s.world.classes after) (follows.2.below q succ) in
+      let next = framed l.objects l.rules ready r asks (s.frames q) (FrameBelow s.world.classes after) (follows.2.below q succ) in
       let k = needed-for q x next.0 h next.1 a in
       let before_whole = ready.whole i.place f follows.1 in
       let derived : IsDerived s.world s.method Top i.place f =
       subst (λ (o : Option Frame). IfSome o (IsDerived s.world s.method Top i.place)) follows.1 (plan.derived i.place) in
-      let after_whole = dw s.method q after plan.method (derived_next {i = i} derived st follows.2.steps succ) in
+      let after_whole = l.derived s.method q after plan.method (derived_next {i = i} derived st follows.2.steps succ) in
       let v = value-below s.world.classes l.rules.types after.regs k.types (l.rules.order.through next.2.regs k.above) after_whole.regs h.slot h.ty k.value in
       let value = value-is after.regs h.slot v.0 v.1 in
       let full = All-slice_get IsNotBottom after.regs h.slot v.0 after_whole.regs value.first in
@@ -320,8 +321,8 @@ module _ (s : Source) (l : AreLaws s.world) (dw : DerivedAreWhole s.world) (sv :
                   ∙ ap (λ (o : Option Frame). home_of h.slot (local_of o h.slot)) at ∙ home-of f.regs h u own;
               slot = refl;
               there =
-                  among-has l.same_is (needed s i.place h.slot) from
-                  (((needed-are l.same_is l.needed s l.objects l.rules ready r asks i.place h.slot).all from).1
+                  among-has same_type-decides (needed s i.place h.slot) from
+                  (((needed-are l.objects l.rules ready r asks i.place h.slot).all from).1
                   (refl, (0, asked_here (subst (λ (o : Option Frame). IsSomeAnd o (λ (g : Frame). value_in_cells g.regs h.slot ≡ Some u)) (sym at) own))));
               keeps = local-keeps i.place f from at own;
               loads = loads-same s.world.classes l.rules.types u h.ty le full (kept-not-top h.ty kept);
@@ -344,12 +345,12 @@ module _ (s : Source) (l : AreLaws s.world) (dw : DerivedAreWhole s.world) (sv :
   carry _ _ x h (leads_after {i = i} {op = op} {q = q} st there is succ) a = on-after i op q x h st there is succ a
   carry _ _ x h (leads_entry {q = q} there) a = inr (on-entry q x h there a)
 
-module _ (w : Linked) (laws : AreLaws w) (dw : DerivedAreWhole w) (sv : HomesServe w) where
+module _ (w : Linked) (laws : AreLaws w) where
   pub needed-have-homes : NeededHaveHomes w
-  needed-have-homes s own plan = needed-for s (subst AreLaws (sym own) laws) (subst DerivedAreWhole (sym own) dw) (subst HomesServe (sym own) sv) plan
+  needed-have-homes s own plan = needed-for s (subst AreLaws (sym own) laws) plan
 
   pub cells-fill-stack : CellsFillStack w
-  cells-fill-stack s own plan = fill-stack s (subst AreLaws (sym own) laws) (subst DerivedAreWhole (sym own) dw) (subst HomesServe (sym own) sv) plan
+  cells-fill-stack s own plan = fill-stack s (subst AreLaws (sym own) laws) plan
 
   pub edges-carry : EdgesCarry w
-  edges-carry s own plan = carry s (subst AreLaws (sym own) laws) (subst DerivedAreWhole (sym own) dw) (subst HomesServe (sym own) sv) plan
+  edges-carry s own plan = carry s (subst AreLaws (sym own) laws) plan

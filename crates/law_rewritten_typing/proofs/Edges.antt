@@ -44,7 +44,8 @@ use Rattle.law_rewritten_typing.proofs.Carried.{carries-after, carries-entry}
 use Rattle.law_rewritten_typing.proofs.Registers.{kept-ready}
 use Rattle.law_rewritten_typing.proofs.Cuts.{IsForked, IsCut}
 use Rattle.law_rewritten_typing.proofs.Matching.{matched}
-use Rattle.law_rewritten_typing.proofs.Running.{AreLaws, IsRecordFor, IsRun}
+use Rattle.law_rewritten_typing.specs.Premises.{AreLaws}
+use Rattle.law_rewritten_typing.proofs.Running.{IsRecordFor, IsRun}
 use Rattle.law_rewritten_typing.proofs.Leading.{fit-at, cells-are, cells-stand, spill-at, named-at, goto-flows, is-kept, below-lesser, emptied_there}
 use Rattle.law_rewritten_typing.proofs.Leading.{falls_there, FallsInto, fall-arrives}
 use Rattle.law_rewritten_typing.proofs.ForkTypings.{each-left, all-right, empty-is, named-all, fork, depth-is, keeps-over, cut-at, stand-cut}
@@ -57,16 +58,16 @@ module _ (new : ℕ → ℕ) (apart : (a b : ℕ) → new a ≡ new b → a ≡ 
 
     carries : (i : Placed) (op : Operation) (f after g : Frame) (q : ℕ) → IsRun s i op f after → s.frames q ≡ Some g
         → FrameBelow s.world.classes after g
-        → (y : ℕ) (from : Home) → home_before s (After i.place op) y ≡ Some from → Carries l.same_is l.needed s l.objects l.rules ready r asks
+        → (y : ℕ) (from : Home) → home_before s (After i.place op) y ≡ Some from → Carries l.objects l.rules ready r asks
         (After i.place op) q y from
     carries i op f after g q run to below =
-        carries-after l.same_is l.needed s l.objects l.rules ready r asks i.place q s.method.rec.max_stack op f after g run.outcome run.at run.does to
+        carries-after l.objects l.rules ready r asks i.place q s.method.rec.max_stack op f after g run.outcome run.at run.does to
         below.regs
 
     copies-after : (i : Placed) (op : Operation) (f after g : Frame) (q : ℕ) → IsRun s i op f after → s.frames q ≡ Some g
         → FrameBelow s.world.classes after g → Going [] (copies s (After i.place op) q) []
     copies-after i op f after g q run to below =
-        copies-go l.same_is l.needed s l.objects l.rules ready r asks (After i.place op) q [] (carries i op f after g q run to below)
+        copies-go l.objects l.rules ready r asks (After i.place op) q [] (carries i op f after g q run to below)
         (omega (arith, own_rec.room))
 
     -- ---- where a conditional is taken
@@ -114,10 +115,10 @@ module _ (new : ℕ → ℕ) (apart : (a b : ℕ) → new a ≡ new b → a ≡ 
             (All-reverse IsNotTop g.stack (fit-at new apart s l ready r own_rec asks res code q g to).no_top)
             (subst (Each (Stands s l.objects r (registers_of s.homes) asks)) first stands)
             (subst (Each (Stands s l.objects r (registers_of s.homes) asks)) second others) in
-            cells-go l.same_is l.needed s l.objects l.rules ready r asks (under s i.place n) (stack_homes s q) []
-            (subst (λ (hs : List Home). AreUnder l.same_is l.needed s l.objects l.rules ready r asks hs (stack_homes s q)) (sym first)
+            cells-go l.objects l.rules ready r asks (under s i.place n) (stack_homes s q) []
+            (subst (λ (hs : List Home). AreUnder l.objects l.rules ready r asks hs (stack_homes s q)) (sym first)
             (subst
-            (λ (ks : List Home). AreUnder l.same_is l.needed s l.objects l.rules ready r asks
+            (λ (ks : List Home). AreUnder l.objects l.rules ready r asks
             (cells_from (register_count s.method.rec) (reverse after.stack ++ reverse k.operands) 0 (length (reverse after.stack))) ks) (sym second) m))
             (omega (arith, own_rec.room))
 
@@ -147,7 +148,7 @@ module _ (new : ℕ → ℕ) (apart : (a b : ℕ) → new a ≡ new b → a ≡ 
             let stands = each-left (Stands s l.objects r (registers_of s.homes) asks) (under s i.place n) (operands s i.place n)
             (stand-cut new apart s l ready r own_rec asks res code i op f after n run k keeps) in
             let whole = ready.whole i.place f run.at in
-            let fresh = kept-ready l.same_is l.needed s l.objects l.rules ready r asks l.alike code i.place f run.at keeps in
+            let fresh = kept-ready l.objects l.rules ready r asks l.alike code i.place f run.at keeps in
             let own : map (named new apart) after.stack ≡ after.stack = named-all new apart after.stack
             (all-right IsNotFresh k.operands after.stack (subst (All IsNotFresh) k.parts fresh)) in
             let lesser : IsLesser s.world after after.stack = record {
@@ -221,8 +222,8 @@ module _ (new : ℕ → ℕ) (apart : (a b : ℕ) → new a ≡ new b → a ≡ 
         (spill-at new apart s l ready r own_rec asks res code h.entry g (Class h.class ∷ []) to
         (is-kept new apart s l ready r own_rec asks res code h.entry lead) le at)
         (flows-append s.world r (registers_of s.homes) asks
-        (copies-go l.same_is l.needed s l.objects l.rules ready r asks (Entry h.entry) h.entry []
-        (carries-entry l.same_is l.needed s l.objects l.rules ready r asks h.entry g to) (omega (arith, own_rec.room))
+        (copies-go l.objects l.rules ready r asks (Entry h.entry) h.entry []
+        (carries-entry l.objects l.rules ready r asks h.entry g to) (omega (arith, own_rec.room))
         (at + count (spill s (stack_homes s h.entry))))
         (goto-flows new apart s l ready r own_rec asks res code (at + count (spill s (stack_homes s h.entry)) + count (copies s (Entry h.entry) h.entry))
         h.entry)))

@@ -25,7 +25,6 @@ use Rattle.jc_rules.proofs.Decides.{ok-same}
 use Rattle.jc_flow.proofs.Derived.{of_world}
 use Rattle.xf_homes.specs.declared.home.Home.{Home}
 use Rattle.xf_homes.specs.Home.{IsConditional, register_count}
-use Rattle.xf_homes.specs.Laws.{HomesServe}
 use Rattle.xf_homes.specs.Order.{register_sum}
 use Rattle.xf_homes.specs.Value.{type_width}
 use Rattle.xf_homes.specs.Walk.{operands_of}
@@ -37,9 +36,8 @@ use Rattle.law_laid.specs.Laid.{record_with}
 use Rattle.law_rewritten_typing.specs.Planned.{IsPlanned, KeepsValues}
 use Rattle.law_rewritten_typing.specs.Edges.{AreMatched, none_matched, more_matched, IsForkedAt, ForksAreCut, ForksMatch}
 use Rattle.law_rewritten_typing.specs.Typed.{registers_of}
-use Rattle.law_rewritten_typing.specs.Whole.{DerivedAreWhole}
 use Rattle.law_rewritten_typing.proofs.Walks.{Asked, nothing_asked}
-use Rattle.law_rewritten_typing.proofs.Running.{AreLaws}
+use Rattle.law_rewritten_typing.specs.Premises.{AreLaws}
 use Rattle.law_rewritten_typing.proofs.Cuts.{IsForked, IsCut}
 use Rattle.law_rewritten_typing.proofs.ForkTypings.{fork, cut-at, depth-is, keeps-over, all-right, each-left}
 use Rattle.law_rewritten_typing.proofs.Listings.{IsReachedRun, run-of}
@@ -110,7 +108,7 @@ module _ (s : Source) (l : AreLaws s.world) where
       (sym right_is)
       (more_matched slots a2.0 b2.0 (loads-same s.world.classes l.rules.types u p le (All-head IsNotBottom u us full) (All-head IsNotTop p vs top2)) rest))
 
-module _ (s : Source) (l : AreLaws s.world) (dw : DerivedAreWhole s.world) (sv : HomesServe s.world) (plan : IsPlanned s) where
+module _ (s : Source) (l : AreLaws s.world) (plan : IsPlanned s) where
   abbrev new : ℕ → ℕ
   new n = n
 
@@ -128,8 +126,8 @@ module _ (s : Source) (l : AreLaws s.world) (dw : DerivedAreWhole s.world) (sv :
 
   module _ (i : Placed) (op : Operation) (n : ℕ) (f : Frame) (st : HasInstruction s.method.code i) (at : s.frames i.place ≡ Some f)
       (names : operation s i ≡ Ok op) (some : operands_of s.world (Ok op) ≡ Some n) where
-    k : IsReachedRun new apart s l (ready s l dw sv plan) r (record-for s) asks res plan.code i f
-    k = run-of new apart s l (ready s l dw sv plan) r (record-for s) asks res plan.code i f st at
+    k : IsReachedRun new apart s l (ready s l plan) r (record-for s) asks res plan.code i f
+    k = run-of new apart s l (ready s l plan) r (record-for s) asks res plan.code i f st at
 
     same_op : op ≡ k.op
     same_op = ok-same (sym names ∙ k.run.resolves)
@@ -141,14 +139,14 @@ module _ (s : Source) (l : AreLaws s.world) (dw : DerivedAreWhole s.world) (sv :
     is = conditional-of s k.op n takes
 
     forked : IsForked s.world k.op n f.stack k.after.stack (registers_of s.homes)
-    forked = fork new apart s l (ready s l dw sv plan) r (record-for s) asks res plan.code i k.op f k.after n k.run is takes
+    forked = fork new apart s l (ready s l plan) r (record-for s) asks res plan.code i k.op f k.after n k.run is takes
 
     cut : IsCut s i.place n forked.operands k.after.stack
-    cut = cut-at new apart s l (ready s l dw sv plan) r (record-for s) asks res plan.code i k.op f k.after n k.run forked
+    cut = cut-at new apart s l (ready s l plan) r (record-for s) asks res plan.code i k.op f k.after n k.run forked
 
     whole_after : AreWhole (reverse k.after.stack)
     whole_after =
-        l.whole s.method.rec.max_stack s.method.rec i.place k.op _ f k.after k.run.outcome k.run.sound ((ready s l dw sv plan).whole i.place f at).whole
+        l.whole s.method.rec.max_stack s.method.rec i.place k.op _ f k.after k.run.outcome k.run.sound ((ready s l plan).whole i.place f at).whole
         k.run.does
 
     no_top_after : All IsNotTop k.after.stack
@@ -171,9 +169,9 @@ module _ (s : Source) (l : AreLaws s.world) (dw : DerivedAreWhole s.world) (sv :
     all_fill =
         let types = reverse f.stack in
         let full : types ++ [] ≡ types = append-nil types in
-        let whole = (ready s l dw sv plan).whole i.place f at in
+        let whole = (ready s l plan).whole i.place f at in
         let all = fills (register_count s.method.rec) [] types [] whole.whole (All-reverse IsNotTop f.stack k.run.fit.no_top) in
-        ap register_sum (cells-are s l dw sv plan i.place f at)
+        ap register_sum (cells-are s l plan i.place f at)
         ∙ ap (λ (ts : List Ty). register_sum (cells_from (register_count s.method.rec) ts 0 (length types))) (sym full) ∙ all.fill
         ∙ length-reverse f.stack
 
@@ -189,7 +187,7 @@ module _ (s : Source) (l : AreLaws s.world) (dw : DerivedAreWhole s.world) (sv :
       deep = omega (arith, count);
       parts = cut.parts;
       fill = omega (arith, both, all_fill, under_fill, count);
-      keeps = λ over. keeps-over new apart s l (ready s l dw sv plan) r (record-for s) asks res plan.code i k.op f k.after n k.run is takes over;
+      keeps = λ over. keeps-over new apart s l (ready s l plan) r (record-for s) asks res plan.code i k.op f k.after n k.run is takes over;
     }
 
     under-keeps : Each (KeepsValues s) (under s i.place n)
@@ -197,10 +195,10 @@ module _ (s : Source) (l : AreLaws s.world) (dw : DerivedAreWhole s.world) (sv :
       where
         by : (b : Bool) → has_under s i.place n ≡ b → Each (KeepsValues s) (under s i.place n)
         by true over =
-            let kept = (fill-stack s l dw sv plan i.place f at (forked-at.keeps over)).keep in
+            let kept = (fill-stack s l plan i.place f at (forked-at.keeps over)).keep in
             each-left (KeepsValues s) (under s i.place n) (operands s i.place n) (subst (Each (KeepsValues s)) cut.parts kept)
         by false over =
-            let deep = depth-is new apart s l (ready s l dw sv plan) r (record-for s) asks res plan.code i k.op f k.after k.run in
+            let deep = depth-is new apart s l (ready s l plan) r (record-for s) asks res plan.code i k.op f k.after k.run in
             let le : length f.stack ≤ n = grind (arith, nat_tests, over, deep) in
             let none : length (reverse k.after.stack) ≡ 0 = omega (arith, count, le, length-reverse k.after.stack) in
             let empty : under s i.place n ≡ [] = under_is
@@ -210,13 +208,13 @@ module _ (s : Source) (l : AreLaws s.world) (dw : DerivedAreWhole s.world) (sv :
     pub matched-at : (q : ℕ) → IsSuccessor s.method.code i q → is_leader s q ≡ true → AreMatched s (under s i.place n) (stack_homes s q)
     matched-at q succ lead =
         let g = k.below q succ in
-        let keeps = fill-stack s l dw sv plan q g.frame g.at (inl ((plan.leaders q).0 lead)) in
-        let second = cells-are s l dw sv plan q g.frame g.at in
+        let keeps = fill-stack s l plan q g.frame g.at (inl ((plan.leaders q).0 lead)) in
+        let second = cells-are s l plan q g.frame g.at in
         let full = all-right IsNotBottom forked.operands k.after.stack
-        (subst (All IsNotBottom) forked.parts ((ready s l dw sv plan).whole i.place f at).stack) in
+        (subst (All IsNotBottom) forked.parts ((ready s l plan).whole i.place f at).stack) in
         let m = matched-homes s l (register_count s.method.rec) [] [] (reverse forked.operands) refl whole_after (l.rules.order.turned g.below.stack)
         (All-reverse IsNotBottom k.after.stack full) (All-reverse IsNotTop k.after.stack no_top_after)
-        (All-reverse IsNotTop g.frame.stack (fit-at s l dw sv plan q g.frame g.at).no_top)
+        (All-reverse IsNotTop g.frame.stack (fit-at s l plan q g.frame g.at).no_top)
         (subst (Each (KeepsValues s)) under_is under-keeps) (subst (Each (KeepsValues s)) second keeps.keep) in
         subst (λ (hs : List Home). AreMatched s hs (stack_homes s q)) (sym under_is)
         (subst
@@ -224,12 +222,12 @@ module _ (s : Source) (l : AreLaws s.world) (dw : DerivedAreWhole s.world) (sv :
         (cells_from (register_count s.method.rec) (reverse k.after.stack ++ reverse forked.operands) 0 (length (reverse k.after.stack))) ks)
         (sym second) m)
 
-module _ (w : Linked) (laws : AreLaws w) (dw : DerivedAreWhole w) (sv : HomesServe w) where
+module _ (w : Linked) (laws : AreLaws w) where
   pub forks-are-cut : ForksAreCut w
   forks-are-cut s own plan i op n f st at names some =
-      forked-at s (subst AreLaws (sym own) laws) (subst DerivedAreWhole (sym own) dw) (subst HomesServe (sym own) sv) plan i op n f st at names some
+      forked-at s (subst AreLaws (sym own) laws) plan i op n f st at names some
 
   pub forks-match : ForksMatch w
   forks-match s own plan i op n q f st at names some succ lead =
-      matched-at s (subst AreLaws (sym own) laws) (subst DerivedAreWhole (sym own) dw) (subst HomesServe (sym own) sv) plan i op n f st at names some q succ
+      matched-at s (subst AreLaws (sym own) laws) plan i op n f st at names some q succ
       lead

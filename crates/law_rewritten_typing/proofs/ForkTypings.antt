@@ -50,7 +50,8 @@ use Rattle.law_rewritten_typing.proofs.Turns.{IsLesser, kept-resolves}
 use Rattle.law_rewritten_typing.proofs.Registers.{conditional-ready, all-left}
 use Rattle.law_rewritten_typing.proofs.Rows.{wide-is}
 use Rattle.law_rewritten_typing.proofs.Cuts.{IsForked, forked, IsCut, cut-is}
-use Rattle.law_rewritten_typing.proofs.Running.{AreLaws, IsRecordFor, IsRun}
+use Rattle.law_rewritten_typing.specs.Premises.{AreLaws}
+use Rattle.law_rewritten_typing.proofs.Running.{IsRecordFor, IsRun}
 use Rattle.law_rewritten_typing.proofs.Leading.{cells-stand, cells-pushed, spill-at, named-at}
 
 -- ---- opcodes of branches in their wide form

@@ -25,10 +25,11 @@ use Rattle.law_rewritten_typing.proofs.Walks.{State, holding, left, Asked, nothi
 use Rattle.law_rewritten_typing.proofs.Ready.{IsReady}
 use Rattle.law_rewritten_typing.proofs.Renames.{named}
 use Rattle.law_rewritten_typing.proofs.Turns.{IsLesser}
-use Rattle.law_rewritten_typing.proofs.Running.{AreLaws, IsRecordFor, IsRun, IsPassed, kept-passed, load-passed}
+use Rattle.law_rewritten_typing.specs.Premises.{AreLaws}
+use Rattle.law_rewritten_typing.proofs.Running.{IsRecordFor, IsRun, IsPassed, kept-passed, load-passed}
 use Rattle.law_rewritten_typing.proofs.Storing.{increment-passed, store-passed}
 use Rattle.law_rewritten_typing.proofs.This.{read-passed, write-passed}
-use Rattle.law_rewritten_typing.proofs.Leading.{Arrives, fall-arrives, entered-flows}
+use Rattle.law_rewritten_typing.proofs.Leading.{Arrives, FallsInto, fall-arrives, entered-flows}
 use Rattle.law_rewritten_typing.proofs.ForkTypings.{branch-flows}
 use Rattle.law_rewritten_typing.proofs.Edges.{fork-falls, gone-flows}
 
@@ -57,11 +58,14 @@ module _ (new : ℕ → ℕ) (apart : (a b : ℕ) → new a ≡ new b → a ≡ 
     differ : (b : Bool) → b ≡ true → b ≡ false → ⊥
     differ b e f = absurd (cc)
 
-    passed-gone : (i : Placed) (op : Operation) (f after : Frame) (st : List Ty) (n : ℕ) → IsRun s i op f after → LeadsOn i op after
-        → operands_of s.world (Ok op) ≡ None → IsPassed new apart s l ready r own_rec asks res n (body s i op) op st after
+    -- an instruction whose body leaves these cells where it goes on, and the way from there
+    flows-gone : (i : Placed) (op : Operation) (st over : List Ty) (n : ℕ) (asked : Option ℕ) → operands_of s.world (Ok op) ≡ asked
+        → Flows s.world r (registers_of s.homes) asks n (holding (map (named new apart) st)) (body s i op) (if falls_from op then holding over else left)
+        → (falls_from op ≡ true → FallsInto new apart s l ready r own_rec asks res code (i.place + i.insn.len) (holding over)
+        (fall_by s i.place op asked (i.place + i.insn.len)))
         → IsGone n i op (holding (map (named new apart) st)) (done s i (Ok op))
     unfolding fallen
-    passed-gone i op f after st n run leads none p = by (falls_from op) refl
+    flows-gone i op st over n asked is p into = by (falls_from op) refl
       where
         q : ℕ
         q = i.place + i.insn.len
@@ -70,18 +74,16 @@ module _ (new : ℕ → ℕ) (apart : (a b : ℕ) → new a ≡ new b → a ≡ 
             → IsGone n i op (holding (map (named new apart) st))
             (body s i op ++ (if falls_from op then fall_by s i.place op (operands_of s.world (Ok op)) q else []))
         by true e =
-            let g = leads.falls e in
-            let fall = fall-arrives new apart s l ready r own_rec asks res code i op f after g.frame q p.stack run g.at g.below p.lesser in
-            let first : Flows s.world r (registers_of s.homes) asks n (holding (map (named new apart) st)) (body s i op)
-            (holding (map (named new apart) p.stack)) =
+            let fall = into e in
+            let first : Flows s.world r (registers_of s.homes) asks n (holding (map (named new apart) st)) (body s i op) (holding over) =
             subst (λ (b : Bool). Flows s.world r (registers_of s.homes) asks n (holding (map (named new apart) st)) (body s i op)
-            (if b then holding (map (named new apart) p.stack) else left)) e p.flow in
-            let second : Flows s.world r (registers_of s.homes) asks (n + count (body s i op)) (holding (map (named new apart) p.stack))
+            (if b then holding over else left)) e p in
+            let second : Flows s.world r (registers_of s.homes) asks (n + count (body s i op)) (holding over)
             (if falls_from op then fall_by s i.place op (operands_of s.world (Ok op)) q else []) fall.state =
-            subst (λ (b : Bool). Flows s.world r (registers_of s.homes) asks (n + count (body s i op)) (holding (map (named new apart) p.stack))
+            subst (λ (b : Bool). Flows s.world r (registers_of s.homes) asks (n + count (body s i op)) (holding over)
             (if b then fall_by s i.place op (operands_of s.world (Ok op)) q else []) fall.state) (sym e)
-            (subst (λ (o : Option ℕ). Flows s.world r (registers_of s.homes) asks (n + count (body s i op)) (holding (map (named new apart) p.stack))
-            (fall_by s i.place op o q) fall.state) (sym none) (fall.goes (n + count (body s i op)))) in
+            (subst (λ (o : Option ℕ). Flows s.world r (registers_of s.homes) asks (n + count (body s i op)) (holding over)
+            (fall_by s i.place op o q) fall.state) (sym is) (fall.goes (n + count (body s i op)))) in
             record {
               state = fall.state;
               flow = flows-append s.world r (registers_of s.homes) asks first second;
@@ -91,7 +93,7 @@ module _ (new : ℕ → ℕ) (apart : (a b : ℕ) → new a ≡ new b → a ≡ 
         by false e =
             let first : Flows s.world r (registers_of s.homes) asks n (holding (map (named new apart) st)) (body s i op) left =
             subst (λ (b : Bool). Flows s.world r (registers_of s.homes) asks n (holding (map (named new apart) st)) (body s i op)
-            (if b then holding (map (named new apart) p.stack) else left)) e p.flow in
+            (if b then holding over else left)) e p in
             let second : Flows s.world r (registers_of s.homes) asks (n + count (body s i op)) left
             (if falls_from op then fall_by s i.place op (operands_of s.world (Ok op)) q else []) left =
             subst
@@ -103,55 +105,24 @@ module _ (new : ℕ → ℕ) (apart : (a b : ℕ) → new a ≡ new b → a ≡ 
               arrives = λ h. absurd (differ (falls_from op) h e);
               leaves = λ h. refl;
             }
+
+    passed-gone : (i : Placed) (op : Operation) (f after : Frame) (st : List Ty) (n : ℕ) → IsRun s i op f after → LeadsOn i op after
+        → operands_of s.world (Ok op) ≡ None → IsPassed new apart s l ready r own_rec asks res n (body s i op) op st after
+        → IsGone n i op (holding (map (named new apart) st)) (done s i (Ok op))
+    passed-gone i op f after st n run leads none p =
+        flows-gone i op st (map (named new apart) p.stack) n None none p.flow
+        (λ e. let g = leads.falls e in
+        fall-arrives new apart s l ready r own_rec asks res code i op f after g.frame (i.place + i.insn.len) p.stack run g.at g.below p.lesser)
 
     -- a conditional branch or a switch, whose body is that of its operands
     fork-gone : (i : Placed) (op : Operation) (f after : Frame) (st : List Ty) (n m : ℕ) → IsRun s i op f after → LeadsOn i op after
         → IsConditional op → operands_of s.world (Ok op) ≡ Some m
         → Flows s.world r (registers_of s.homes) asks n (holding (map (named new apart) st)) (body s i op) (if falls_from op then holding [] else left)
         → IsGone n i op (holding (map (named new apart) st)) (done s i (Ok op))
-    unfolding fallen
-    fork-gone i op f after st n m run leads is some p = by (falls_from op) refl
-      where
-        q : ℕ
-        q = i.place + i.insn.len
-
-        by : (b : Bool) → falls_from op ≡ b
-            → IsGone n i op (holding (map (named new apart) st))
-            (body s i op ++ (if falls_from op then fall_by s i.place op (operands_of s.world (Ok op)) q else []))
-        by true e =
-            let g = leads.falls e in
-            let fall = fork-falls new apart s l ready r own_rec asks res code i op f after g.frame m q run is some g.at g.below in
-            let first : Flows s.world r (registers_of s.homes) asks n (holding (map (named new apart) st)) (body s i op) (holding []) =
-            subst (λ (b : Bool). Flows s.world r (registers_of s.homes) asks n (holding (map (named new apart) st)) (body s i op)
-            (if b then holding [] else left)) e p in
-            let second : Flows s.world r (registers_of s.homes) asks (n + count (body s i op)) (holding [])
-            (if falls_from op then fall_by s i.place op (operands_of s.world (Ok op)) q else []) fall.state =
-            subst
-            (λ (b : Bool). Flows s.world r (registers_of s.homes) asks (n + count (body s i op)) (holding [])
-            (if b then fall_by s i.place op (operands_of s.world (Ok op)) q else []) fall.state) (sym e)
-            (subst (λ (o : Option ℕ). Flows s.world r (registers_of s.homes) asks (n + count (body s i op)) (holding []) (fall_by s i.place op o q)
-            fall.state) (sym some) (fall.goes (n + count (body s i op)))) in
-            record {
-              state = fall.state;
-              flow = flows-append s.world r (registers_of s.homes) asks first second;
-              arrives = λ h. fall.arrives;
-              leaves = λ h. absurd (differ (falls_from op) e h);
-            }
-        by false e =
-            let first : Flows s.world r (registers_of s.homes) asks n (holding (map (named new apart) st)) (body s i op) left =
-            subst (λ (b : Bool). Flows s.world r (registers_of s.homes) asks n (holding (map (named new apart) st)) (body s i op)
-            (if b then holding [] else left)) e p in
-            let second : Flows s.world r (registers_of s.homes) asks (n + count (body s i op)) left
-            (if falls_from op then fall_by s i.place op (operands_of s.world (Ok op)) q else []) left =
-            subst
-            (λ (b : Bool). Flows s.world r (registers_of s.homes) asks (n + count (body s i op)) left
-            (if b then fall_by s i.place op (operands_of s.world (Ok op)) q else []) left) (sym e) flow_end in
-            record {
-              state = left;
-              flow = flows-append s.world r (registers_of s.homes) asks first second;
-              arrives = λ h. absurd (differ (falls_from op) h e);
-              leaves = λ h. refl;
-            }
+    fork-gone i op f after st n m run leads is some p =
+        flows-gone i op st [] n (Some m) some p
+        (λ e. let g = leads.falls e in
+        fork-falls new apart s l ready r own_rec asks res code i op f after g.frame m (i.place + i.insn.len) run is some g.at g.below)
 
     -- ---- each operation
 

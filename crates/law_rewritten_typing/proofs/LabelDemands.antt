@@ -17,7 +17,8 @@ use Rattle.xf_emission.proofs.TwoBytes.{two-bytes}
 use Rattle.xf_emission.proofs.Ways.{ways-few}
 use Rattle.law_rewritten_typing.proofs.Walks.{Asked, nothing_asked, emptied, catching}
 use Rattle.law_rewritten_typing.proofs.Ready.{IsReady}
-use Rattle.law_rewritten_typing.proofs.Running.{AreLaws, IsRecordFor}
+use Rattle.law_rewritten_typing.specs.Premises.{AreLaws}
+use Rattle.law_rewritten_typing.proofs.Running.{IsRecordFor}
 use Rattle.law_rewritten_typing.proofs.Rewriting.{AreWanted}
 
 abbrev pub caught_by : Option Handler → Asked

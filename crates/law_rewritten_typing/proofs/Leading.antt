@@ -45,7 +45,8 @@ use Rattle.law_rewritten_typing.proofs.Carried.{carries-after}
 use Rattle.law_rewritten_typing.proofs.Registers.{not-fresh, kept-ready}
 use Rattle.law_rewritten_typing.proofs.Rows.{goto-is}
 use Rattle.law_rewritten_typing.proofs.Turns.{IsLesser}
-use Rattle.law_rewritten_typing.proofs.Running.{AreLaws, IsRecordFor, IsRun}
+use Rattle.law_rewritten_typing.specs.Premises.{AreLaws}
+use Rattle.law_rewritten_typing.proofs.Running.{IsRecordFor, IsRun}
 
 -- under cells that are ready no cell is an uninitialised object
 named-one : (new : ℕ → ℕ) (apart : (a b : ℕ) → new a ≡ new b → a ≡ b) (a : Ty) → IsNotFresh a → named new apart a ≡ a
@@ -69,8 +70,8 @@ module _ (new : ℕ → ℕ) (apart : (a b : ℕ) → new a ≡ new b → a ≡ 
 
     pub fit-at : (q : ℕ) (g : Frame) → s.frames q ≡ Some g → IsFit s.method g
     fit-at q g e =
-        let k = framed l.same_is l.needed s l.objects l.rules ready r asks (s.frames q) (IsFit s.method)
-        (ready.typing.fit q (reached l.same_is l.needed s l.objects l.rules ready r asks q g e)) in
+        let k = framed l.objects l.rules ready r asks (s.frames q) (IsFit s.method)
+        (ready.typing.fit q (reached l.objects l.rules ready r asks q g e)) in
         subst (IsFit s.method) (some-same k.0 g (sym k.1 ∙ e)) k.2
 
     cells-stand-from : (q : ℕ) (g : Frame) → s.frames q ≡ Some g → KeepsStack s.world s.method s.frames q → (i n : ℕ)
@@ -86,13 +87,13 @@ module _ (new : ℕ → ℕ) (apart : (a b : ℕ) → new a ≡ new b → a ≡ 
         by None h more = more
         by (Some ty) h more =
             let whole = ready.whole q g e in
-            let fresh = kept-ready l.same_is l.needed s l.objects l.rules ready r asks l.alike code q g e keeps in
+            let fresh = kept-ready l.objects l.rules ready r asks l.alike code q g e keeps in
             let plain = value-plain s.world.classes (reverse g.stack) i ty h (All-reverse (IsKnown s.world.classes) g.stack whole.known.stack)
             (All-reverse IsNotBottom g.stack whole.stack) (All-reverse IsNotFresh g.stack fresh) in
             let at : At s.frames q (λ (f : Frame). value_in_cells (reverse f.stack) i ≡ Some ty) = subst
             (λ (o : Option Frame). IsSomeAnd o (λ (f : Frame). value_in_cells (reverse f.stack) i ≡ Some ty)) (sym e) h in
-            let has = ready.serve.cells q i ty (reached l.same_is l.needed s l.objects l.rules ready r asks q g e) keeps at in
-            (home-stands l.same_is l.needed s l.objects l.rules ready r asks (record { slot = register_count s.method.rec + i; ty = ty }) has plain, more)
+            let has = ready.serve.cells q i ty (reached l.objects l.rules ready r asks q g e) keeps at in
+            (home-stands l.objects l.rules ready r asks (record { slot = register_count s.method.rec + i; ty = ty }) has plain, more)
 
     pub cells-are : (q : ℕ) (g : Frame) → s.frames q ≡ Some g → stack_homes s q ≡ cells_from (register_count s.method.rec) (reverse g.stack) 0
         (length (reverse g.stack))
@@ -128,7 +129,7 @@ module _ (new : ℕ → ℕ) (apart : (a b : ℕ) → new a ≡ new b → a ≡ 
     pub named-at : (q : ℕ) (g : Frame) (st : List Ty) → s.frames q ≡ Some g → KeepsStack s.world s.method s.frames q
         → CellsBelow s.world.classes st g.stack → map (named new apart) st ≡ st
     named-at q g st e keeps le =
-        named-under new apart s.world.classes l.rules.types le (kept-ready l.same_is l.needed s l.objects l.rules ready r asks l.alike code q g e keeps)
+        named-under new apart s.world.classes l.rules.types le (kept-ready l.objects l.rules ready r asks l.alike code q g e keeps)
         (fit-at q g e).no_top
 
     -- ---- gotos
@@ -175,10 +176,10 @@ module _ (new : ℕ → ℕ) (apart : (a b : ℕ) → new a ≡ new b → a ≡ 
         → FallsInto q (holding (map (named new apart) st)) (fall s i.place op q)
     fall-arrives i op f after g q st run to below lesser = by (is_leader s q) refl
       where
-        carries : (y : ℕ) (from : Home) → home_before s (After i.place op) y ≡ Some from → Carries l.same_is l.needed s l.objects l.rules ready r asks
+        carries : (y : ℕ) (from : Home) → home_before s (After i.place op) y ≡ Some from → Carries l.objects l.rules ready r asks
             (After i.place op) q y from
         carries =
-            carries-after l.same_is l.needed s l.objects l.rules ready r asks i.place q s.method.rec.max_stack op f after g run.outcome run.at run.does to
+            carries-after l.objects l.rules ready r asks i.place q s.method.rec.max_stack op f after g run.outcome run.at run.does to
             below.regs
 
         by : (b : Bool) → is_leader s q ≡ b
@@ -193,14 +194,14 @@ module _ (new : ℕ → ℕ) (apart : (a b : ℕ) → new a ≡ new b → a ≡ 
                   (λ (us : List Ty). Goes s.world r (registers_of s.homes) asks (holding us) (spill s (stack_homes s q) ++ copies s (After i.place op) q)
                   (holding [])) (sym own)
                   (goes-append s.world r (registers_of s.homes) asks (spill-at q g st to (is-kept q e) le)
-                  (copies-go l.same_is l.needed s l.objects l.rules ready r asks (After i.place op) q [] carries (omega (arith, own_rec.room))));
+                  (copies-go l.objects l.rules ready r asks (After i.place op) q [] carries (omega (arith, own_rec.room))));
               arrives = emptied_there e;
             }
         by false e =
             let more = below-lesser after g st below.stack lesser in
             record {
               state = holding (map (named new apart) st);
-              goes = copies-go l.same_is l.needed s l.objects l.rules ready r asks (After i.place op) q (map (named new apart) st) carries
+              goes = copies-go l.objects l.rules ready r asks (After i.place op) q (map (named new apart) st) carries
                   (omega (arith, length-map st (named new apart), l.rules.order.lengths more.below, (fit-at q g to).room, own_rec.room));
               arrives = falls_there e to more;
             }

@@ -25,7 +25,8 @@ use Rattle.xf_emission.specs.Group.{first_place, entrance, body, fallen, done, g
 use Rattle.law_rewritten_typing.specs.Typed.{registers_of}
 use Rattle.law_rewritten_typing.proofs.Walks.{State, left, Asked, nothing_asked, emptied, Flows, flow_end, flows-append, count, count-append}
 use Rattle.law_rewritten_typing.proofs.Ready.{IsReady, framed, reached}
-use Rattle.law_rewritten_typing.proofs.Running.{AreLaws, IsRecordFor, IsRun}
+use Rattle.law_rewritten_typing.specs.Premises.{AreLaws}
+use Rattle.law_rewritten_typing.proofs.Running.{IsRecordFor, IsRun}
 use Rattle.law_rewritten_typing.proofs.Leading.{fit-at, Arrives, only_elsewhere}
 use Rattle.law_rewritten_typing.proofs.Numbers.{IsNumbered, AreFilled, body-some}
 use Rattle.law_rewritten_typing.proofs.Groups.{IsAbove, LeadsOn, IsGone, group-flows}
@@ -48,8 +49,8 @@ module _ (new : ℕ → ℕ) (apart : (a b : ℕ) → new a ≡ new b → a ≡ 
 
     pub run-of : (i : Placed) (f : Frame) → IsListed s.method.code i → s.frames i.place ≡ Some f → IsReachedRun i f
     run-of i f st at =
-        let there = reached l.same_is l.needed s l.objects l.rules ready r asks i.place f at in
-        let k = framed l.same_is l.needed s l.objects l.rules ready r asks (s.frames i.place) (IsFollowed s.world s.method s.frames i)
+        let there = reached l.objects l.rules ready r asks i.place f at in
+        let k = framed l.objects l.rules ready r asks (s.frames i.place) (IsFollowed s.world s.method s.frames i)
         (ready.typing.rules i st there) in
         let own : IsFollowed s.world s.method s.frames i f = subst (IsFollowed s.world s.method s.frames i) (some-same k.0 f (sym k.1 ∙ at)) k.2 in
         let op = own.steps.1.operation in
@@ -70,7 +71,7 @@ module _ (new : ℕ → ℕ) (apart : (a b : ℕ) → new a ≡ new b → a ≡ 
             fit = fit-at new apart s l ready r own_rec asks res code i.place f at;
           };
           below = λ q succ.
-              let g = framed l.same_is l.needed s l.objects l.rules ready r asks (s.frames q) (FrameBelow s.world.classes own.after) (own.below q succ) in
+              let g = framed l.objects l.rules ready r asks (s.frames q) (FrameBelow s.world.classes own.after) (own.below q succ) in
               record { frame = g.0; at = g.1; below = g.2 };
           falls_alike = go.falls_alike;
           jumps_alike = go.jumps_alike;
@@ -133,7 +134,7 @@ module _ (new : ℕ → ℕ) (apart : (a b : ℕ) → new a ≡ new b → a ≡ 
       jumps = λ e. k.below (first_place (targets s.method.code i)) (jumped (first-target i st (sym k.jumps_alike ∙ e)));
       leads =
           λ e. (ready.marks (first_place (targets s.method.code i))).1
-          (led_to {i = i} st (reached l.same_is l.needed s l.objects l.rules ready r asks i.place f at) (first-target i st (sym k.jumps_alike ∙ e)));
+          (led_to {i = i} st (reached l.objects l.rules ready r asks i.place f at) (first-target i st (sym k.jumps_alike ∙ e)));
     }
 
     -- ---- one after the other
@@ -190,7 +191,7 @@ module _ (new : ℕ → ℕ) (apart : (a b : ℕ) → new a ≡ new b → a ≡ 
         by : (o : Option Frame) → s.frames at ≡ o → a ≡ left
         by None e = before.not_there e
         by (Some f) e =
-            let p = ready.has.placed at (reached l.same_is l.needed s l.objects l.rules ready r asks at f e) in
+            let p = ready.has.placed at (reached l.objects l.rules ready r asks at f e) in
             let d : decoded s.method.code at ≡ Ok p.0.insn = ap (decoded s.method.code) (sym p.2) ∙ (l.rules.listed s.method.code).decodes p.0 p.1 in
             absurd (no (subst IsErr d err))
 
@@ -228,7 +229,7 @@ module _ (new : ℕ → ℕ) (apart : (a b : ℕ) → new a ≡ new b → a ≡ 
           by (Some f) e rest =
               let k = run-of i f st e in
               let some : is_some (s.frames i.place) ≡ true = ap is_some e in
-              let there = reached l.same_is l.needed s l.objects l.rules ready r asks i.place f e in
+              let there = reached l.objects l.rules ready r asks i.place f e in
               let g = group-flows new apart s l ready r own_rec asks res code i k.op f k.after n a k.run (leads-of i f st e k) (numbered.0 some)
               (wants i.place some) (here.comes there) in
               flows-append s.world r (registers_of s.homes) asks g.flow

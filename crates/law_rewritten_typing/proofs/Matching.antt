@@ -20,7 +20,7 @@ use Rattle.law_rewritten_typing.proofs.Stacks.{Stands, int-value, low-none, one-
 use Rattle.law_rewritten_typing.proofs.Ready.{IsReady}
 use Rattle.law_rewritten_typing.proofs.Copies.{AreUnder, none_under, more_under}
 use Rattle.law_rewritten_typing.proofs.WholeStacks.{high-only, low-only, no-half-above}
-use Rattle.law_rewritten_typing.proofs.Running.{AreLaws}
+use Rattle.law_rewritten_typing.specs.Premises.{AreLaws}
 
 pub home-one : (slot : ℕ) (pre : List Ty) (a : Ty) (us : List Ty) (k : ℕ) → IsNoHalf a → IsNotTop a
     → cells_from slot (pre ++ a ∷ us) (length pre) (suc k) ≡ record { slot = slot + length pre; ty = a } ∷ cells_from slot ((pre ++ a ∷ []) ++ us)
@@ -56,7 +56,7 @@ module _ (s : Source) (l : AreLaws s.world) (ready : IsReady s) (r : MethodRec) 
   Standing hs = Each (Stands s l.objects r (registers_of s.homes) asks) hs
 
   abbrev Under : List Home → List Home → Type 0
-  Under hs ks = AreUnder l.same_is l.needed s l.objects l.rules ready r asks hs ks
+  Under hs ks = AreUnder l.objects l.rules ready r asks hs ks
 
   pub matched : (slot : ℕ) (pre before : List Ty) {xs ys : List Ty} (over : List Ty) → length pre ≡ length before → AreWhole xs
       → CellsBelow s.world.classes xs ys → All IsNotBottom xs → All IsNotTop xs → All IsNotTop ys

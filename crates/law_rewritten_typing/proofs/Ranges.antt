@@ -18,11 +18,11 @@ use Rattle.xf_emission.specs.Laws.{of_handler}
 use Rattle.xf_emission.proofs.Labels.{labels}
 use Rattle.xf_emission.proofs.Once.{named-among}
 use Rattle.law_laid.specs.Laid.{class_by}
-use Rattle.law_laid.specs.Laws.{CatchesByPool}
+use Rattle.law_laid.proofs.Catching.{catches-by-pool}
 use Rattle.law_rewritten_typing.proofs.Walks.{catching}
 use Rattle.law_rewritten_typing.proofs.LabelDemands.{asks_of, caught_by, at-handler}
 
-module _ (s : Source) (rules : AreRules s.world) (mo : IsMethodOf s.world s.method) (by_pool : CatchesByPool) where
+module _ (s : Source) (rules : AreRules s.world) (mo : IsMethodOf s.world s.method) where
   handler-is : (n : ℕ) (h : Handler) → slice_get s.method.rec.handlers n ≡ Some h
       → IsHandler s.world.classes (list_at s.world.pools s.method.rec.package) s.method.rec.code_len h
   handler-is n h e =
@@ -31,7 +31,7 @@ module _ (s : Source) (rules : AreRules s.world) (mo : IsMethodOf s.world s.meth
 
   class-is : (n : ℕ) (h : Handler) → slice_get s.method.rec.handlers n ≡ Some h → class_by s.method.rec.handlers h.index ≡ h.class
   class-is n h e =
-      by_pool s.world.classes (list_at s.world.pools s.method.rec.package) s.method.rec.code_len s.method.rec.handlers h h.class
+      catches-by-pool s.world.classes (list_at s.world.pools s.method.rec.package) s.method.rec.code_len s.method.rec.handlers h h.class
       (of_world s.world rules s.method mo).handlers (Contains-slice_get s.method.rec.handlers n h e) (handler-is n h e).catches
 
   abbrev pub IsCaught : Range → Type 0

@@ -4,7 +4,7 @@ use Rattle.std.proofs.Common.{◌++◌, slice_get, All, Contains, Option, Some, 
 use Rattle.std.specs.Prelude.{is_some}
 use Rattle.std.proofs.lemmas.List.Sums.{sum_by-cons}
 use Rattle.jc_base.specs.Each.{IsAmong}
-use Rattle.jc_base.specs.Laws.{ClassesAreObjects, SameTypeDecides}
+use Rattle.jc_base.specs.Laws.{ClassesAreObjects}
 use Rattle.jc_base.specs.Class.{ClassTable}
 use Rattle.jc_base.specs.Order.{Below, IsKnown}
 use Rattle.jc_base.specs.declared.record.Handler.{Handler}
@@ -12,6 +12,7 @@ use Rattle.jc_base.specs.declared.record.MethodRec.{MethodRec}
 use Rattle.jc_base.specs.declared.ty.Ty.{Ty}
 use Rattle.jc_base.specs.declared.ty.Ty.TheVariants.{Bottom, IntHigh, IntLow, Fresh, Top}
 use Rattle.jc_base.proofs.Lists.{All-slice_get}
+use Rattle.jc_base.proofs.SameTypes.{same_type-decides}
 use Rattle.jc_control.specs.Control.{IsReached, IsLeader}
 use Rattle.jc_control.specs.Flags.{Marks}
 use Rattle.jc_rules.specs.Demand.{Frame}
@@ -20,13 +21,14 @@ use Rattle.jc_rules.specs.FlowLaws.{AreRules}
 use Rattle.jc_rules.specs.Laws.{IsNotBottom}
 use Rattle.xf_homes.specs.declared.home.Home.{Home}
 use Rattle.xf_homes.specs.Home.{IsAsked, asked_here, asked_caught}
-use Rattle.xf_homes.specs.Laws.{AreNeeded, NeededAreKept, HasRegister, Serve}
+use Rattle.xf_homes.specs.Laws.{AreNeeded, HasRegister, Serve}
 use Rattle.xf_homes.specs.Order.{register_sum}
 use Rattle.xf_homes.specs.Value.{value_in_cells, value_of, type_width}
 use Rattle.xf_homes.specs.Walk.{register_from, same_home}
 use Rattle.xf_homes.proofs.Events.{homes-equal}
 use Rattle.xf_homes.specs.Source.{Source}
 use Rattle.xf_homes.specs.Plan.{needed, or_first}
+use Rattle.xf_homes.proofs.Needed.{needed-are-kept}
 use Rattle.xf_emission.specs.Laws.{HasFrames}
 use Rattle.law_rewritten_typing.specs.Typed.{cells_of_value, registers_of}
 use Rattle.law_rewritten_typing.specs.Whole.{IsWholeFrame}
@@ -64,49 +66,48 @@ pub record IsPlacedAt (homes : List Home) (h : Home) (k : ℕ) : Type 0 where
   pub second : h.ty ≡ IntHigh → slice_get (registers_of homes) (k + 1) ≡ Some IntLow
   pub below : k < register_sum homes
 
-module _ (same_is : SameTypeDecides) where
-  pub placed-at : (n : ℕ) (homes : List Home) (h : Home) (x : ℕ) → register_from n homes h ≡ Some x → (k : ℕ) × (x ≡ n + k)
-      × IsPlacedAt homes h k
-  unfolding register_sum
-  placed-at n [] h x e = absurd (cc)
-  placed-at n (j ∷ js) h x e = by (same_home j h) refl e (λ f. placed-at (n + type_width j.ty) js h x f)
-    where
-      all : List Ty
-      all = cells_of_value j.ty ++ registers_of js
+pub placed-at : (n : ℕ) (homes : List Home) (h : Home) (x : ℕ) → register_from n homes h ≡ Some x → (k : ℕ) × (x ≡ n + k)
+    × IsPlacedAt homes h k
+unfolding register_sum
+placed-at n [] h x e = absurd (cc)
+placed-at n (j ∷ js) h x e = by (same_home j h) refl e (λ f. placed-at (n + type_width j.ty) js h x f)
+  where
+    all : List Ty
+    all = cells_of_value j.ty ++ registers_of js
 
-      total : register_sum (j ∷ js) ≡ type_width j.ty + register_sum js
-      total = sum_by-cons (λ (i : Home). type_width i.ty) j js
+    total : register_sum (j ∷ js) ≡ type_width j.ty + register_sum js
+    total = sum_by-cons (λ (i : Home). type_width i.ty) j js
 
-      wide : (t : Ty) → 0 < type_width t
-      wide IntHigh = omega arith
-      wide t = omega arith
+    wide : (t : Ty) → 0 < type_width t
+    wide IntHigh = omega arith
+    wide t = omega arith
 
-      by : (b : Bool) → same_home j h ≡ b → (if b then Some n else register_from (n + type_width j.ty) js h) ≡ Some x
-          → (register_from (n + type_width j.ty) js h ≡ Some x → (k : ℕ) × (x ≡ n + type_width j.ty + k) × IsPlacedAt js h k)
-          → (k : ℕ) × (x ≡ n + k) × IsPlacedAt (j ∷ js) h k
-      by true q e rest =
-          let own : j ≡ h = homes-equal same_is j h q in
-          let here : n ≡ x = cc in (
-            0,
-            omega (arith, here),
-            record {
-              first = first-cell j.ty (registers_of js) ∙ ap (λ (i : Home). Some i.ty) own;
-              second = λ high. second-cell j.ty (registers_of js) (ap (λ (i : Home). i.ty) own ∙ high);
-              below = omega (arith, total, wide j.ty);
-            },
-          )
-      by false q e rest =
-          let r = rest e in (
-            type_width j.ty + r.0,
-            omega (arith, r.1),
-            record {
-              first = past-cells j.ty (registers_of js) r.0 ∙ r.2.first;
-              second =
-                  λ high. let next : type_width j.ty + r.0 + 1 ≡ type_width j.ty + (r.0 + 1) = omega arith in ap (slice_get all) next
-                  ∙ past-cells j.ty (registers_of js) (r.0 + 1) ∙ r.2.second high;
-              below = omega (arith, total, r.2.below);
-            },
-          )
+    by : (b : Bool) → same_home j h ≡ b → (if b then Some n else register_from (n + type_width j.ty) js h) ≡ Some x
+        → (register_from (n + type_width j.ty) js h ≡ Some x → (k : ℕ) × (x ≡ n + type_width j.ty + k) × IsPlacedAt js h k)
+        → (k : ℕ) × (x ≡ n + k) × IsPlacedAt (j ∷ js) h k
+    by true q e rest =
+        let own : j ≡ h = homes-equal same_type-decides j h q in
+        let here : n ≡ x = cc in (
+          0,
+          omega (arith, here),
+          record {
+            first = first-cell j.ty (registers_of js) ∙ ap (λ (i : Home). Some i.ty) own;
+            second = λ high. second-cell j.ty (registers_of js) (ap (λ (i : Home). i.ty) own ∙ high);
+            below = omega (arith, total, wide j.ty);
+          },
+        )
+    by false q e rest =
+        let r = rest e in (
+          type_width j.ty + r.0,
+          omega (arith, r.1),
+          record {
+            first = past-cells j.ty (registers_of js) r.0 ∙ r.2.first;
+            second =
+                λ high. let next : type_width j.ty + r.0 + 1 ≡ type_width j.ty + (r.0 + 1) = omega arith in ap (slice_get all) next
+                ∙ past-cells j.ty (registers_of js) (r.0 + 1) ∙ r.2.second high;
+            below = omega (arith, total, r.2.below);
+          },
+        )
 
 -- ---- values
 
@@ -163,7 +164,7 @@ cells-at t _ _ (suc x) a b (more_cells {xs = xs} {ys = ys} p ps) e f = cells-at 
 
 -- ---- homes that stand
 
-module _ (same_is : SameTypeDecides) (kept : NeededAreKept) (s : Source) (objects : ClassesAreObjects s.world.classes) (rules : AreRules s.world)
+module _ {s : Source} (objects : ClassesAreObjects s.world.classes) (rules : AreRules s.world)
     (ready : IsReady s) (r : MethodRec) (asks : ℕ → Asked) where
   pub home-stands : (h : Home) → HasRegister s.homes h → IsPlainValue h.ty × IsKnown s.world.classes h.ty
       → Stands s objects r (registers_of s.homes) asks h
@@ -176,7 +177,7 @@ module _ (same_is : SameTypeDecides) (kept : NeededAreKept) (s : Source) (object
           differ : (x : ℕ) → ◌≡◌ {A = Option ℕ} None (Some x) → ⊥
           differ x e = absurd (cc)
       by (Some x) e has =
-          let p = placed-at same_is 0 s.homes h x e in
+          let p = placed-at 0 s.homes h x e in
           let here : p.0 ≡ x = omega (arith, p.1) in
           record {
             value = v.0;
@@ -236,7 +237,7 @@ module _ (same_is : SameTypeDecides) (kept : NeededAreKept) (s : Source) (object
 
   pub needed-are : (q x : ℕ) → AreNeeded s.method s.frames q x (needed s q x)
   unfolding needed
-  needed-are q x = kept s.method s.frames q x
+  needed-are q x = needed-are-kept same_type-decides s.method s.frames q x
 
   -- the value of a local in a frame has a home, which stands
   pub local-stands : (p : ℕ) (f : Frame) (x : ℕ) (ty : Ty) → s.frames p ≡ Some f → value_in_cells f.regs x ≡ Some ty

@@ -8,7 +8,7 @@ use Rattle.jc_base.proofs.Lists.{All-reverse}
 use Rattle.jc_base.proofs.Eaching.{IsAmong-append_cases}
 use Rattle.jc_base.specs.Each.{IsAmong}
 use Rattle.jc_base.specs.Class.{ClassTable}
-use Rattle.jc_base.specs.Laws.{ClassesAreObjects, SameTypeDecides, IsOrderOfTypes}
+use Rattle.jc_base.specs.Laws.{ClassesAreObjects, IsOrderOfTypes}
 use Rattle.jc_base.specs.Linked.{receiver_words}
 use Rattle.jc_base.specs.Order.{Below, nothing, is_below, IsKnown}
 use Rattle.jc_base.specs.declared.record.MethodRec.{MethodRec}
@@ -35,7 +35,6 @@ use Rattle.jc_rules.specs.Laws.{IsNotBottom}
 use Rattle.jc_flow.proofs.Derived.{of_world}
 use Rattle.xf_homes.specs.declared.home.Home.{Home}
 use Rattle.xf_homes.specs.Home.{argument_types, IsConditional, KeepsStack, PairSpot, IsMetAt, met_local, met_cell}
-use Rattle.xf_homes.specs.Laws.{NeededAreKept}
 use Rattle.xf_homes.specs.Order.{AreHomes, SlotsFollow, register_sum}
 use Rattle.xf_homes.specs.Value.{value_in_cells, type_width}
 use Rattle.xf_homes.specs.Source.{Source}
@@ -181,13 +180,13 @@ plain-ready : (ty : Ty) → IsPlainValue ty → IsNotFresh ty
 plain-ready (Fresh p c) h = absurd h
 plain-ready ty h = tt
 
-module _ (same_is : SameTypeDecides) (kept : NeededAreKept) (s : Source) (objects : ClassesAreObjects s.world.classes) (rules : AreRules s.world)
+module _ {s : Source} (objects : ClassesAreObjects s.world.classes) (rules : AreRules s.world)
     (ready : IsReady s) (r : MethodRec) (asks : ℕ → Asked) where
   module _ (alike : OperationsGoAlike s.world) (code : IsCode s) where
     -- a stack that is kept has no uninitialised object
     pub kept-ready : (p : ℕ) (f : Frame) → s.frames p ≡ Some f → KeepsStack s.world s.method s.frames p → All IsNotFresh f.stack
     kept-ready p f e (inl leader) =
-        let g = framed same_is kept s objects rules ready r asks (s.frames p) (λ f. All IsNotFresh f.stack) (ready.typing.leaders p leader) in
+        let g = framed objects rules ready r asks (s.frames p) (λ f. All IsNotFresh f.stack) (ready.typing.leaders p leader) in
         subst (λ (k : Frame). All IsNotFresh k.stack) (some-same g.0 f (sym g.1 ∙ e)) g.2
       where
         some-same : (f g : Frame) → ◌≡◌ {A = Option Frame} (Some f) (Some g) → f ≡ g
@@ -195,8 +194,8 @@ module _ (same_is : SameTypeDecides) (kept : NeededAreKept) (s : Source) (object
     kept-ready p f e (inr b) =
         let i = b.instruction in
         let at : s.frames i.place ≡ Some f = ap s.frames b.at ∙ e in
-        let g = framed same_is kept s objects rules ready r asks (s.frames i.place) (IsFollowed s.world s.method s.frames i)
-        (ready.typing.rules i b.stands (reached same_is kept s objects rules ready r asks i.place f at)) in
+        let g = framed objects rules ready r asks (s.frames i.place) (IsFollowed s.world s.method s.frames i)
+        (ready.typing.rules i b.stands (reached objects rules ready r asks i.place f at)) in
         let own : g.0 ≡ f = some-same g.0 f (sym g.1 ∙ at) in
         let step = g.2.steps.1 in
         let same_op : step.operation ≡ b.operation = ok-same step.operation b.operation
@@ -218,11 +217,11 @@ module _ (same_is : SameTypeDecides) (kept : NeededAreKept) (s : Source) (object
     -- what is met is a value that is no uninitialised object
     met-plain : (spot : PairSpot) (h : Home) → IsMetAt s.world s.method s.frames spot h → IsPlainValue h.ty × IsKnown s.world.classes h.ty
     met-plain _ _ (met_local {p = p} {x = x} {n = n} {ty = ty} there asked) =
-        let f = found same_is kept s objects rules ready r asks p x n ty asked in
+        let f = found objects rules ready r asks p x n ty asked in
         let w = ready.whole f.place f.frame f.at in
         value-plain s.world.classes f.frame.regs x ty f.value w.known.regs w.regs w.ready
     met-plain _ _ (met_cell i {p = p} {ty = ty} there keeps at) =
-        let f = framed same_is kept s objects rules ready r asks (s.frames p) (λ (g : Frame). value_in_cells (reverse g.stack) i ≡ Some ty) at in
+        let f = framed objects rules ready r asks (s.frames p) (λ (g : Frame). value_in_cells (reverse g.stack) i ≡ Some ty) at in
         let w = ready.whole p f.0 f.1 in
         value-plain s.world.classes (reverse f.0.stack) i ty f.2
         (All-reverse (IsKnown s.world.classes) f.0.stack w.known.stack) (All-reverse IsNotBottom f.0.stack w.stack)

@@ -37,7 +37,8 @@ use Rattle.law_rewritten_typing.proofs.Walks.{holding, left, Asked, nothing_aske
 use Rattle.law_rewritten_typing.proofs.Ready.{IsReady, framed, reached}
 use Rattle.law_rewritten_typing.proofs.Copies.{copies-go}
 use Rattle.law_rewritten_typing.proofs.Carried.{carries-start}
-use Rattle.law_rewritten_typing.proofs.Running.{AreLaws, IsRecordFor}
+use Rattle.law_rewritten_typing.specs.Premises.{AreLaws}
+use Rattle.law_rewritten_typing.proofs.Running.{IsRecordFor}
 use Rattle.law_rewritten_typing.proofs.Leading.{Arrives, emptied_there, falls_there}
 use Rattle.law_rewritten_typing.proofs.Edges.{stub-flows, caught-flows}
 use Rattle.law_rewritten_typing.proofs.Listings.{IsReachedRun, run-of, IsBefore, Numbered, groups-flow}
@@ -63,12 +64,12 @@ module _ (new : ℕ → ℕ) (apart : (a b : ℕ) → new a ≡ new b → a ≡ 
 
     start-at : (g : Frame) × (s.frames 0 ≡ Some g) × FrameBelow s.world.classes (start_frame s.method.rec Top) g
     start-at =
-        framed l.same_is l.needed s l.objects l.rules ready r asks (s.frames 0) (FrameBelow s.world.classes (start_frame s.method.rec Top)) ready.typing.start
+        framed l.objects l.rules ready r asks (s.frames 0) (FrameBelow s.world.classes (start_frame s.method.rec Top)) ready.typing.start
 
     start-flows : AreArguments → Flows s.world r (registers_of s.homes) asks 0 (holding []) (copies s Start 0) (holding [])
     start-flows args =
-        copies-go l.same_is l.needed s l.objects l.rules ready r asks Start 0 []
-        (carries-start l.same_is l.needed s l.objects l.rules ready r asks start-at.0 start-at.1 start-at.2.regs args.known args.full args.fresh)
+        copies-go l.objects l.rules ready r asks Start 0 []
+        (carries-start l.objects l.rules ready r asks start-at.0 start-at.1 start-at.2.regs args.known args.full args.fresh)
         (omega (arith, own_rec.room)) 0
 
     start-before : IsBefore new apart s l ready r own_rec asks res code 0 (holding [])
@@ -110,7 +111,7 @@ module _ (new : ℕ → ℕ) (apart : (a b : ℕ) → new a ≡ new b → a ≡ 
           let c : Contains (targets s.method.code i) (pos (place t)) = subst (Contains (targets s.method.code i)) own
           (Contains-slice_get (targets s.method.code i) named.0 t named.1) in
           let g = k.below (place t) (jumped c) in
-          let lead = (ready.marks (place t)).1 (led_to {i = i} st (reached l.same_is l.needed s l.objects l.rules ready r asks i.place f e) c) in
+          let lead = (ready.marks (place t)).1 (led_to {i = i} st (reached l.objects l.rules ready r asks i.place f e) c) in
           flows-append s.world r (registers_of s.homes) asks
           (stub-flows new apart s l ready r own_rec asks res code i k.op f k.after g.frame n m at t k.run is some g.at g.below lead
           (wanted.stubs i m t st here))
@@ -156,10 +157,10 @@ module _ (new : ℕ → ℕ) (apart : (a b : ℕ) → new a ≡ new b → a ≡ 
           let c = Contains-slice_get s.method.rec.handlers n h e in
           let is = live-is s (l.rules.listed s.method.code) ready.has h
           (All-contains (IsHandlerOf s.method.code) s.method.rec.handlers h ready.has.formed.handlers c) c live in
-          let f = framed l.same_is l.needed s l.objects l.rules ready r asks (s.frames is.place)
+          let f = framed l.objects l.rules ready r asks (s.frames is.place)
           (λ (f : Frame). At s.frames h.entry (FrameBelow s.world.classes (caught_frame h f)))
           (ready.typing.handlers is.place h is.reached is.listed is.covers) in
-          let g = framed l.same_is l.needed s l.objects l.rules ready r asks (s.frames h.entry) (FrameBelow s.world.classes (caught_frame h f.0)) f.2 in
+          let g = framed l.objects l.rules ready r asks (s.frames h.entry) (FrameBelow s.world.classes (caught_frame h f.0)) f.2 in
           caught-flows new apart s l ready r own_rec asks res code n at h g.0 g.1 g.2.stack ((ready.marks h.entry).1 (entered is.reached is.listed is.covers))
           (wanted.handlers n h e)
 

@@ -6,7 +6,7 @@ use Rattle.std.proofs.lemmas.List.Elements.{All-append, All-nil, All-cons}
 use Rattle.std.proofs.lemmas.Bool.{both_ways}
 use Rattle.jc_base.specs.Cell.{IsDeclared, IsNoHalf}
 use Rattle.jc_base.specs.Class.{ClassTable, object}
-use Rattle.jc_base.specs.Laws.{ClassesAreObjects, SameTypeDecides, IsOrderOfTypes}
+use Rattle.jc_base.specs.Laws.{IsOrderOfTypes}
 use Rattle.jc_base.specs.Order.{Below, same, is_below, IsKnown}
 use Rattle.jc_base.specs.declared.record.MethodRec.{MethodRec}
 use Rattle.jc_base.specs.declared.ty.Ty.{Ty}
@@ -20,30 +20,26 @@ use Rattle.jc_ops.specs.declared.operation.Operation.{Operation}
 use Rattle.jc_ops.specs.declared.operation.Operation.TheVariants as ops
 use Rattle.jc_ops.specs.declared.operation.Sort.{Sort}
 use Rattle.jc_ops.specs.declared.operation.Sort.TheVariants as sorts
-use Rattle.jc_ops.specs.Entry.{RestsOnEntry}
-use Rattle.jc_ops.specs.Next.{OperationsGoAlike, falls_from, jumps_from}
+use Rattle.jc_ops.specs.Next.{falls_from, jumps_from}
 use Rattle.jc_ops.specs.Resolve.{resolved}
 use Rattle.jc_ops.specs.Row.{row_at}
-use Rattle.jc_ops.specs.Sound.{IsSound, OperationsAreSound}
+use Rattle.jc_ops.specs.Sound.{IsSound}
 use Rattle.jc_control.specs.WellFormed.{HasInstruction as IsListed}
 use Rattle.jc_rules.specs.declared.effect.Mode.TheVariants.{Flow}
 use Rattle.jc_rules.specs.declared.rule.Outcome.{Outcome}
 use Rattle.jc_rules.specs.Apply.{OperationApplies}
 use Rattle.jc_rules.specs.Demand.{Frame}
 use Rattle.jc_rules.specs.Flow.{CellsBelow, more_cells, IsFit, IsNotFresh, IsNotTop}
-use Rattle.jc_rules.specs.FlowLaws.{AreRules}
-use Rattle.jc_rules.specs.Footprint.{OperationNamesNone}
-use Rattle.jc_rules.specs.Laws.{IsNotBottom, OperationFalls, OperationKeeps, OperationRests}
+use Rattle.jc_rules.specs.Laws.{IsNotBottom}
 use Rattle.jc_rules.specs.Rule.{or_null}
-use Rattle.jc_rules.specs.Whole.{OperationKeepsWhole}
 use Rattle.xf_homes.specs.declared.home.Home.{Home}
-use Rattle.xf_homes.specs.Laws.{NeededAreKept}
 use Rattle.xf_homes.specs.Value.{value_in_cells, value_of}
 use Rattle.xf_homes.specs.Walk.{local_of}
 use Rattle.xf_homes.specs.Source.{Source}
 use Rattle.xf_homes.specs.Plan.{home_of, register}
 use Rattle.xf_emission.specs.Move.{load}
 use Rattle.xf_emission.specs.Group.{body, itself, loaded}
+use Rattle.law_rewritten_typing.specs.Premises.{AreLaws}
 use Rattle.law_rewritten_typing.specs.Typed.{registers_of}
 use Rattle.law_rewritten_typing.proofs.Walks.{holding, left, Asked, Flows, flow_plain, flow_end}
 use Rattle.law_rewritten_typing.proofs.Moves.{IsPlainValue, cells_on, load-turn, get-reg}
@@ -53,21 +49,6 @@ use Rattle.law_rewritten_typing.proofs.Kept.{IsKeptOperation}
 use Rattle.law_rewritten_typing.proofs.Turns.{NamesNone, IsLesser, kept-done, kept-resolves}
 use Rattle.law_rewritten_typing.proofs.Carried.{is-short, is-high, is-low}
 use Rattle.law_rewritten_typing.proofs.Stacks.{one-value}
-
--- the laws of worlds and of rules that a card typing of rewritten code rests on
-pub record AreLaws (w : Linked) : Type 0 where
-  pub same_is : SameTypeDecides
-  pub needed : NeededAreKept
-  pub objects : ClassesAreObjects w.classes
-  pub rules : AreRules w
-  pub alike : OperationsGoAlike w
-  pub sound : OperationsAreSound w
-  pub falls : OperationFalls w
-  pub keeps : OperationKeeps w
-  pub none : OperationNamesNone w
-  pub rests : OperationRests w
-  pub entry : RestsOnEntry w
-  pub whole : OperationKeepsWhole w
 
 -- the record of rewritten code: there is room for one cell more
 pub record IsRecordFor (m r : MethodRec) : Type 0 where
@@ -262,7 +243,7 @@ module _ (new : ℕ → ℕ) (apart : (a b : ℕ) → new a ≡ new b → a ≡ 
       let whole = ready.whole i.place f run.at in
       let is = load-is s.world l.rules.types s.method.rec.max_stack letter x f after run.outcome whole.regs run.does in
       let plain = value-plain s.world.classes f.regs x is.ty is.value whole.known.regs whole.regs whole.ready in
-      let stands = local-stands l.same_is l.needed s l.objects l.rules ready r asks i.place f x is.ty run.at is.value in
+      let stands = local-stands l.objects l.rules ready r asks i.place f x is.ty run.at is.value in
       let h : Home = record { slot = x; ty = is.ty } in
       let own : home_of x (local_of (s.frames i.place) x) ≡ Some h = local-at s i.place x f is.ty run.at is.value in
       let room = has-room i (ops.Load letter x) f after st run lesser in

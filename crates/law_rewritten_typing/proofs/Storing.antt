@@ -54,7 +54,8 @@ use Rattle.law_rewritten_typing.proofs.Renames.{named}
 use Rattle.law_rewritten_typing.proofs.Turns.{IsLesser}
 use Rattle.law_rewritten_typing.proofs.Carried.{is-short, is-high, is-low, set-other}
 use Rattle.law_rewritten_typing.proofs.Rows.{increased-at, pop-is, pop-two-is}
-use Rattle.law_rewritten_typing.proofs.Running.{AreLaws, IsRecordFor, IsRun, IsPassed, has-room, is-reference, found-below, value-one, value-int, local-at}
+use Rattle.law_rewritten_typing.specs.Premises.{AreLaws}
+use Rattle.law_rewritten_typing.proofs.Running.{IsRecordFor, IsRun, IsPassed, has-room, is-reference, found-below, value-one, value-int, local-at}
 
 -- ---- the top of a stack
 
@@ -162,7 +163,7 @@ module _ (new : ℕ → ℕ) (apart : (a b : ℕ) → new a ≡ new b → a ≡ 
   increment-by i width x amount f after st n ty run lesser value rest does =
       let h : Home = record { slot = x; ty = ty } in
       let own : home_of x (local_of (s.frames i.place) x) ≡ Some h = local-at s i.place x f ty run.at value in
-      let stands = local-stands l.same_is l.needed s l.objects l.rules ready r asks i.place f x ty run.at value in
+      let stands = local-stands l.objects l.rules ready r asks i.place f x ty run.at value in
       let go = l.alike s.method.rec i.place i.insn (ops.Increment width x amount) run.small (sym run.resolves) in
       let d = does (register s h) stands in
       let room = has-room new apart s l ready r own_rec asks res i (ops.Increment width x amount) f after st run lesser in
@@ -376,16 +377,16 @@ module _ (new : ℕ → ℕ) (apart : (a b : ℕ) → new a ≡ new b → a ≡ 
 
   in-order : (q x : ℕ) (h : Home) (hs : List Home) → needed s q x ≡ h ∷ hs → (k : Home) → IsAmong k hs → IsAskedBefore s.method s.frames q x h k
   in-order q x h hs e k a =
-      let order = subst (AreAskedInOrder s.method s.frames q x) e (needed-are l.same_is l.needed s l.objects l.rules ready r asks q x).order in
+      let order = subst (AreAskedInOrder s.method s.frames q x) e (needed-are l.objects l.rules ready r asks q x).order in
       each-among (IsAskedBefore s.method s.frames q x h) hs k order.0 a
 
   -- the first home that is needed is that of the type at the place
   first-needed : (q x : ℕ) (g : Frame) (h : Home) (hs : List Home) → s.frames q ≡ Some g → needed s q x ≡ h ∷ hs
       → value_in_cells g.regs x ≡ Some h.ty
   first-needed q x g h hs to e =
-      let is = needed-are l.same_is l.needed s l.objects l.rules ready r asks q x in
+      let is = needed-are l.objects l.rules ready r asks q x in
       let n = (is.all h).0 (subst (IsAmong h) (sym e) (inl refl)) in
-      let k = found l.same_is l.needed s l.objects l.rules ready r asks q x n.1.0 h.ty n.1.1 in
+      let k = found l.objects l.rules ready r asks q x n.1.0 h.ty n.1.1 in
       let v = value-under s.world.classes l.rules.types g.regs k.frame.regs x h.ty (k.above g to) (ready.whole q g to).regs k.value in
       let here : IsAsked s.method s.frames q x 0 v.0 = asked_here
       (subst (λ (o : Option Frame). IsSomeAnd o (λ (f : Frame). value_in_cells f.regs x ≡ Some v.0)) (sym to) v.1) in
@@ -403,8 +404,8 @@ module _ (new : ℕ → ℕ) (apart : (a b : ℕ) → new a ≡ new b → a ≡ 
       → Goes s.world r (registers_of s.homes) asks (holding stack) (copy s h k) (holding stack)
   copy-once q x g h k hs stack to e a room =
       let first = first-needed q x g h hs to e in
-      let own = needed-served l.same_is l.needed s l.objects l.rules ready r asks q x h (subst (IsAmong h) (sym e) (inl refl)) in
-      let other = needed-served l.same_is l.needed s l.objects l.rules ready r asks q x k (subst (IsAmong k) (sym e) (inr a)) in
+      let own = needed-served l.objects l.rules ready r asks q x h (subst (IsAmong h) (sym e) (inl refl)) in
+      let other = needed-served l.objects l.rules ready r asks q x k (subst (IsAmong k) (sym e) (inr a)) in
       let le = other.above g.regs g h.ty to (l.rules.order.self g.regs) (value-is g.regs x h.ty first).first in
       by own.stands other.stands le (narrow s.world.classes l.rules.types h.ty k.ty le own.stands.value other.stands.value)
     where
@@ -412,7 +413,7 @@ module _ (new : ℕ → ℕ) (apart : (a b : ℕ) → new a ≡ new b → a ≡ 
           → (h.ty ≡ k.ty) ⊎ ((cells_on h.ty ≡ h.ty ∷ []) × (cells_on k.ty ≡ k.ty ∷ []))
           → Goes s.world r (registers_of s.homes) asks (holding stack) (copy s h k) (holding stack)
       by p q' le (inl same_type) = let b = in-order q x h hs e k a in absurd (omega (arith, b.2 b.0 (subst (IsAsked s.method s.frames q x b.0) same_type b.1)))
-      by p q' le (inr ones) = copy-goes l.same_is l.needed s l.objects l.rules ready r asks h k stack p q' le ones.0 ones.1 room
+      by p q' le (inr ones) = copy-goes l.objects l.rules ready r asks h k stack p q' le ones.0 ones.1 room
 
   copies-once : (q x : ℕ) (g : Frame) (h : Home) (hs ks : List Home) (stack : List Ty) → s.frames q ≡ Some g → needed s q x ≡ h ∷ hs
       → ((k : Home) → IsAmong k ks → IsAmong k hs) → length stack + 1 ≤ r.max_stack
@@ -459,7 +460,7 @@ module _ (new : ℕ → ℕ) (apart : (a b : ℕ) → new a ≡ new b → a ≡ 
           (map (named new apart) k.rest)
       by [] e = k.pops n (omega (arith, room, own_rec.room))
       by (h ∷ hs) e =
-          let own = needed-served l.same_is l.needed s l.objects l.rules ready r asks q x h (subst (IsAmong h) (sym e) (inl refl)) in
+          let own = needed-served l.objects l.rules ready r asks q x h (subst (IsAmong h) (sym e) (inl refl)) in
           let le = own.above after.regs g k.ty to below.regs k.stored_is in
           flow_plain s.world r (registers_of s.homes) asks
           (store-turn s.world l.objects r (registers_of s.homes) asks n h.ty (register s h) k.vs (map (named new apart) k.rest) own.stands

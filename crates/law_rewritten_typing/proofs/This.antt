@@ -56,7 +56,8 @@ use Rattle.law_rewritten_typing.proofs.Turns.{IsLesser, kept-resolves}
 use Rattle.law_rewritten_typing.proofs.Carried.{is-high, is-low}
 use Rattle.law_rewritten_typing.proofs.Rows.{read-on-stack, write-on-stack, swap-one-is, swap-two-is}
 use Rattle.law_rewritten_typing.proofs.Storing.{has-top}
-use Rattle.law_rewritten_typing.proofs.Running.{AreLaws, IsRecordFor, IsRun, IsPassed, has-room, IsReferenceIn, is-reference, found-below, value-one, local-at}
+use Rattle.law_rewritten_typing.specs.Premises.{AreLaws}
+use Rattle.law_rewritten_typing.proofs.Running.{IsRecordFor, IsRun, IsPassed, has-room, IsReferenceIn, is-reference, found-below, value-one, local-at}
 use Rattle.law_rewritten_typing.proofs.Running.{push-lesser}
 
 -- ---- the value of a field
@@ -121,7 +122,7 @@ module _ (new : ℕ → ℕ) (apart : (a b : ℕ) → new a ≡ new b → a ≡ 
       record {
         ty = k.ty;
         own = local-at s i.place 0 f k.ty at value;
-        stands = local-stands l.same_is l.needed s l.objects l.rules ready r asks i.place f 0 k.ty at value;
+        stands = local-stands l.objects l.rules ready r asks i.place f 0 k.ty at value;
         below = k.below;
         is = is;
       }

@@ -11,18 +11,18 @@ use Rattle.xf_emission.specs.Emission.{rewritten}
 use Rattle.xf_emission.specs.Laws.{IsCode}
 use Rattle.law_laid.specs.Laid.{record_with}
 use Rattle.law_rewritten_typing.specs.Typed.{HasTypingByHomes, registers_of}
-use Rattle.law_rewritten_typing.specs.Whole.{DerivedAreWhole}
 use Rattle.law_rewritten_typing.proofs.Walks.{count}
 use Rattle.law_rewritten_typing.proofs.Ready.{IsReady}
 use Rattle.law_rewritten_typing.proofs.Registers.{arguments-known, arguments-full, arguments-ready, registers-known, registers-ready, registers-declared}
-use Rattle.law_rewritten_typing.proofs.Running.{AreLaws, IsRecordFor}
+use Rattle.law_rewritten_typing.specs.Premises.{AreLaws}
+use Rattle.law_rewritten_typing.proofs.Running.{IsRecordFor}
 use Rattle.law_rewritten_typing.proofs.Numbers.{numbered, numbered-apart, numbered-is}
 use Rattle.law_rewritten_typing.proofs.Listings.{filled}
 use Rattle.law_rewritten_typing.proofs.Rewriting.{AreArguments, items-flow}
 use Rattle.law_rewritten_typing.proofs.LabelDemands.{asks_of, are-wanted}
 use Rattle.law_rewritten_typing.proofs.Typings.{AreAsked, stacks, walk-types}
 
-module _ (s : Source) (l : AreLaws s.world) (ready : IsReady s) (code : IsCode s) (mo : IsMethodOf s.world s.method) (derived : DerivedAreWhole s.world)
+module _ (s : Source) (l : AreLaws s.world) (ready : IsReady s) (code : IsCode s) (mo : IsMethodOf s.world s.method)
     (are : AreHomes s.world s.method s.frames s.homes) where
   pub rewritten-typed : AreAsked s.world s.method.rec s.method.code (rewritten s) (registers_of s.homes) (asks_of s)
       → HasTypingByHomes s.world s.method s.homes (rewritten s)
@@ -39,16 +39,16 @@ module _ (s : Source) (l : AreLaws s.world) (ready : IsReady s) (code : IsCode s
       let a = l.rules.listed s.method.code in
       let numbers = numbered-is s s.method.code first xs code.lists (λ i c. a.long i.place i.insn (a.decodes i c)) in
       let args : AreArguments new apart s l ready r own_rec (asks_of s) res code = record {
-        known = arguments-known l.same_is l.needed s l.objects l.rules ready r (asks_of s) l.alike code mo derived are;
-        full = arguments-full l.same_is l.needed s l.objects l.rules ready r (asks_of s) l.alike code mo derived are;
-        fresh = arguments-ready l.same_is l.needed s l.objects l.rules ready r (asks_of s) l.alike code mo derived are;
+        known = arguments-known l.objects l.rules ready r (asks_of s) l.alike code mo l.derived are;
+        full = arguments-full l.objects l.rules ready r (asks_of s) l.alike code mo l.derived are;
+        fresh = arguments-ready l.objects l.rules ready r (asks_of s) l.alike code mo l.derived are;
       } in
       let flow = items-flow new apart s l ready r own_rec (asks_of s) res code (are-wanted new apart s l ready r own_rec res code) args numbers in
       record {
         stacks = stacks s.world s.method.rec s.method.code (rewritten s) (registers_of s.homes) (asks_of s) asked flow;
         typing =
             walk-types s.world s.method.rec s.method.code (rewritten s) (registers_of s.homes) (asks_of s) asked flow
-            (registers-known l.same_is l.needed s l.objects l.rules ready r (asks_of s) l.alike code mo derived are)
-            (registers-ready l.same_is l.needed s l.objects l.rules ready r (asks_of s) l.alike code mo derived are)
-            (registers-declared l.same_is l.needed s l.objects l.rules ready r (asks_of s) l.alike code mo derived are);
+            (registers-known l.objects l.rules ready r (asks_of s) l.alike code mo l.derived are)
+            (registers-ready l.objects l.rules ready r (asks_of s) l.alike code mo l.derived are)
+            (registers-declared l.objects l.rules ready r (asks_of s) l.alike code mo l.derived are);
       }

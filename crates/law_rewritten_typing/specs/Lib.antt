@@ -3,3 +3,4 @@ pub mod Typed
 pub mod Laws
 pub mod Planned
 pub mod Edges
+pub mod Premises

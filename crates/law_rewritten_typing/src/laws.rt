@@ -1,12 +1,11 @@
 ghost use Rattle.law_rewritten_typing.specs.Edges.{CellsFillStack, EdgesCarry, ForksAreCut, ForksMatch, NeededHaveHomes};
 ghost use Rattle.law_rewritten_typing.specs.Laws.{RewrittenIsTyped};
+ghost use Rattle.law_rewritten_typing.specs.Premises.{AreLaws};
 ghost use Rattle.law_rewritten_typing.specs.Whole.{DerivedAreWhole};
 
-use jc_base::{World, subclasses_extend, types_are_ordered};
+use jc_base::{World, subclasses_extend};
 use jc_ops::{entries_are_named, operations_are_sound, operations_go_alike};
 use jc_rules::{footprint_laws, operation_laws, rule_laws};
-use law_laid::catches_by_pool;
-use xf_homes::{homes_serve, needed_are_kept};
 
 /// The states of a least typing have whole stacks, and no register without a value.
 pub fn derived_are_whole(world: &World<'_>)
@@ -17,11 +16,10 @@ pub fn derived_are_whole(world: &World<'_>)
     operation_laws(world);
 }
 
-/// The code that stands for a method has a card typing, in which each home's registers have the home's type.
-pub fn rewritten_is_typed(world: &World<'_>)
-    ensures { RewrittenIsTyped world.now }
+/// What the typing of rewritten code rests on holds of each world.
+pub(crate) fn premises_hold(world: &World<'_>)
+    ensures { AreLaws world.now }
 {
-    types_are_ordered(world.classes());
     subclasses_extend(world.classes());
     operations_are_sound(world);
     entries_are_named(world);
@@ -29,10 +27,14 @@ pub fn rewritten_is_typed(world: &World<'_>)
     rule_laws(world);
     operation_laws(world);
     footprint_laws(world);
-    homes_serve(world);
-    needed_are_kept(world);
-    catches_by_pool();
     derived_are_whole(world);
+}
+
+/// The code that stands for a method has a card typing, in which each home's registers have the home's type.
+pub fn rewritten_is_typed(world: &World<'_>)
+    ensures { RewrittenIsTyped world.now }
+{
+    premises_hold(world);
 }
 
 /// What stands at a place has homes: the locals that are needed there, and the cells of a stack that is kept, which follow
@@ -45,15 +47,5 @@ pub fn edges_carry(world: &World<'_>)
     ensures cuts { ForksAreCut world.now }
     ensures matches { ForksMatch world.now }
 {
-    types_are_ordered(world.classes());
-    subclasses_extend(world.classes());
-    operations_are_sound(world);
-    entries_are_named(world);
-    operations_go_alike(world);
-    rule_laws(world);
-    operation_laws(world);
-    footprint_laws(world);
-    homes_serve(world);
-    needed_are_kept(world);
-    derived_are_whole(world);
+    premises_hold(world);
 }

@@ -3,7 +3,7 @@ use Rattle.law_groups.proofs.all.rewritten_matches.Goals as goal
 
 pub returns : goal.returns
 returns c =
-    rewritten-matches c.args.world.now c.methods_are_kept.ensures c.operations_are_kept.ensures.operations c.catches_by_pool.ensures
+    rewritten-matches c.args.world.now
     (record {
       world = c.classes.ensures.links;
       sound = c.operations_are_sound.ensures.sound;

@@ -3,10 +3,7 @@ use Rattle.law_groups.proofs.Returning.{calls-end}
 use Rattle.law_groups.proofs.laws.groups_catch.Goals as goal
 
 pub returns-clause-ends : goal.returns-clause-ends
-returns-clause-ends c =
-    calls-end c.groups_stand_at_steps.ensures.groups c.groups_stand_at_steps.ensures.follow c.args.world.now
+returns-clause-ends c = calls-end c.args.world.now
 
 pub returns-clause-catches : goal.returns-clause-catches
-returns-clause-catches c =
-    groups-catch c.labels_stand_once.ensures c.groups_stand.ensures c.instructions_are_listed.ensures
-    c.groups_stand_at_steps.ensures.groups c.groups_stand_at_steps.ensures.follow c.args.world.now
+returns-clause-catches c = groups-catch c.args.world.now

@@ -1,22 +1,5 @@
-use Rattle.std.proofs.Common.{◌≡◌, subst}
-use Rattle.jc_base.specs.Laws.{ClassesAreObjects}
 use Rattle.law_homes.proofs.Stores.{stores-run}
 use Rattle.law_homes.proofs.laws.stores_run.Goals as goal
 
 pub returns : goal.returns
-returns c =
-    let own : c.classes-2.result.now ≡ c.args.source.now.classes = cc in
-    record {
-      stores = λ w world.
-          stores-run c.args.source.now w
-          (record {
-            serve = c.homes_serve.ensures;
-            needed = c.edges_carry.ensures.needed;
-            fill = c.edges_carry.ensures.cells;
-            carry = c.edges_carry.ensures.edges;
-            rules = c.rule_laws.ensures;
-            objects = subst ClassesAreObjects own c.subclasses_extend.ensures.objects;
-            same_is = c.types_are_ordered.ensures.same;
-            world = world;
-          });
-    }
+returns c = record { stores = λ w world. stores-run c.args.source.now w (c.premises_hold.ensures w world) }

@@ -3,5 +3,4 @@ use Rattle.law_renumbered.proofs.laws.renumbered_is_renamed.Goals as goal
 
 pub returns : goal.returns
 returns c =
-    renumbered-is-renamed c.args.world.now c.classes.ensures.links c.operations_are_sound.ensures.sound c.instructions_are_listed.ensures
-    c.instructions_are_placed.ensures c.operations_are_kept.ensures.operations c.operations_are_kept.ensures.demands c.catches_by_pool.ensures
+    renumbered-is-renamed c.args.world.now c.classes.ensures.links c.operations_are_sound.ensures.sound c.instructions_are_placed.ensures

@@ -1,24 +1,5 @@
-use Rattle.std.proofs.Common.{◌≡◌, subst}
-use Rattle.jc_base.specs.Laws.{ClassesAreObjects}
 use Rattle.law_rewritten_typing.proofs.RewrittenTyping.{rewritten-is-typed}
 use Rattle.law_rewritten_typing.proofs.laws.rewritten_is_typed.Goals as goal
 
 pub returns : goal.returns
-returns c =
-    let own : c.classes-2.result.now ≡ c.args.world.now.classes = cc in
-    rewritten-is-typed c.args.world.now
-    (record {
-      same_is = c.types_are_ordered.ensures.same;
-      needed = c.needed_are_kept.ensures;
-      objects = subst ClassesAreObjects own c.subclasses_extend.ensures.objects;
-      rules = c.rule_laws.ensures;
-      alike = c.operations_go_alike.ensures;
-      sound = c.operations_are_sound.ensures.sound;
-      falls = c.operation_laws.ensures.falls;
-      keeps = c.operation_laws.ensures.keeps;
-      none = c.footprint_laws.ensures.names_none;
-      rests = c.operation_laws.ensures.rests;
-      entry = c.entries_are_named.ensures.rests;
-      whole = c.operation_laws.ensures.keeps_whole;
-    })
-    c.derived_are_whole.ensures c.homes_serve.ensures c.catches_by_pool.ensures
+returns c = rewritten-is-typed c.args.world.now c.premises_hold.ensures
