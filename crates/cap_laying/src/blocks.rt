@@ -127,7 +127,8 @@ pub(crate) fn put_table(
 /// Appends the entries of a method that stands at an offset.
 fn put_block(at: u16, body: Body<'_>, out: &mut Vec<u8>) -> Result<(), AllocError>
     requires { IsPlacedBody at body }
-    ensures bytes { OnOk result (out.new.items ≡ out.old.items ++ table_bytes (entries_at (at + lead_size body.entry) (handlers_of body.entry))) }
+    ensures bytes { OnOk result (out.new.items
+        ≡ out.old.items ++ table_bytes (entries_at (at + lead_size body.entry) (handlers_of body.entry))) }
     ensures small { OnOk result (AreSmallEntries (entries_at (at + lead_size body.entry) (handlers_of body.entry))) }
 {
     match body {
