@@ -347,7 +347,7 @@ can_do (defend r) before after sink put verdict can calm answers =
     (λ packages roles w. defended before after r w verdict) can calm answers
 can_do (run r) before after sink put verdict can calm answers =
     over_world (of_world (RunsWorld r)) (λ packages roles w. HaveCardTypings w × (run_fault w r ≡ None))
-        (places Components r.dirs) before after sink put verdict
+    (places Components r.dirs) before after sink put verdict
     (λ packages roles w has. ran before after r w verdict has.0 has.1) can calm answers
 can_do (transform t) before after sink put verdict can calm answers =
     over_world (TransformsWorld t) (λ packages roles w. CanBring packages w) (places Components t.dirs) before after sink put verdict
@@ -361,7 +361,7 @@ can_do (trial r) before after sink put verdict can calm answers =
 can_do (generate g) before after sink put verdict can calm answers = can_generate g before after sink put verdict can calm answers
 can_do (bound e) before after sink put verdict can calm answers =
     over_world (of_world (BoundsWorld e)) (λ packages roles w. HaveCardTypings w × (bound_fault w e ≡ None))
-        (places Components e.dirs) before after sink put verdict
+    (places Components e.dirs) before after sink put verdict
     (λ packages roles w has. bounded before after e w verdict has.0 has.1) can calm answers
 can_do (pack o) before after sink put verdict can calm answers = can_pack o before.folders after.folders sink put verdict can calm answers.0
 can_do (install dirs) before after sink put verdict can calm answers =

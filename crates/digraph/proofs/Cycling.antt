@@ -66,9 +66,14 @@ module _ (g : List (List ℕ)) (known : List (Option ℕ)) (from : ℕ) (graph :
       All-contains (λ x. x < length g) (slice_index_or g cur []) next.to (All-get_or (All (λ x. x < length g)) g cur [] w.inside graph.edges) next.among in
       elim (cases (slice_index_or marks next.to false)) [
         | inl had ↦
-            let p = w.passed next.to had in
-            (next.to, record { there = p.there; again = ⊎_elim (λ is. by_step (subst (λ x. Edge g x next.to) (sym is) next.among))
-                (λ l. leads-more l next.among) p.comes })
+            let p = w.passed next.to had in (
+              next.to,
+              record {
+                there = p.there;
+                again = ⊎_elim (λ is. by_step (subst (λ x. Edge g x next.to) (sym is) next.among))
+                    (λ l. leads-more l next.among) p.comes;
+              },
+            )
         | inr free ↦
             let s = sum_by-set one_if_free marks next.to true false (omega (arith, w.lengths)) in
             let o : one_if_free (slice_index_or marks next.to false) ≡ 1 = ap one_if_free free in

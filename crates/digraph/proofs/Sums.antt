@@ -102,7 +102,7 @@ table-more g ws known v best table inside sized is most = record {
           let here = subst (λ x. known_at (set known v (Some (weight_of ws v + best))) x ≡ Some b) at e in
           let eq : weight_of ws v + best ≡ b = same_Some (weight_of ws v + best) b (sym same ∙ here) in
           subst (λ x. IsGreatest (Edge g) (weight_of ws) x b) (sym at) (subst (IsGreatest (Edge g) (weight_of ws) v) eq
-              (greatest-here g ws known v best table most))
+          (greatest-here g ws known v best table most))
       | inr other ↦ table.greatest u b (sym (get_or-set_other known v u (Some (weight_of ws v + best)) None other) ∙ e)
     ]
 

@@ -133,7 +133,11 @@ fn signature_in(
         last = next;
     }
     let ty = type_of(home, last, least);
-    let result = if last.nibble == TypeItem::VOID { None } else { Some(ty) };
+    let result = if last.nibble == TypeItem::VOID {
+        None
+    } else {
+        Some(ty)
+    };
     Ok(Sig {
         args: Items::of(args),
         result,

@@ -134,7 +134,7 @@ module _ (v w : Linked) (b : IsBegun v w) where
   method_after : (n : ℕ) → length v.methods ≤ n → IfSome (slice_get w.methods n) (λ m. count ≤ m.class)
   method_after n le =
       subst (λ ms. IfSome (slice_get ms n) (λ m. count ≤ m.class)) (sym b.methods)
-          (each_after (λ (m : MethodRec). count ≤ m.class) v.methods b.added b.apart n le)
+      (each_after (λ (m : MethodRec). count ≤ m.class) v.methods b.added b.apart n le)
 
   abbrev describes : ℕ → ℕ → Linked → ℕ → Bool
   describes c token x n = passes_test (is_described c token) (slice_get x.methods n)

@@ -74,7 +74,7 @@ typed-all ps roles w some agreed linked checked m is =
     let keeps = typings-stay (take k ps) (drop k ps) roles one.world w some agreed_all one.linked large in
     let taken = length-take k ps in
     let size : length one.world.infos ≡ k = ap length one.linked.lists.infos ∙ length-map (take k ps) _
-        ∙ (let e : length (take k ps) ≡ k = omega (arith, taken, home) in e) in
+    ∙ (let e : length (take k ps) ≡ k = omega (arith, taken, home) in e) in
     let below : m.rec.«package» < length one.world.infos = omega (arith, size) in
     let there = method_down one.world w more m is below in
     let typing = one.typed m (record { method = there; last = sym size }) in

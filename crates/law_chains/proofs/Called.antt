@@ -168,7 +168,7 @@ module _ (w : Linked) (world : IsWorld w) where
       chosen-run n receiver choices.Special m is method chosen k count y e =
           let rest = null-calls (word_of (slice_index_or f.stack (args_of w n) cells.Empty))
           (λ h. calls n (args_of w n + 1) (with_ready tagged w.classes (record { method = n; receiver = receiver; choice = choices.Special })
-              (args_of w n) now)) k count y e in
+          (args_of w n) now)) k count y e in
           let eq : n ≡ k = same-method-called n k (args_of w n + 1) count
           (with_ready tagged w.classes (record { method = n; receiver = receiver; choice = choices.Special }) (args_of w n) now) y rest.1 in
           record { may = sym eq; code = subst (HasCode w) eq (has-code n m method chosen.body) }

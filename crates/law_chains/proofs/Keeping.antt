@@ -158,7 +158,7 @@ module _ (f : Frame Cell) (below : List (Frame Cell)) (heap : List (Object Cell)
   choice-keeps w callee choices.Static = refl
   choice-keeps w callee choices.Special = null-keeps here (handle_at tagged f.stack (args_of w callee.method))
       (λ h. calls callee.method (args_of w callee.method + 1) (with_ready tagged w.classes (record callee { choice = choices.Special })
-          (args_of w callee.method) now))
+      (args_of w callee.method) now))
       (λ h. readied-keeps (made_at callee.receiver (tagged.type_of w.classes (kinds now) (nth tagged f.stack (args_of w callee.method)))))
   choice-keeps w callee (choices.Virtual class token) = null-keeps here (handle_at tagged f.stack (args_of w callee.method))
       (λ h. calls (unwrap_or (dispatched w.classes class token (class_of w.classes now h)) callee.method) (args_of w callee.method + 1) now) (λ h. refl)
@@ -198,7 +198,7 @@ module _ (f : Frame Cell) (below : List (Frame Cell)) (heap : List (Object Cell)
   act-keeps w i (ops.FieldWrite field holder) = null-keeps here (held_handle tagged holder (width field.kind) now)
       (λ h. goes (with_field_write tagged field holder h now))
       (λ h. object-value-keeps (dropped now (width field.kind + holder_width holder)) h field.cell
-          (kept_value tagged field.kind (value_on tagged field.kind f.stack)))
+      (kept_value tagged field.kind (value_on tagged field.kind f.stack)))
   act-keeps w i (ops.Call callee) = choice-keeps w callee callee.choice
   act-keeps w i (ops.New place class) = refl
   act-keeps w i (ops.NewArray ty) = array-keeps (kind_of_type ty) (short_at tagged f.stack 0) (dropped now 1) refl

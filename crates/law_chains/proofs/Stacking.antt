@@ -88,12 +88,12 @@ module _ (w : Linked) (entry : ℕ) where
     where
       go : (b : Bool) → KeepsToCalls w entry (if b
           then thrown tagged w (length s.heap + 1) (with_object s (Instance (slice_index w.classes.roles (role_of exception)))
-              (new_instance_cells tagged w.classes (slice_index w.classes.roles (role_of exception))))
+          (new_instance_cells tagged w.classes (slice_index w.classes.roles (role_of exception))))
           else ends (Plain HeapFull) s)
       go true = unwound-keeps (class_of w.classes (with_object s (Instance (slice_index w.classes.roles (role_of exception)))
           (new_instance_cells tagged w.classes (slice_index w.classes.roles (role_of exception)))) (length s.heap + 1)) (length s.heap + 1)
           (with_object s (Instance (slice_index w.classes.roles (role_of exception)))
-              (new_instance_cells tagged w.classes (slice_index w.classes.roles (role_of exception))))
+          (new_instance_cells tagged w.classes (slice_index w.classes.roles (role_of exception))))
           s.frames h
       go false = tt
 
@@ -143,7 +143,7 @@ module _ (w : Linked) (entry : ℕ) where
 
           called : (fs : List (Frame Cell)) → methods_of fs ≡ methods_of (f ∷ below)
               → methods_on (with_call tagged w.methods (record { frames = fs; heap = z.heap; statics = z.statics }) method count)
-                  ≡ method ∷ methods_of (f ∷ below)
+              ≡ method ∷ methods_of (f ∷ below)
           called [] e = absurd (cc)
           called (g ∷ gs) e = ap (λ ms. method ∷ ms) e
 
@@ -209,13 +209,13 @@ module _ (w : Linked) (entry : ℕ) where
     performed-keeps [] heap statics m i op typed fetched resolves h = let runs = fetched.runs in absurd (omega (arith, runs))
     performed-keeps (f ∷ below) heap statics m i op typed fetched resolves h =
         fault-keeps (record { frames = f ∷ below; heap = heap; statics = statics })
-            (fault_before tagged w op (record { frames = f ∷ below; heap = heap; statics = statics }))
+        (fault_before tagged w op (record { frames = f ∷ below; heap = heap; statics = statics }))
         (settled tagged w (i.place + i.insn.len) (record { frames = f ∷ below; heap = heap; statics = statics })
         (act tagged w i.insn op (record { frames = f ∷ below; heap = heap; statics = statics })))
         (settled-keeps (i.place + i.insn.len) f below heap statics h (act tagged w i.insn op (record { frames = f ∷ below; heap = heap; statics = statics }))
         (act-keeps f below heap statics w i.insn op)
         (λ method count y e. only-called-methods-run w world typings
-            (record { frames = f ∷ below; heap = heap; statics = statics }) y m i op method count are typed
+        (record { frames = f ∷ below; heap = heap; statics = statics }) y m i op method count are typed
         fetched resolves e))
 
     step-keeps : (s : State Cell) (o : Outcome Cell) → IsTypedState w typings s → AreStacked w entry (methods_on s) → Steps tagged w s o

@@ -89,7 +89,7 @@ module _ (before : Folders) (dirs : List (List ℕ)) (w : Linked) (told : IsSome
   pub folders-checked : CheckedPackagesNeverFault w → AreCheckedFolders before dirs → IsFaultFree w
   folders-checked sound each =
       sound held.packages held.roles (some_roles (places Components dirs) held.roles held.given.roles_are)
-          (agreed held.parts held.packages held.stand) held.linked
+      (agreed held.parts held.packages held.stand) held.linked
       (checked_all each)
 
 pub checked-folders-never-fault : (w : Linked) → CheckedPackagesNeverFault w → CheckedFoldersNeverFault w

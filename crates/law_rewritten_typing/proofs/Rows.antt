@@ -185,7 +185,7 @@ read-on-stack w m r place n i f lt home e =
 -- a write of a field of `this`, as that of an object on the stack
 pub write-on-stack : (w : Linked) (m r : MethodRec) (place n : ℕ) (i : Insn) (f : InstanceField) → i.op < 256 → m.package ≡ r.package
     → resolved w m place i (row_at i.op) ≡ Ok (ops.FieldWrite f holders.This) → resolved w r n (record i { op = i.op - from_write })
-        (row_at (i.op - from_write))
+    (row_at (i.op - from_write))
     ≡ Ok (ops.FieldWrite f holders.Stack)
 unfolding row_at table by_sort by_width by_kind first_four by_register literals binaries orders_all branching unused
 write-on-stack w m r place n i f lt home e =

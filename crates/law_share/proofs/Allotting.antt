@@ -217,10 +217,10 @@ module _ (w : Linked) (m : Method) where
   either (more_allotted k at fit rest) a b (inl here) (inl there) = inl (sym here ∙ there)
   either (more_allotted k at {before = before} fit rest) a b (inl here) (inr later) =
       inr (inl (beside-before rest a b (subst (Contains (before ++ record { variable = k; at = at } ∷ [])) here
-          (Contains-push before (record { variable = k; at = at }))) later))
+      (Contains-push before (record { variable = k; at = at }))) later))
   either (more_allotted k at {before = before} fit rest) a b (inr later) (inl there) =
       inr (inr (beside-before rest b a (subst (Contains (before ++ record { variable = k; at = at } ∷ [])) there
-          (Contains-push before (record { variable = k; at = at }))) later))
+      (Contains-push before (record { variable = k; at = at }))) later))
   either (more_allotted k at fit rest) a b (inr later) (inr also) = either rest a b later also
 
   -- where they share a register, they share all in their order, and don't interfere

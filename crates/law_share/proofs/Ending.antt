@@ -39,7 +39,7 @@ module _ (v w : Linked) (typings : Typings) (r : Renaming) (laws : AreLaws v) (p
     settles =
         subst
         (λ cs. Settles v w typings r (running (entry_state tagged v entry args))
-            (running (record (made w) { frames = entered tagged w.methods entry cs ∷ [] })))
+        (running (record (made w) { frames = entered tagged w.methods entry cs ∷ [] })))
         (sym (handed-same v w pair.same entry args))
         (enters v w typings r laws pair entry handed [] [] (made v).heap (made w).heap (made v).statics (made w).statics
         (ap (λ (x : State Cell). x.heap) (made-same v w pair.same entry args)) (ap (λ (x : State Cell). x.statics) (made-same v w pair.same entry args))

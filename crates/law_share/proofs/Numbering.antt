@@ -253,7 +253,7 @@ module _ (v : Linked) (links : IsWorld v) (m : Method) (regs : List Ty) (stacks 
     has-number : (x : ℕ) → x < length regs → HasNumber nargs given x
     has-number x lt =
         registers-have-numbers v m (drop nargs regs) ks given x vs all (let long = length-drop nargs regs in let total = count in omega
-            (arith, lt, long, total))
+        (arith, lt, long, total))
 
     number-is : (x : ℕ) (lt : x < length regs) → f x ≡ (has-number x lt).number
     number-is x lt = (has-number x lt).one (f x) (numbers x (let total = count in omega (arith, lt, total)))

@@ -202,7 +202,7 @@ module _ (v : Linked) (rests : OperationReads v) (one : FootprintIsOne v) (limit
       let here : reg kept x ≡ ty = ap (λ (xs : List Ty). reg xs x) stored ∙ get_or-set_same regs x ty Top inside in
       let type : reg regs x ≡ reg others y = sym (reg-same regs others f same x inside) ∙ ap (reg others) (sym is) in
       stored-below v.classes others others y ty (subst (Below v.classes ty) type (below-there v.classes kept regs x ty here below))
-          (cells-same v.classes others)
+      (cells-same v.classes others)
 
   -- two are, by an int
   int-stored :
@@ -219,7 +219,7 @@ module _ (v : Linked) (rests : OperationReads v) (one : FootprintIsOne v) (limit
       let second : reg regs (x + 1) ≡ reg others (y + 1) =
       sym (reg-same regs others f same (x + 1) (omega (arith, inside))) ∙ ap (reg others) (sym next) in
       let one_below = stored-below v.classes others others y IntHigh (subst (Below v.classes IntHigh) first
-          (below-there v.classes kept regs x IntHigh high below))
+      (below-there v.classes kept regs x IntHigh high below))
       (cells-same v.classes others) in
       stored-below v.classes (set others y IntHigh) others (y + 1) IntLow
       (subst (Below v.classes IntLow) second (below-there v.classes kept regs (x + 1) IntLow low below)) one_below

@@ -156,7 +156,7 @@ module _ (v : Linked) (links : IsWorld v) (m target : Method) (regs : List Ty) (
             held a among (suc zero) lt =
                 let end_is = before-end v m given a among in
                 let two : a.variable.width ≡ 2 = (let most = (width-most a.variable (proper a.variable (among-variable v m all a among))).1 in omega
-                    (arith, most, lt)) in
+                (arith, most, lt)) in
                 slice_get-get_or others (a.at + 1) Top (omega (arith, end_is, lt, size)) ∙ ap Some ((holds a among).second two)
             held a among (suc (suc n)) lt =
                 let most = (width-most a.variable (proper a.variable (among-variable v m all a among))).1 in

@@ -300,7 +300,7 @@ module _ (v w : Linked) (typings : Typings) (r : Renaming) (laws : AreLaws v) (p
         let code : code_of v.infos st.rec ≡ source.code = ap (code_of v.infos) rec ∙ sym b.tops.is_source.code in
         let lt : i.place + i.insn.len < length source.code = (let e = ap length code in omega (arith, inside, e)) in
         let next : IsPlace source.code (i.place + i.insn.len) = next-is-place source i (i.place + i.insn.len)
-            (pair.typed source b.tops.is_source).formed operates.stands refl lt in
+        (pair.typed source b.tops.is_source).formed operates.stands refl lt in
         subst (λ c. IsPlace c (j.place + j.insn.len)) (sym code-there)
         (subst (IsPlace k.target.code) (sym are.next) (k.places (i.place + i.insn.len) next))
 

@@ -147,7 +147,7 @@ module _ (v w : Linked) (typings : Typings) (laws : AreLaws v) (r : Renaming) (p
         → Unwinds (f ∷ fs) (g ∷ gs)
     unwinds-one f g fs gs under c rest safe =
         subst (λ o. Settles v w typings r (unwound tagged v class handle sv (f ∷ fs))
-            (caught_or tagged w handle sw g gs (unwound tagged w class handle sw gs) o))
+        (caught_or tagged w handle sw g gs (unwound tagged w class handle sw gs) o))
         (sym (same-handler f g c class)) (by (handler_for v class f) refl safe)
       where
         by : (o : Option Handler) → handler_for v class f ≡ o
@@ -162,7 +162,7 @@ module _ (v w : Linked) (typings : Typings) (laws : AreLaws v) (r : Renaming) (p
             let room : nat_lt (max_stack_of w g.method) 1 ≡ false =
             ap (λ n. nat_lt n 1) (same-room v w typings laws r pair f g c.beside) ∙ is.room in
             settles-as v w typings r (caught_by tagged v h handle sv f fs) (caught_by tagged w k handle sw g gs) (running (here h f fs))
-                (running (there k g gs))
+            (running (there k g gs))
             is.goes (also-caught w handle sw k g gs room)
             (both_run (record {
               first = refl;

@@ -53,7 +53,7 @@ module _ (f : MethodRec → ℕ) where
       let here : f x ≡ laid_of o = own 0 x o (ap (slice_get (x ∷ ms)) (let e : 0 + 0 ≡ 0 = omega arith in e)) refl in
       let rest : sum_by f ms ≡ laid_locals laid = counted [] laid ms (omega (arith, long)) (λ n y l e. absurd (omega (arith, l)))
       (λ k y p e at. own (suc k) y p (ap (slice_get (x ∷ ms)) (let s : 0 + suc k ≡ suc k = omega arith in s)
-          ∙ (ap (slice_get ms) (let s : k ≡ 0 + k = omega arith in s) ∙ e)) at) in
+      ∙ (ap (slice_get ms) (let s : k ≡ 0 + k = omega arith in s) ∙ e)) at) in
       omega (arith, here, rest, sum_by-cons f x ms, sum_by-cons laid_of o laid)
   counted (l ∷ libraries) laid [] long none own = absurd (omega (arith, long))
   counted (l ∷ libraries) laid (x ∷ ms) long none own =
@@ -84,7 +84,7 @@ module _ (v : Linked) (no_more : RegistersAreNoMore) (laws : AreLaws v) (laid : 
   of-library n x lt at =
       let was = earlier-is n x lt at in
       let here : slice_get are.libraries n ≡ Some x = in-first are.libraries are.own n x lt
-          (ap (λ (ms : List MethodRec). slice_get ms n) (sym are.parts) ∙ was) in
+      (ap (λ (ms : List MethodRec). slice_get ms n) (sym are.parts) ∙ was) in
       let before : x.package + 1 < length v.infos = All-slice_get (λ r. r.package + 1 < length v.infos) are.libraries n x are.before here in
       ap (λ (b : Bool). cond (b && nat_lt 0 (length (code_of w.infos x))) x.max_locals 0)
       (ne_eqb (x.package + 1) (length w.infos) (λ e. absurd (omega (arith, e, before, packages))))
@@ -156,7 +156,7 @@ module _ (v : Linked) (no_more : RegistersAreNoMore) (laws : AreLaws v) (laid : 
           same-method v (source v laws laid are k r l own element) m (is-method v laws laid are k r l own element) mo (sym number) in
           let new : target v laws laid are k r l own element w same has ≡ n =
           same-method w (target v laws laid are k r l own element w same has) n (is-target v laws laid are k r l own element w same has) there
-              (sym (e ∙ number)) in
+          (sym (e ∙ number)) in
           let laid_is = (found v laws laid are k r l own element w same has).2 in
           let few = few-locals v no_more laws (source v laws laid are k r l own element) (is-method v laws laid are k r l own element) its.reg its.numbers in
           let words : l.max_locals ≡ its.locals = its.stands.2.max_locals in

@@ -21,9 +21,19 @@ IsPlaced tag = (is_required tag || is_optional tag) ≡ true → is_some (place 
 
 placed_each : Each IsPlaced (tags_from 1 12)
 unfolding place
-placed_each =
-    (λ e. refl, (λ e. refl, (λ e. refl, (λ e. refl,
-        (λ e. refl, (λ e. refl, (λ e. refl, (λ e. refl, (λ e. refl, (λ e. refl, (λ e. refl, (λ e. absurd (true≢false (sym e)), tt))))))))))))
+placed_each = (
+  λ e. refl,
+  (
+    λ e. refl,
+    (
+      λ e. refl,
+      (
+        λ e. refl,
+        (λ e. refl, (λ e. refl, (λ e. refl, (λ e. refl, (λ e. refl, (λ e. refl, (λ e. refl, (λ e. absurd (true≢false (sym e)), tt)))))))),
+      ),
+    ),
+  ),
+)
 
 custom_placed : (tag : ℕ) → 128 ≤ tag → tag < 256 → is_some (place tag) ≡ true
 unfolding place

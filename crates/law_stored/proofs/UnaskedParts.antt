@@ -165,9 +165,19 @@ module _ (p q : PackageRecord) (laid : List (Option Laid)) (parts : List Lent) (
   asked tag e = absurd (true≢false e)
 
   unasked_each : Each Unasked (tags_from 1 12)
-  unasked_each =
-      (asked 1, (asked 2, (applets_none, (asked 4,
-          (asked 5, (asked 6, (asked 7, (asked 8, (asked 9, (export_none, (asked 11, ((λ e. files.debug), tt))))))))))))
+  unasked_each = (
+    asked 1,
+    (
+      asked 2,
+      (
+        applets_none,
+        (
+          asked 4,
+          (asked 5, (asked 6, (asked 7, (asked 8, (asked 9, (export_none, (asked 11, ((λ e. files.debug), tt)))))))),
+        ),
+      ),
+    ),
+  )
 
   -- ---- custom components, and what is none
 

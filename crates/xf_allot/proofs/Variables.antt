@@ -150,7 +150,7 @@ module _ (w : Linked) (m : Method) where
       → All (λ other. FitsBeside w m (variable_of k) k.register (allotted_of other)) before
   last-fits k before all =
       All-weaker (LiesBefore k.register) (λ other. FitsBeside w m (variable_of k) k.register (allotted_of other))
-          (λ other lies. fits_after lies.given) before all
+      (λ other lies. fits_after lies.given) before all
 
   -- ---- one variable more
 

@@ -88,9 +88,13 @@ module _ (all : List Item) (s : Source) (small : (h : Home) → register s h < 2
         → Each (IsItem s.method.code all) (field_written s i k h)
     written-suits j u v k None = kept-suits j
     written-suits j u v k (Some h) =
-        each-if (IsItem s.method.code all) (stays s h) (itself i) _ (kept-suits j)
-        (load-suits s.method.code all s small h, (swap-suits s.method.code all s small k,
-            ((other-opcode i.insn (i.insn.op - from_write) u v.0 e.allowed, v.1), tt)))
+        each-if (IsItem s.method.code all) (stays s h) (itself i) _ (kept-suits j) (
+          load-suits s.method.code all s small h,
+          (
+            swap-suits s.method.code all s small k,
+            ((other-opcode i.insn (i.insn.op - from_write) u v.0 e.allowed, v.1), tt),
+          ),
+        )
 
     -- ---- jumps
 
@@ -233,12 +237,12 @@ module _ (all : List Item) (s : Source) (small : (h : Home) → register s h < 2
   body-suits i (ops.FieldRead f holders.This) e =
       let is = and_parts (only_u1 (layout_of i.insn.op)) _ e.suits in
       read-suits i (ops.FieldRead f holders.This) e refl is.0 (and_parts (only_u1 (layout_of (i.insn.op - from_read)))
-          (not (jumps (i.insn.op - from_read))) is.1)
+      (not (jumps (i.insn.op - from_read))) is.1)
       (local s i.place 0)
   body-suits i (ops.FieldWrite f holders.This) e =
       let is = and_parts (only_u1 (layout_of i.insn.op)) _ e.suits in
       written-suits i (ops.FieldWrite f holders.This) e refl is.0 (and_parts (only_u1 (layout_of (i.insn.op - from_write)))
-          (not (jumps (i.insn.op - from_write))) is.1)
+      (not (jumps (i.insn.op - from_write))) is.1)
       f.kind (local s i.place 0)
   body-suits i (ops.Branch branches.Always) e = gone-suits i (ops.Branch branches.Always) e refl
   body-suits i (ops.Branch (branches.Zero o)) e = branch-items i (ops.Branch (branches.Zero o)) e _ refl refl

@@ -43,7 +43,7 @@ pub raises-by :
     → IsSmall set → Raises n more old new
 raises-by n more set before old new is sets pending union rises other small =
     raised_now set sets pending (subst (λ (k : RegisterSet). IsUnion k more set) is union)
-        (subst (λ (k : RegisterSet). weight k < weight set) is (more-now rises)) small
+    (subst (λ (k : RegisterSet). weight k < weight set) is (more-now rises)) small
   where
     more-now : (set ≡ before) ⊎ (weight before < weight set) → weight before < weight set
     more-now (inl same) = absurd (other same)

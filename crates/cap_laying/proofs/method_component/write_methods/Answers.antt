@@ -60,8 +60,8 @@ returns c =
     ∙ sym (length_table (news_from (handler_indexes size (blocks room ms)) (1 + 8 * total_handlers (blocks room ms)) (by_offset size ms))
     (blocks room ms)) in
     let small = subst (λ b. AreSmallEntries (entries_of_blocks
-        (news_from (handler_indexes size (blocks room ms)) (1 + 8 * total_handlers (blocks room ms)) (by_offset size ms)) b)) six
-        (subst (λ n. AreSmallEntries (entries_of_blocks n c.deref-6.result.now)) news c.in_ok-put_table.ensures.small) in
+    (news_from (handler_indexes size (blocks room ms)) (1 + 8 * total_handlers (blocks room ms)) (by_offset size ms)) b)) six
+    (subst (λ n. AreSmallEntries (entries_of_blocks n c.deref-6.result.now)) news c.in_ok-put_table.ensures.small) in
     record {
       info =
           info_steps c.handler_total-total.result c.in_ok-info.info.items c.push.new.self.items c.put_table.new.out.items c.put_bodies.new.out.items entries

@@ -28,4 +28,4 @@ returns-in-Ok c =
       prints = prints;
     })
     (subst (λ v. IfOk c.bound_line.result (λ text. string_bytes text
-        ≡ bound_text v c.in-Ok.found)) c.world-world.ensures.is c.bound_line.ensures) c.done.ensures
+    ≡ bound_text v c.in-Ok.found)) c.world-world.ensures.is c.bound_line.ensures) c.done.ensures
