@@ -103,24 +103,15 @@ sort_of Short = single single_short
 sort_of IntHigh = single single_high
 sort_of IntLow = single single_low
 sort_of Null = null
-sort_of (Class c) = object_or_array refl
-sort_of ArrBool = object_or_array refl
-sort_of ArrByte = object_or_array refl
-sort_of ArrShort = object_or_array refl
-sort_of ArrInt = object_or_array refl
-sort_of (ArrRef c) = object_or_array refl
 sort_of (Fresh p c) = single (single_fresh p c)
 sort_of Top = top
+sort_of a = object_or_array refl
 
 null_is_below : (t : ClassTable) (b : Ty) → is_reference b ≡ true → is_below t Null b ≡ true
 unfolding is_below
-null_is_below t (Class c) h = refl
-null_is_below t ArrBool h = refl
-null_is_below t ArrByte h = refl
-null_is_below t ArrShort h = refl
-null_is_below t ArrInt h = refl
-null_is_below t (ArrRef c) h = refl
-null_is_below t b h = absurd (false≢true h)
+null_is_below t Null h = refl
+null_is_below t Top h = refl
+null_is_below t b h = h
 
 -- what is above two types that do not compare and are not both references is Top
 only_top : (t : ClassTable) (a b u : Ty) → Sort a → Sort b → is_below t a b ≡ false → is_below t b a ≡ false
@@ -277,50 +268,26 @@ join_of-known t are a b ka kb = others_known t are a b ka kb (is_below t a b) (i
 rises-most : (t : ClassTable) (b : Ty) → (b ≡ Bottom) ⊎ (rises_left t b ≤ height t + 2)
 unfolding rises_left
 rises-most t Bottom = inl refl
-rises-most t Short = inr (omega arith)
-rises-most t IntHigh = inr (omega arith)
-rises-most t IntLow = inr (omega arith)
-rises-most t Null = inr (omega arith)
 rises-most t (Class c) = inr (omega (arith, chain-height t c))
-rises-most t ArrBool = inr (omega arith)
-rises-most t ArrByte = inr (omega arith)
-rises-most t ArrShort = inr (omega arith)
-rises-most t ArrInt = inr (omega arith)
 rises-most t (ArrRef c) = inr (omega (arith, chain-height t c))
-rises-most t (Fresh p c) = inr (omega arith)
-rises-most t Top = inr (omega arith)
+rises-most t b = inr (omega arith)
 
 rises-least : (t : ClassTable) (a : Ty) → (a ≡ Top) ⊎ (0 < rises_left t a)
 unfolding rises_left
-rises-least t Bottom = inr (omega arith)
-rises-least t Short = inr (omega arith)
-rises-least t IntHigh = inr (omega arith)
-rises-least t IntLow = inr (omega arith)
-rises-least t Null = inr (omega arith)
-rises-least t (Class c) = inr (omega (arith, chain-not_empty t c))
-rises-least t ArrBool = inr (omega arith)
-rises-least t ArrByte = inr (omega arith)
-rises-least t ArrShort = inr (omega arith)
-rises-least t ArrInt = inr (omega arith)
-rises-least t (ArrRef c) = inr (omega arith)
-rises-least t (Fresh p c) = inr (omega arith)
 rises-least t Top = inl refl
+rises-least t (Class c) = inr (omega (arith, chain-not_empty t c))
+rises-least t (ArrRef c) = inr (omega (arith, chain-not_empty t c))
+rises-least t a = inr (omega arith)
 
 null_falls : (t : ClassTable) {b : Ty} → IsArray b → rises_left t b < rises_left t Null
 unfolding rises_left
-null_falls t of_booleans = omega (arith, chain-height t (object t), chain-not_empty t (object t))
-null_falls t of_bytes = omega (arith, chain-height t (object t), chain-not_empty t (object t))
-null_falls t of_shorts = omega (arith, chain-height t (object t), chain-not_empty t (object t))
-null_falls t of_ints = omega (arith, chain-height t (object t), chain-not_empty t (object t))
 null_falls t (of_references {c}) = omega (arith, chain-height t c)
+null_falls t k = omega (arith, chain-height t (object t), chain-not_empty t (object t))
 
 array_falls : (t : ClassTable) → AreClasses t → {a : Ty} → IsArray a → rises_left t (Class (object t)) < rises_left t a
 unfolding rises_left
-array_falls t are of_booleans = omega (arith, ap length (chain-alone t (object t) are.object_ends))
-array_falls t are of_bytes = omega (arith, ap length (chain-alone t (object t) are.object_ends))
-array_falls t are of_shorts = omega (arith, ap length (chain-alone t (object t) are.object_ends))
-array_falls t are of_ints = omega (arith, ap length (chain-alone t (object t) are.object_ends))
 array_falls t are (of_references {c}) = omega (arith, ap length (chain-alone t (object t) are.object_ends), chain-not_empty t c)
+array_falls t are k = omega (arith, ap length (chain-alone t (object t) are.object_ends))
 
 class_falls : (t : ClassTable) → AreClasses t → (c p : ℕ) → parent_of t c ≡ Some p → rises_left t (Class p) < rises_left t (Class c)
 unfolding rises_left

@@ -3,7 +3,7 @@ use Rattle.std.proofs.Common.{◌≡◌, ℕ, zero, suc, ◌+◌, ◌-◌, ◌<�
 use Rattle.std.proofs.Common.{None, sym, ap, subst, arith, refl, set}
 use Rattle.std.specs.Prelude.{All, IfSome, slice_get, sum_by, IsSomeAnd}
 use Rattle.jc_base.specs.declared.ty.Kind.{Kind}
-use Rattle.jc_base.specs.declared.ty.Kind.TheVariants.{Ref, Byte, Short, Int}
+use Rattle.jc_base.specs.declared.ty.Kind.TheVariants.{Int}
 use Rattle.jc_base.specs.declared.record.StaticRec.{StaticRec}
 use Rattle.jc_base.specs.Cell.{width}
 use Rattle.std.proofs.lemmas.List.{length-reverse, reverse-reverse, get_or-reverse}
@@ -81,10 +81,8 @@ pub All-turned : {X : Type 0} (P : X → Type 0) (xs : List X) → All P (revers
 All-turned P xs all = subst (All P) (reverse-reverse xs) (All-reverse P (reverse xs) all)
 
 one_at_least : (k : Kind) → 1 ≤ width k
-one_at_least Ref = omega arith
-one_at_least Byte = omega arith
-one_at_least Short = omega arith
 one_at_least Int = omega arith
+one_at_least kind = omega arith
 
 -- each static field takes a cell
 pub statics_fit : (fs : List StaticRec) → length fs ≤ sum_by (λ f. width f.kind) fs

@@ -1,5 +1,5 @@
 -- The order of types and its joins, and types that are declared.
-use Rattle.jc_base.specs.declared.ty.Ty.TheVariants.{Bottom, Short, IntHigh, IntLow, Null, Class, ArrBool, ArrByte, ArrShort, ArrInt, ArrRef, Fresh, Top}
+use Rattle.jc_base.specs.declared.ty.Ty.TheVariants.{Bottom, Null, Fresh, Top}
 use Rattle.jc_base.specs.Class.{ClassTable, AreClasses}
 use Rattle.jc_base.specs.Laws.{IsOrderOfTypes, DeclaredAreKnown}
 use Rattle.jc_base.proofs.Subtypes.{below_decided}
@@ -18,15 +18,7 @@ order-of-types t are = record {
 
 pub declared-known : (t : ClassTable) → DeclaredAreKnown t
 declared-known t Bottom h = absurd h
-declared-known t Short h = h
-declared-known t IntHigh h = h
-declared-known t IntLow h = h
 declared-known t Null h = absurd h
-declared-known t (Class c) h = h
-declared-known t ArrBool h = h
-declared-known t ArrByte h = h
-declared-known t ArrShort h = h
-declared-known t ArrInt h = h
-declared-known t (ArrRef c) h = h
 declared-known t (Fresh place c) h = absurd h
 declared-known t Top h = absurd h
+declared-known t ty h = h

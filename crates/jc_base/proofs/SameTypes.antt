@@ -28,19 +28,10 @@ same_type-equal a b e = absurd (false≢true e)
 
 pub same_type-itself : (a : Ty) → same_type a a ≡ true
 unfolding same_type
-same_type-itself Bottom = refl
-same_type-itself Short = refl
-same_type-itself IntHigh = refl
-same_type-itself IntLow = refl
-same_type-itself Null = refl
 same_type-itself (Class c) = eq-eqb c c refl
-same_type-itself ArrBool = refl
-same_type-itself ArrByte = refl
-same_type-itself ArrShort = refl
-same_type-itself ArrInt = refl
 same_type-itself (ArrRef c) = eq-eqb c c refl
 same_type-itself (Fresh p c) = rw (eq-eqb p p refl, eq-eqb c c refl) refl
-same_type-itself Top = refl
+same_type-itself a = refl
 
 pub same_type-decides : (a b : Ty) → IsTrue (same_type a b) ↔ (a ≡ b)
 same_type-decides a b = (same_type-equal a b, λ e. subst (λ x. same_type a x ≡ true) e (same_type-itself a))

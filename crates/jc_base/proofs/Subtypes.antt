@@ -13,35 +13,15 @@ use Rattle.jc_base.proofs.Climbs.{climb, on_chain-here, on_chain-parent, on_chai
 
 pub is_below-refl : (t : ClassTable) (a : Ty) → is_below t a a ≡ true
 unfolding is_below
-is_below-refl t Bottom = refl
-is_below-refl t Short = refl
-is_below-refl t IntHigh = refl
-is_below-refl t IntLow = refl
-is_below-refl t Null = refl
 is_below-refl t (Class c) = on_chain-here t c
-is_below-refl t ArrBool = refl
-is_below-refl t ArrByte = refl
-is_below-refl t ArrShort = refl
-is_below-refl t ArrInt = refl
 is_below-refl t (ArrRef c) = on_chain-here t c
 is_below-refl t (Fresh p c) = rw (eq-eqb p p refl, eq-eqb c c refl) refl
-is_below-refl t Top = refl
+is_below-refl t a = refl
 
 pub is_below-top : (t : ClassTable) (a : Ty) → is_below t a Top ≡ true
 unfolding is_below
 is_below-top t Bottom = refl
-is_below-top t Short = refl
-is_below-top t IntHigh = refl
-is_below-top t IntLow = refl
-is_below-top t Null = refl
-is_below-top t (Class c) = refl
-is_below-top t ArrBool = refl
-is_below-top t ArrByte = refl
-is_below-top t ArrShort = refl
-is_below-top t ArrInt = refl
-is_below-top t (ArrRef c) = refl
-is_below-top t (Fresh p c) = refl
-is_below-top t Top = refl
+is_below-top t a = refl
 
 -- ---- transitive
 
@@ -62,39 +42,12 @@ above_object t are d (Class e) o h =
 above_object t are d Top o h = refl
 above_object t are d c o h = absurd (false≢true h)
 
-bool_below : (t : ClassTable) (c : Ty) → is_above_arrays t c ≡ true → is_below t ArrBool c ≡ true
+arrays_below : (t : ClassTable) {a : Ty} → IsArray a → (c : Ty) → is_above_arrays t c ≡ true → is_below t a c ≡ true
 unfolding is_below
-bool_below t ArrBool h = refl
-bool_below t (Class d) h = h
-bool_below t Top h = refl
-bool_below t c h = absurd (false≢true h)
-
-byte_below : (t : ClassTable) (c : Ty) → is_above_arrays t c ≡ true → is_below t ArrByte c ≡ true
-unfolding is_below
-byte_below t ArrByte h = refl
-byte_below t (Class d) h = h
-byte_below t Top h = refl
-byte_below t c h = absurd (false≢true h)
-
-short_below : (t : ClassTable) (c : Ty) → is_above_arrays t c ≡ true → is_below t ArrShort c ≡ true
-unfolding is_below
-short_below t ArrShort h = refl
-short_below t (Class d) h = h
-short_below t Top h = refl
-short_below t c h = absurd (false≢true h)
-
-int_below : (t : ClassTable) (c : Ty) → is_above_arrays t c ≡ true → is_below t ArrInt c ≡ true
-unfolding is_below
-int_below t ArrInt h = refl
-int_below t (Class d) h = h
-int_below t Top h = refl
-int_below t c h = absurd (false≢true h)
-
-array_below : (t : ClassTable) (k : ℕ) (c : Ty) → is_above_arrays t c ≡ true → is_below t (ArrRef k) c ≡ true
-unfolding is_below
-array_below t k (Class d) h = h
-array_below t k Top h = refl
-array_below t k c h = absurd (false≢true h)
+arrays_below t of_booleans (Class d) h = h
+arrays_below t k (Class d) h = h
+arrays_below t k Top h = refl
+arrays_below t k c h = absurd (false≢true h)
 
 -- null is below what is above a reference type
 null_class : (t : ClassTable) (d : ℕ) (c : Ty) → is_below t (Class d) c ≡ true → is_below t Null c ≡ true
@@ -103,40 +56,15 @@ null_class t d (Class e) h = refl
 null_class t d Top h = refl
 null_class t d c h = absurd (false≢true h)
 
-null_references : (t : ClassTable) (d : ℕ) (c : Ty) → is_below t (ArrRef d) c ≡ true → is_below t Null c ≡ true
+null_array_above : (t : ClassTable) {a : Ty} → IsArray a → (c : Ty) → is_below t a c ≡ true → is_below t Null c ≡ true
 unfolding is_below
-null_references t d (ArrRef e) h = refl
-null_references t d (Class e) h = refl
-null_references t d Top h = refl
-null_references t d c h = absurd (false≢true h)
-
-null_booleans : (t : ClassTable) (c : Ty) → is_below t ArrBool c ≡ true → is_below t Null c ≡ true
-unfolding is_below
-null_booleans t ArrBool h = refl
-null_booleans t (Class e) h = refl
-null_booleans t Top h = refl
-null_booleans t c h = absurd (false≢true h)
-
-null_bytes : (t : ClassTable) (c : Ty) → is_below t ArrByte c ≡ true → is_below t Null c ≡ true
-unfolding is_below
-null_bytes t ArrByte h = refl
-null_bytes t (Class e) h = refl
-null_bytes t Top h = refl
-null_bytes t c h = absurd (false≢true h)
-
-null_shorts : (t : ClassTable) (c : Ty) → is_below t ArrShort c ≡ true → is_below t Null c ≡ true
-unfolding is_below
-null_shorts t ArrShort h = refl
-null_shorts t (Class e) h = refl
-null_shorts t Top h = refl
-null_shorts t c h = absurd (false≢true h)
-
-null_ints : (t : ClassTable) (c : Ty) → is_below t ArrInt c ≡ true → is_below t Null c ≡ true
-unfolding is_below
-null_ints t ArrInt h = refl
-null_ints t (Class e) h = refl
-null_ints t Top h = refl
-null_ints t c h = absurd (false≢true h)
+null_array_above t of_booleans Bottom h = absurd (false≢true h)
+null_array_above t k Bottom h = absurd (false≢true h)
+null_array_above t k Short h = absurd (false≢true h)
+null_array_above t k IntHigh h = absurd (false≢true h)
+null_array_above t k IntLow h = absurd (false≢true h)
+null_array_above t k (Fresh p d) h = absurd (false≢true h)
+null_array_above t k c h = refl
 
 class_below : (t : ClassTable) → AreClasses t → (c d : ℕ) (b : Ty) → is_on_chain t d c ≡ true → is_below t (Class d) b ≡ true
     → is_below t (Class c) b ≡ true
@@ -162,22 +90,22 @@ is_below-trans t are IntHigh IntHigh c p q = q
 is_below-trans t are IntLow IntLow c p q = q
 is_below-trans t are Null Null c p q = q
 is_below-trans t are Null (Class d) c p q = null_class t d c q
-is_below-trans t are Null ArrBool c p q = null_booleans t c q
-is_below-trans t are Null ArrByte c p q = null_bytes t c q
-is_below-trans t are Null ArrShort c p q = null_shorts t c q
-is_below-trans t are Null ArrInt c p q = null_ints t c q
-is_below-trans t are Null (ArrRef d) c p q = null_references t d c q
+is_below-trans t are Null ArrBool c p q = null_array_above t of_booleans c q
+is_below-trans t are Null ArrByte c p q = null_array_above t of_bytes c q
+is_below-trans t are Null ArrShort c p q = null_array_above t of_shorts c q
+is_below-trans t are Null ArrInt c p q = null_array_above t of_ints c q
+is_below-trans t are Null (ArrRef d) c p q = null_array_above t of_references c q
 is_below-trans t are (Class a) (Class d) c p q = class_below t are a d c p q
 is_below-trans t are ArrBool ArrBool c p q = q
-is_below-trans t are ArrBool (Class d) c p q = bool_below t c (above_object t are d c p q)
+is_below-trans t are ArrBool (Class d) c p q = arrays_below t of_booleans c (above_object t are d c p q)
 is_below-trans t are ArrByte ArrByte c p q = q
-is_below-trans t are ArrByte (Class d) c p q = byte_below t c (above_object t are d c p q)
+is_below-trans t are ArrByte (Class d) c p q = arrays_below t of_bytes c (above_object t are d c p q)
 is_below-trans t are ArrShort ArrShort c p q = q
-is_below-trans t are ArrShort (Class d) c p q = short_below t c (above_object t are d c p q)
+is_below-trans t are ArrShort (Class d) c p q = arrays_below t of_shorts c (above_object t are d c p q)
 is_below-trans t are ArrInt ArrInt c p q = q
-is_below-trans t are ArrInt (Class d) c p q = int_below t c (above_object t are d c p q)
+is_below-trans t are ArrInt (Class d) c p q = arrays_below t of_ints c (above_object t are d c p q)
 is_below-trans t are (ArrRef a) (ArrRef d) c p q = references_below t are a d c p q
-is_below-trans t are (ArrRef a) (Class d) c p q = array_below t a c (above_object t are d c p q)
+is_below-trans t are (ArrRef a) (Class d) c p q = arrays_below t of_references c (above_object t are d c p q)
 is_below-trans t are (Fresh m a) (Fresh n d) c p q =
     let h = and_parts (m == n) (a == d) p in
     let place : m ≡ n = eqb-true m n h.0 in
@@ -190,18 +118,12 @@ is_below-trans t are a b c p q = absurd (false≢true p)
 array_objects : (t : ClassTable) {a : Ty} (c : ℕ) → IsArray a → c ≡ object t → is_below t a (Class c) ≡ true
 unfolding is_below
 array_objects t c of_booleans e = eq-eqb c (object t) e
-array_objects t c of_bytes e = eq-eqb c (object t) e
-array_objects t c of_shorts e = eq-eqb c (object t) e
-array_objects t c of_ints e = eq-eqb c (object t) e
-array_objects t c of_references e = eq-eqb c (object t) e
+array_objects t c k e = eq-eqb c (object t) e
 
 null_arrays : (t : ClassTable) {a : Ty} → IsArray a → is_below t Null a ≡ true
 unfolding is_below
 null_arrays t of_booleans = refl
-null_arrays t of_bytes = refl
-null_arrays t of_shorts = refl
-null_arrays t of_ints = refl
-null_arrays t of_references = refl
+null_arrays t k = refl
 
 class_classes : (t : ClassTable) (c d : ℕ) → is_on_chain t d c ≡ true → is_below t (Class c) (Class d) ≡ true
 unfolding is_below

@@ -13,8 +13,9 @@ pub fn of_ints(operator: Operator, first: i32, second: i32) -> Option<i32>
         Operator::Add => Some(first.wrapping_add(second)),
         Operator::Subtract => Some(first.wrapping_sub(second)),
         Operator::Multiply => Some(first.wrapping_mul(second)),
-        Operator::Divide => divided(first, second),
-        Operator::Remainder => remainder(first, second),
+        Operator::Divide | Operator::Remainder if second == 0 => None,
+        Operator::Divide => Some(first.wrapping_div(second)),
+        Operator::Remainder => Some(first.wrapping_rem(second)),
         Operator::ShiftLeft => Some(first << shift_count(second)),
         Operator::ShiftRight => Some(first >> shift_count(second)),
         Operator::ShiftRightUnsigned => Some(shifted_right_unsigned(first, second)),
@@ -29,26 +30,6 @@ pub fn negate_int(value: i32) -> i32
     ensures { result ≡ int_wrapping_neg w32 value }
 {
     value.wrapping_neg()
-}
-
-fn divided(first: i32, second: i32) -> Option<i32>
-    ensures { result ≡ of_ints Operator.Divide first second }
-{
-    if second == 0 {
-        None
-    } else {
-        Some(first.wrapping_div(second))
-    }
-}
-
-fn remainder(first: i32, second: i32) -> Option<i32>
-    ensures { result ≡ of_ints Operator.Remainder first second }
-{
-    if second == 0 {
-        None
-    } else {
-        Some(first.wrapping_rem(second))
-    }
 }
 
 /// Zeros come in from the left.

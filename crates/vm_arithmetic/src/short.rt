@@ -13,8 +13,9 @@ pub fn of_shorts(operator: Operator, first: i16, second: i16) -> Option<i16>
         Operator::Add => Some(first.wrapping_add(second)),
         Operator::Subtract => Some(first.wrapping_sub(second)),
         Operator::Multiply => Some(first.wrapping_mul(second)),
-        Operator::Divide => divided(first, second),
-        Operator::Remainder => remainder(first, second),
+        Operator::Divide | Operator::Remainder if second == 0 => None,
+        Operator::Divide => Some(first.wrapping_div(second)),
+        Operator::Remainder => Some(first.wrapping_rem(second)),
         Operator::ShiftLeft => Some(shifted_left(first, second)),
         Operator::ShiftRight => Some(shifted_right(first, second)),
         Operator::ShiftRightUnsigned => Some(shifted_right_unsigned(first, second)),
@@ -42,26 +43,6 @@ pub fn succeeds(order: Order, first: i16, second: i16) -> bool
         Order::GreaterOrEqual => first >= second,
         Order::Greater => first > second,
         Order::LessOrEqual => first <= second,
-    }
-}
-
-fn divided(first: i16, second: i16) -> Option<i16>
-    ensures { result ≡ of_shorts Operator.Divide first second }
-{
-    if second == 0 {
-        None
-    } else {
-        Some(first.wrapping_div(second))
-    }
-}
-
-fn remainder(first: i16, second: i16) -> Option<i16>
-    ensures { result ≡ of_shorts Operator.Remainder first second }
-{
-    if second == 0 {
-        None
-    } else {
-        Some(first.wrapping_rem(second))
     }
 }
 

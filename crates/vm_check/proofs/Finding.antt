@@ -57,9 +57,7 @@ ref-size _ h = absurd h
 
 size-of : (kind : Kind) (ty : Ty) → IsOfKind kind ty → value_size ty ≡ width kind
 size-of fields.Ref ty h = ref-size ty h
-size-of fields.Byte ty h = ap value_size h
-size-of fields.Short ty h = ap value_size h
-size-of fields.Int ty h = ap value_size h
+size-of kind ty h = ap value_size h
 
 module _ (w : Linked) (is : IsWorld w) (s : State TaggedCell) (kept : IsShaped w s) where
   abbrev frame : Frame
@@ -164,16 +162,9 @@ module _ (w : Linked) (is : IsWorld w) (s : State TaggedCell) (kept : IsShaped w
 
   pub finds : (m : MethodRec) (place : ℕ) (i : Insn) (op : Operation) → IsSound w m place op → IsInCode w i s
       → SatisfiesAll w.classes frame (demands w op) → FindsNamed tagged w i op s
-  finds m place i (ops.Constant c) sound code h = tt
-  finds m place i (ops.Load sort x) sound code h = tt
-  finds m place i (ops.Store sort x) sound code h = tt
-  finds m place i (ops.Increment wide x amount) sound code h = tt
-  finds m place i (ops.Move move) sound code h = tt
-  finds m place i (ops.Arithmetic a) sound code h = tt
   finds m place i (ops.ArrayRead kind) sound code h = array-or-null w is s kept.objects kind (on 1) (met 1 (array_wanted w.classes kind) h.1.0)
   finds m place i (ops.ArrayWrite kind) sound code h = finds-write i kind h
   finds m place i ops.ArrayLength sound code h = array-there-or-null w is s kept.objects (on 0) (met 0 AnyArray h.0)
-  finds m place i (ops.Branch branch) sound code h = tt
   finds m place i (ops.Switch wide) sound code h = code
   finds m place i (ops.StaticRead f) sound code h = static-there w is s kept.objects f sound kept.statics
   finds m place i (ops.StaticWrite f) sound code h = static-there w is s kept.objects f sound kept.statics
@@ -186,4 +177,4 @@ module _ (w : Linked) (is : IsWorld w) (s : State TaggedCell) (kept : IsShaped w
       there-or-null w is s kept.objects (on 0) (Class (throwable w.classes)) refl (met 0 (Value (Class (throwable w.classes))) h.0)
   finds m place i (ops.TypeTest test ty) sound code h =
       (object-or-null w is s kept.objects (on 0) (Class (object w.classes)) refl (met 0 (Value (Class (object w.classes))) h.0), sound)
-  finds m place i (ops.Return result) sound code h = tt
+  finds m place i op sound code h = tt

@@ -59,10 +59,7 @@ module _ (w : Linked) (is : IsWorld w) (s : State Cell) (shaped : All (IsShapedO
   recorded-for : (kind : ObjectKind) (n : ℕ) → IsShapedFor w.classes kind n → IsRecorded w.classes kind
   recorded-for (Instance c) n h = h.0.number
   recorded-for (References c) n h = h
-  recorded-for Booleans n h = tt
-  recorded-for Bytes n h = tt
-  recorded-for Shorts n h = tt
-  recorded-for Ints n h = tt
+  recorded-for kind n h = tt
 
   is-object : (h : ℕ) (kind : ObjectKind) → HasObject w.classes s h kind → IsObject w.classes s h
   is-object h kind o =
@@ -99,10 +96,8 @@ module _ (w : Linked) (is : IsWorld w) (s : State Cell) (shaped : All (IsShapedO
       first = slice_get_within (cells_of w.classes f.class) f.cell f.ty field.cells.first
 
       by : (k : Kind) → IsField w.classes f.class f.cell k f.ty → f.cell + width k ≤ length (cells_of w.classes f.class)
-      by fields.Ref c = omega (arith, first)
-      by fields.Byte c = omega (arith, first)
-      by fields.Short c = omega (arith, first)
       by fields.Int c = omega (arith, slice_get_within (cells_of w.classes f.class) (f.cell + 1) IntLow c.second)
+      by kind c = omega (arith, first)
 
   field-in : (f : InstanceField) → IsFieldOf w f → (kind : ObjectKind) (n : ℕ) → IsShapedFor w.classes kind n
       → Below w.classes (type_of_kind w.classes kind) (Class f.class) → f.cell + width f.kind ≤ n
@@ -112,11 +107,7 @@ module _ (w : Linked) (is : IsWorld w) (s : State Cell) (shaped : All (IsShapedO
       let longer : length (cells_of w.classes c) ≡ length (cells_of w.classes f.class) + length more.more = ap length more.whole
       ∙ length-append (cells_of w.classes f.class) more.more in
       omega (arith, field-end f field, longer, h.1)
-  field-in f field Booleans n h b = absurd (not-above f field ((decided ArrBool (Class f.class)).1 b))
-  field-in f field Bytes n h b = absurd (not-above f field ((decided ArrByte (Class f.class)).1 b))
-  field-in f field Shorts n h b = absurd (not-above f field ((decided ArrShort (Class f.class)).1 b))
-  field-in f field Ints n h b = absurd (not-above f field ((decided ArrInt (Class f.class)).1 b))
-  field-in f field (References c) n h b = absurd (not-above f field ((decided (ArrRef (class_in_types w.classes c)) (Class f.class)).1 b))
+  field-in f field kind n h b = absurd (not-above f field ((decided (type_of_kind w.classes kind) (Class f.class)).1 b))
 
   pub field-or-null : (f : InstanceField) → IsFieldOf w f → (c : Cell) → Below w.classes (type_of c) (Class f.class)
       → IsNullOr (word_of c) (HasField f s (word_of c))
@@ -142,47 +133,31 @@ module _ (w : Linked) (is : IsWorld w) (s : State Cell) (shaped : All (IsShapedO
   refs-below : width-below fields.Ref (ArrRef (object w.classes))
   unfolding is_below
   refs-below (Instance c) b = never w.classes decided (Class c) (ArrRef (object w.classes)) b refl
-  refs-below Booleans b = refl
-  refs-below Bytes b = refl
-  refs-below Shorts b = refl
   refs-below Ints b = never w.classes decided ArrInt (ArrRef (object w.classes)) b refl
-  refs-below (References c) b = refl
+  refs-below kind b = refl
 
   shorts-below : width-below fields.Short ArrShort
   unfolding is_below
   shorts-below (Instance c) b = never w.classes decided (Class c) ArrShort b refl
   shorts-below Ints b = never w.classes decided ArrInt ArrShort b refl
-  shorts-below Booleans b = refl
-  shorts-below Bytes b = refl
-  shorts-below Shorts b = refl
-  shorts-below (References c) b = refl
+  shorts-below kind b = refl
 
   bytes-below : width-below fields.Byte ArrByte
   unfolding is_below
   bytes-below (Instance c) b = never w.classes decided (Class c) ArrByte b refl
   bytes-below Ints b = never w.classes decided ArrInt ArrByte b refl
-  bytes-below Booleans b = refl
-  bytes-below Bytes b = refl
-  bytes-below Shorts b = refl
-  bytes-below (References c) b = refl
+  bytes-below kind b = refl
 
   booleans-below : width-below fields.Byte ArrBool
   unfolding is_below
   booleans-below (Instance c) b = never w.classes decided (Class c) ArrBool b refl
   booleans-below Ints b = never w.classes decided ArrInt ArrBool b refl
-  booleans-below Booleans b = refl
-  booleans-below Bytes b = refl
-  booleans-below Shorts b = refl
-  booleans-below (References c) b = refl
+  booleans-below kind b = refl
 
   ints-below : width-below fields.Int ArrInt
   unfolding is_below
-  ints-below (Instance c) b = never w.classes decided (Class c) ArrInt b refl
-  ints-below Booleans b = never w.classes decided ArrBool ArrInt b refl
-  ints-below Bytes b = never w.classes decided ArrByte ArrInt b refl
-  ints-below Shorts b = never w.classes decided ArrShort ArrInt b refl
   ints-below Ints b = refl
-  ints-below (References c) b = never w.classes decided (ArrRef (class_in_types w.classes c)) ArrInt b refl
+  ints-below kind b = never w.classes decided (type_of_kind w.classes kind) ArrInt b refl
 
   array-of : (kind : Kind) (c : Cell) (ty : Ty) → is_reference ty ≡ true → width-below kind ty → Below w.classes (type_of c) ty
       → IsNullOr (word_of c) (IsArrayFor kind s (word_of c))
@@ -204,26 +179,18 @@ module _ (w : Linked) (is : IsWorld w) (s : State Cell) (shaped : All (IsShapedO
 
   array-there : (c : Cell) → IsArrayOrNull (type_of c) → (word_of c ≡ 0) ⊎ IsSome (object_at s (word_of c))
   array-there cells.Empty m = inl refl
-  array-there (cells.Short n) m = absurd m
-  array-there (cells.High n) m = absurd m
-  array-there (cells.Low n) m = absurd m
   array-there (cells.Ref zero) m = inl refl
   array-there (cells.Ref (suc h)) m = by (slice_get (kinds s) h) refl m
     where
       by : (o : Option ObjectKind) → slice_get (kinds s) h ≡ o → IsArrayOrNull (type_seen w.classes o) → (suc h ≡ 0) ⊎ IsSome (object_at s (suc h))
       by None e m = absurd m
       by (Some kind) e m = inr (there (suc h) kind (some-object (suc h) kind e))
-  array-there (cells.Fresh zero p) m = absurd m
   array-there (cells.Fresh (suc h) p) m = by (slice_get (kinds s) h) m
     where
       by : (o : Option ObjectKind) → IsArrayOrNull (fresh_seen p o) → (suc h ≡ 0) ⊎ IsSome (object_at s (suc h))
-      by None m = absurd m
       by (Some (Instance c)) m = absurd m
-      by (Some Booleans) m = absurd m
-      by (Some Bytes) m = absurd m
-      by (Some Shorts) m = absurd m
-      by (Some Ints) m = absurd m
-      by (Some (References c)) m = absurd m
+      by o m = absurd m
+  array-there c m = absurd m
 
   pub array-there-or-null : (c : Cell) → IsArrayOrNull (type_of c) → IsNullOr (word_of c) (IsSome (object_at s (word_of c)))
   array-there-or-null c m = null-or (word_of c) (IsSome (object_at s (word_of c))) (array-there c m)
@@ -232,11 +199,7 @@ module _ (w : Linked) (is : IsWorld w) (s : State Cell) (shaped : All (IsShapedO
 
   class-for : (kind : ObjectKind) (n : ℕ) → IsShapedFor w.classes kind n → IsClass w.classes (class_with_methods w.classes (Some kind))
   class-for (Instance c) n h = h.0
-  class-for Booleans n h = is.chains.objects
-  class-for Bytes n h = is.chains.objects
-  class-for Shorts n h = is.chains.objects
-  class-for Ints n h = is.chains.objects
-  class-for (References c) n h = is.chains.objects
+  class-for kind n h = is.chains.objects
 
   object-is : (class : ℕ) → is_above_arrays w.classes (Class class) ≡ true → Below w.classes (Class (object w.classes)) (Class class)
   object-is class e = subst (λ c. Below w.classes (Class (object w.classes)) (Class c)) (sym (eqb-true class (object w.classes) e)) same
@@ -245,11 +208,7 @@ module _ (w : Linked) (is : IsWorld w) (s : State Cell) (shaped : All (IsShapedO
       → Below w.classes (Class (class_with_methods w.classes (Some kind))) (Class class)
   unfolding is_below
   class-below (Instance c) class b = b
-  class-below Booleans class b = object-is class ((decided ArrBool (Class class)).1 b)
-  class-below Bytes class b = object-is class ((decided ArrByte (Class class)).1 b)
-  class-below Shorts class b = object-is class ((decided ArrShort (Class class)).1 b)
-  class-below Ints class b = object-is class ((decided ArrInt (Class class)).1 b)
-  class-below (References c) class b = object-is class ((decided (ArrRef (class_in_types w.classes c)) (Class class)).1 b)
+  class-below kind class b = object-is class ((decided (type_of_kind w.classes kind) (Class class)).1 b)
 
   abbrev Receives : ℕ → ℕ → Type 0
   Receives class h =

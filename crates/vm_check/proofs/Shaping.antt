@@ -108,18 +108,7 @@ one-interface w c sound class token words e =
 
 array-named : (w : Linked) (ty : Ty) (n : ℕ) → IsNamedType w.classes ty → IsShapedFor w.classes (kind_of_type ty) n
 array-named w (ArrRef c) n h = h
-array-named w Bottom n h = tt
-array-named w Short n h = tt
-array-named w IntHigh n h = tt
-array-named w IntLow n h = tt
-array-named w Null n h = tt
-array-named w (Class c) n h = tt
-array-named w ArrBool n h = tt
-array-named w ArrByte n h = tt
-array-named w ArrShort n h = tt
-array-named w ArrInt n h = tt
-array-named w (Fresh p c) n h = tt
-array-named w Top n h = tt
+array-named w ty n h = tt
 
 module _ {A : Type 0} (k : Cells A) (w : Linked) (is : IsWorld w) (runs : AreDispatched w.classes w.methods) (i : Insn) (s : State A)
     (running : IsRunning s) (shaped : All (IsShapedObject w.classes) s.heap) where
@@ -144,12 +133,7 @@ module _ {A : Type 0} (k : Cells A) (w : Linked) (is : IsWorld w) (runs : AreDis
   fine-arithmetic : (a : Arithmetic) → Fine w s (act k w i (ops.Arithmetic a) s)
   fine-arithmetic (arithmetic.Binary operator width) =
       fine-some w s exceptions.Arithmetic (binary k operator width (top s).stack) _ (λ n. next-stack w s running shaped _)
-  fine-arithmetic (arithmetic.Negate width) = next-stack w s running shaped _
-  fine-arithmetic arithmetic.ShortToByte = next-stack w s running shaped _
-  fine-arithmetic arithmetic.ShortToInt = next-stack w s running shaped _
-  fine-arithmetic arithmetic.IntToByte = next-stack w s running shaped _
-  fine-arithmetic arithmetic.IntToShort = next-stack w s running shaped _
-  fine-arithmetic arithmetic.CompareInts = next-stack w s running shaped _
+  fine-arithmetic a = next-stack w s running shaped _
 
   fine-field : (f : InstanceField) (holder : Holder) → Fine w s (act k w i (ops.FieldRead f holder) s)
   fine-field f holders.Stack =
@@ -189,12 +173,7 @@ module _ {A : Type 0} (k : Cells A) (w : Linked) (is : IsWorld w) (runs : AreDis
       → args_of w c.method + 1 ≤ length (top s).stack → Fine w s (interface_act w.classes interface token (args_of w c.method + 1) o s)
   fine-interface c sound interface token words e (Some (Instance of)) class there =
       fine-served (served w.classes interface token of) of (args_of w c.method + 1) (interface-takes w is c sound interface token words of e class) there
-  fine-interface c sound interface token words e None class there = tt {0}
-  fine-interface c sound interface token words e (Some Booleans) class there = tt {0}
-  fine-interface c sound interface token words e (Some Bytes) class there = tt {0}
-  fine-interface c sound interface token words e (Some Shorts) class there = tt {0}
-  fine-interface c sound interface token words e (Some Ints) class there = tt {0}
-  fine-interface c sound interface token words e (Some (References q)) class there = tt {0}
+  fine-interface c sound interface token words e o class there = tt {0}
 
   abbrev Receives : ℕ → ℕ → Type 0
   Receives class h = IsSome (object_at s h) × IsClass w.classes (class_of w.classes s h) × Below w.classes (Class (class_of w.classes s h)) (Class class)
@@ -223,20 +202,8 @@ module _ {A : Type 0} (k : Cells A) (w : Linked) (is : IsWorld w) (runs : AreDis
       (omega (arith, there, one-interface w c sound class token words e)))
 
   fine-return : (result : Option Ty) → Fine w s (act k w i (ops.Return result) s)
-  fine-return None = tt {0}
-  fine-return (Some Bottom) = tt {0}
-  fine-return (Some Short) = tt {0}
   fine-return (Some IntHigh) = tt {0}
-  fine-return (Some IntLow) = tt {0}
-  fine-return (Some Null) = tt {0}
-  fine-return (Some (Class c)) = tt {0}
-  fine-return (Some ArrBool) = tt {0}
-  fine-return (Some ArrByte) = tt {0}
-  fine-return (Some ArrShort) = tt {0}
-  fine-return (Some ArrInt) = tt {0}
-  fine-return (Some (ArrRef c)) = tt {0}
-  fine-return (Some (Fresh p c)) = tt {0}
-  fine-return (Some Top) = tt {0}
+  fine-return result = tt {0}
 
   -- an operation that has what it asks
   pub act-fine : (op : Operation) → cells_asked (demands w op) ≤ length (top s).stack → FindsNamed k w i op s → Fine w s (act k w i op s)

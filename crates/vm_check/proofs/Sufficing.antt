@@ -53,11 +53,8 @@ seen-class t are c lt = by (is_interface t c) refl
 
 kind-known : (t : ClassTable) → AreClasses t → (kind : ObjectKind) (n : ℕ) → IsShapedFor t kind n → IsKnown t (type_of_kind t kind)
 kind-known t are (Instance c) n h = h.0
-kind-known t are Booleans n h = tt
-kind-known t are Bytes n h = tt
-kind-known t are Shorts n h = tt
-kind-known t are Ints n h = tt
 kind-known t are (References c) n h = seen-class t are c h
+kind-known t are kind n h = tt
 
 seen-known : (t : ClassTable) → AreClasses t → (heap : List (Object Cell)) (n : ℕ) → All (IsShapedObject t) heap
     → IsKnown t (type_seen t (slice_get (map (λ (o : Object Cell). o.kind) heap) n))
@@ -67,11 +64,7 @@ seen-known t are (o ∷ os) (suc n) h = seen-known t are os n (All-tail (IsShape
 
 fresh-kind : (t : ClassTable) (p : ℕ) (kind : ObjectKind) (n : ℕ) → IsShapedFor t kind n → IsKnown t (fresh_seen p (Some kind))
 fresh-kind t p (Instance c) n h = h.0
-fresh-kind t p Booleans n h = tt
-fresh-kind t p Bytes n h = tt
-fresh-kind t p Shorts n h = tt
-fresh-kind t p Ints n h = tt
-fresh-kind t p (References c) n h = tt
+fresh-kind t p kind n h = tt
 
 fresh-known : (t : ClassTable) (p : ℕ) (heap : List (Object Cell)) (n : ℕ) → All (IsShapedObject t) heap
     → IsKnown t (fresh_seen p (slice_get (map (λ (o : Object Cell). o.kind) heap) n))
@@ -81,14 +74,9 @@ fresh-known t p (o ∷ os) (suc n) h = fresh-known t p os n (All-tail (IsShapedO
 
 cell-known : (t : ClassTable) → AreClasses t → (s : State Cell) → All (IsShapedObject t) s.heap → (c : Cell)
     → IsKnown t (least_type t Bottom (kinds s) c)
-cell-known t are s h cells.Empty = tt
-cell-known t are s h (cells.Short n) = tt
-cell-known t are s h (cells.High n) = tt
-cell-known t are s h (cells.Low n) = tt
-cell-known t are s h (cells.Ref zero) = tt
 cell-known t are s h (cells.Ref (suc n)) = seen-known t are s.heap n h
-cell-known t are s h (cells.Fresh zero p) = tt
 cell-known t are s h (cells.Fresh (suc n) p) = fresh-known t p s.heap n h
+cell-known t are s h c = tt
 
 pub knows-types : (w : Linked) → IsWorld w → KnowsTypes tagged (IsShaped w) w
 knows-types w is s kept = record { each = cell-known w.classes is.chains s kept.objects }

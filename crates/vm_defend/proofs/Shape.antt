@@ -5,7 +5,7 @@ use Rattle.jc_base.specs.Class.{ClassTable}
 use Rattle.jc_base.specs.World.{Linked}
 use Rattle.vm_store.specs.declared.cell.Cell.{Cell}
 use Rattle.vm_store.specs.declared.kind.ObjectKind.{ObjectKind}
-use Rattle.vm_store.specs.declared.kind.ObjectKind.TheVariants.{Instance, Booleans, Bytes, Shorts, Ints, References}
+use Rattle.vm_store.specs.declared.kind.ObjectKind.TheVariants.{Instance, References}
 use Rattle.vm_store.specs.Cells.{tagged}
 use Rattle.vm_store.specs.State.{State, Object, top}
 use Rattle.vm_step.specs.Arguments.{Argument}
@@ -16,10 +16,7 @@ use Rattle.vm_check.specs.Shaped.{IsShapedFrame, IsShapedFor, IsShapedObject, Is
 numbers-shaped : (t : ClassTable) (kind : ObjectKind) (count : ℕ) → IsOfNumbers kind → IsShapedFor t kind count
 numbers-shaped t (Instance c) count h = absurd h
 numbers-shaped t (References c) count h = absurd h
-numbers-shaped t Booleans count h = tt {0}
-numbers-shaped t Bytes count h = tt {0}
-numbers-shaped t Shorts count h = tt {0}
-numbers-shaped t Ints count h = tt {0}
+numbers-shaped t kind count h = tt {0}
 
 pub begun-shaped : (w : Linked) (entry : ℕ) (args : List Argument) → HasEntrySizes w entry (entry_state tagged w entry args)
     → IsShaped w (entry_state tagged w entry args)

@@ -139,9 +139,7 @@ module _ (w : Linked) (erase : StatesErase w.methods w.classes) (f : Frame Cell)
   compare-erased : (kind : Kind) (h : ℕ) → MayCompare tagged w.classes kind now h → MayCompare words w.classes kind (erased now) h
   compare-erased fields.Ref h may =
       (recorded-erased w.classes now h may.0, handle-erased 0 (IsObject w.classes now) (IsObject w.classes (erased now)) (recorded-erased w.classes now) may.1)
-  compare-erased fields.Byte h may = may
-  compare-erased fields.Short h may = may
-  compare-erased fields.Int h may = may
+  compare-erased kind h may = may
 
   receiver-erased : (c : Callee) (choice : Choice) → HasReceiver tagged w c choice now → HasReceiver words w c choice (erased now)
   receiver-erased c choices.Static has = has
@@ -180,16 +178,7 @@ module _ (w : Linked) (erase : StatesErase w.methods w.classes) (f : Frame Cell)
   finds-erased i (ops.FieldRead fd holder) found = (found.0, field-erased fd holder 0 found.1)
   finds-erased i (ops.FieldWrite fd holder) found = (found.0, field-erased fd holder (width fd.kind) found.1)
   finds-erased i (ops.Call c) found = (found.0, receiver-erased c c.choice found.1)
-  finds-erased i (ops.New place class) found = found
-  finds-erased i (ops.NewArray ty) found = found
   finds-erased i ops.Throw found = there-is 0 found
   finds-erased i (ops.TypeTest test ty) found =
       (handle-erased 0 (IsObject w.classes now) (IsObject w.classes (erased now)) (recorded-erased w.classes now) found.0, found.1)
-  finds-erased i (ops.Constant c) found = found
-  finds-erased i (ops.Load held x) found = found
-  finds-erased i (ops.Store held x) found = found
-  finds-erased i (ops.Increment width x amount) found = found
-  finds-erased i (ops.Move move) found = found
-  finds-erased i (ops.Arithmetic a) found = found
-  finds-erased i (ops.Branch branch) found = found
-  finds-erased i (ops.Return result) found = found
+  finds-erased i op found = found

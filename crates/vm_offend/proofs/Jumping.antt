@@ -3,7 +3,7 @@ use Rattle.std.proofs.Common.{◌≡◌, ℕ, ◌+◌, ◌*◌, ◌==◌, Bool, 
 use Rattle.std.specs.Prelude.{ℤ, pos, negsuc, Option, Some, None, unwrap_or, ⊤}
 use Rattle.jc_base.specs.Dispatch.{dispatched}
 use Rattle.jc_base.specs.declared.ty.Ty.{Ty}
-use Rattle.jc_base.specs.declared.ty.Ty.TheVariants.{Bottom, Short, IntHigh, IntLow, Null, Class, ArrBool, ArrByte, ArrShort, ArrInt, ArrRef, Fresh, Top}
+use Rattle.jc_base.specs.declared.ty.Ty.TheVariants.{IntHigh}
 use Rattle.jc_base.specs.Cell.{width}
 use Rattle.jc_base.specs.World.{Linked}
 use Rattle.jc_decode.specs.declared.insn.Insn.{Insn}
@@ -18,7 +18,7 @@ use Rattle.jc_ops.specs.declared.operation.Operation.TheVariants as ops
 use Rattle.jc_ops.specs.declared.operation.TypeTest.{TypeTest}
 use Rattle.jc_ops.specs.declared.operation.TypeTest.TheVariants as tests
 use Rattle.vm_store.specs.declared.kind.ObjectKind.{ObjectKind}
-use Rattle.vm_store.specs.declared.kind.ObjectKind.TheVariants.{Instance, Booleans, Bytes, Shorts, Ints, References}
+use Rattle.vm_store.specs.declared.kind.ObjectKind.TheVariants.{Instance}
 use Rattle.vm_store.specs.Kind.{kind_of_handle}
 use Rattle.vm_store.specs.Cells.{Cells}
 use Rattle.vm_store.specs.State.{State, top}
@@ -65,12 +65,7 @@ module _ {A : Type 0} (k : Cells A) (w : Linked) (s : State A) where
   arithmetic-stays (arithmetic.Binary operator width) =
       some-stays exceptions.Arithmetic (binary k operator width (top s).stack) (λ n. goes (replaced s (both_widths width) (number_cells k width n)))
       (λ n. tt {0})
-  arithmetic-stays (arithmetic.Negate width) = tt {0}
-  arithmetic-stays arithmetic.ShortToByte = tt {0}
-  arithmetic-stays arithmetic.ShortToInt = tt {0}
-  arithmetic-stays arithmetic.IntToByte = tt {0}
-  arithmetic-stays arithmetic.IntToShort = tt {0}
-  arithmetic-stays arithmetic.CompareInts = tt {0}
+  arithmetic-stays a = tt {0}
 
   served-stays : (o : Option ℕ) (class count : ℕ) → Stays (served_act o class count s)
   served-stays None class count = tt {0}
@@ -78,12 +73,7 @@ module _ {A : Type 0} (k : Cells A) (w : Linked) (s : State A) where
 
   interface-stays : (c token count : ℕ) (o : Option ObjectKind) → Stays (interface_act w.classes c token count o s)
   interface-stays c token count (Some (Instance r)) = served-stays (served w.classes c token r) r count
-  interface-stays c token count (Some Booleans) = tt {0}
-  interface-stays c token count (Some Bytes) = tt {0}
-  interface-stays c token count (Some Shorts) = tt {0}
-  interface-stays c token count (Some Ints) = tt {0}
-  interface-stays c token count (Some (References r)) = tt {0}
-  interface-stays c token count None = tt {0}
+  interface-stays c token count o = tt {0}
 
   chosen-stays : (callee : Callee) (args : ℕ) (choice : Choice) → Stays (chosen_act k w.classes callee args choice s)
   chosen-stays callee args choices.Static = tt {0}
@@ -106,27 +96,10 @@ module _ {A : Type 0} (k : Cells A) (w : Linked) (s : State A) where
   test-stays tests.InstanceOf ty = tt {0}
 
   return-stays : (result : Option Ty) → Stays (return_act k result s)
-  return-stays None = tt {0}
-  return-stays (Some Short) = tt {0}
   return-stays (Some IntHigh) = tt {0}
-  return-stays (Some Bottom) = tt {0}
-  return-stays (Some IntLow) = tt {0}
-  return-stays (Some Null) = tt {0}
-  return-stays (Some (Class c)) = tt {0}
-  return-stays (Some ArrBool) = tt {0}
-  return-stays (Some ArrByte) = tt {0}
-  return-stays (Some ArrShort) = tt {0}
-  return-stays (Some ArrInt) = tt {0}
-  return-stays (Some (ArrRef c)) = tt {0}
-  return-stays (Some (Fresh p c)) = tt {0}
-  return-stays (Some Top) = tt {0}
+  return-stays result = tt {0}
 
   pub jumps-stay : (i : Insn) (op : Operation) → Stays (act k w i op s)
-  jumps-stay i (ops.Constant c) = tt {0}
-  jumps-stay i (ops.Load held x) = tt {0}
-  jumps-stay i (ops.Store held x) = tt {0}
-  jumps-stay i (ops.Increment width x amount) = tt {0}
-  jumps-stay i (ops.Move move) = tt {0}
   jumps-stay i (ops.Arithmetic a) = arithmetic-stays a
   jumps-stay i (ops.ArrayRead kind) =
       let h : ℕ = handle_at k (top s).stack 1 in
@@ -144,13 +117,11 @@ module _ {A : Type 0} (k : Cells A) (w : Linked) (s : State A) where
       null-stays (handle_at k (top s).stack 0) (λ n. goes (replaced s 1 (k.short (short_of_word (elements_of s n)) ∷ []))) (tt {0})
   jumps-stay i (ops.Branch branch) = leads-stays (is_taken k branch (top s).stack) (target (top s).place i.x) (branch_width branch)
   jumps-stay i (ops.Switch width) = refl
-  jumps-stay i (ops.StaticRead f) = tt {0}
-  jumps-stay i (ops.StaticWrite f) = tt {0}
   jumps-stay i (ops.FieldRead f holder) = null-stays (held_handle k holder 0 s) (λ n. goes (with_field_read k f holder n s)) (tt {0})
   jumps-stay i (ops.FieldWrite f holder) = null-stays (held_handle k holder (width f.kind) s) (λ n. goes (with_field_write k f holder n s)) (tt {0})
   jumps-stay i (ops.Call callee) = chosen-stays callee (args_of w callee.method) callee.choice
-  jumps-stay i (ops.New place class) = tt {0}
   jumps-stay i (ops.NewArray ty) = array-stays (kind_of_type ty) (short_at k (top s).stack 0) (dropped s 1)
   jumps-stay i ops.Throw = null-stays (handle_at k (top s).stack 0) throws (tt {0})
   jumps-stay i (ops.TypeTest test ty) = test-stays test ty
   jumps-stay i (ops.Return result) = return-stays result
+  jumps-stay i op = tt {0}

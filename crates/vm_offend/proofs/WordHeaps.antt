@@ -35,10 +35,7 @@ kind-word (References c) h =
     let whole : 0x8000 + c - 0x8000 ≡ c = omega arith in
     ap (λ b. if b then Instance w else if nat_lt w 0xF000 then References (w - 0x8000) else others) (array_not_less c)
     ∙ (ap (λ b. if b then References (w - 0x8000) else others) (array_less c h) ∙ ap References whole)
-kind-word Booleans h = refl
-kind-word Bytes h = refl
-kind-word Shorts h = refl
-kind-word Ints h = refl
+kind-word kind h = refl
 
 -- ---- headers
 

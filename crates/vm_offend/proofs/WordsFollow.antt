@@ -33,7 +33,7 @@ use Rattle.vm_step.specs.declared.ending.Ending.{Ending}
 use Rattle.vm_step.specs.declared.ending.Ending.TheVariants.{Plain}
 use Rattle.vm_step.specs.declared.ending.Fault.{Fault}
 use Rattle.vm_step.specs.declared.ending.Fault.TheVariants.{StackFault, JumpFault}
-use Rattle.vm_step.specs.Act.{Act, goes, jumps, makes, calls, gives, raises, throws, lacks}
+use Rattle.vm_step.specs.Act.{Act, goes, jumps, makes, gives}
 use Rattle.vm_step.specs.Methods.{of_method, code_at, instruction_at, max_stack_of}
 use Rattle.vm_step.specs.Performed.{act}
 use Rattle.vm_step.specs.Raising.{Outcome, running, ended, ends}
@@ -204,13 +204,7 @@ module _ (w : Linked) (is : IsWorld w) (erase : StatesErase w.methods w.classes)
         let lands : is_target_place (code_at w (top y).method) from ≡ true =
         target-passes y (running (with_place y (place_number from))) (is_over w y (length (top y).stack)) (is_target_place (code_at w (top y).method) from) h in
         subst (λ n. is_target_place (code_at w f.method) n ≡ true) same (subst (λ n. is_target_place (code_at w n) from ≡ true) stays lands)
-    jump-lands next (goes y) to z h stays e = absurd (cc)
-    jump-lands next (makes kind cs reference y) to z h stays e = absurd (cc)
-    jump-lands next (calls method count y) to z h stays e = absurd (cc)
-    jump-lands next (gives value cs) to z h stays e = absurd (cc)
-    jump-lands next (raises exception) to z h stays e = absurd (cc)
-    jump-lands next (throws handle) to z h stays e = absurd (cc)
-    jump-lands next (lacks class) to z h stays e = absurd (cc)
+    jump-lands next a to z h stays e = absurd (cc)
 
     words-land : ActsErase w → (m : MethodRec) (i : Placed) (op : Operation) (to : ℤ) (z : State ℕ) → Fetches w (erased now) m i
         → Resolves w m i.place i.insn (Ok op)
@@ -261,13 +255,7 @@ module _ (w : Linked) (is : IsWorld w) (erase : StatesErase w.methods w.classes)
           call = standing-there g waits.0.stands;
           room_is = λ most. omega (arith, most, fits, whole, many, length-map g.stack word_of);
         }
-    waits-fit (g ∷ gs) next (goes y) value cells result waits shapes e h lt = absurd (cc)
-    waits-fit (g ∷ gs) next (jumps to y) value cells result waits shapes e h lt = absurd (cc)
-    waits-fit (g ∷ gs) next (makes kind cs reference y) value cells result waits shapes e h lt = absurd (cc)
-    waits-fit (g ∷ gs) next (calls method count y) value cells result waits shapes e h lt = absurd (cc)
-    waits-fit (g ∷ gs) next (raises exception) value cells result waits shapes e h lt = absurd (cc)
-    waits-fit (g ∷ gs) next (throws handle) value cells result waits shapes e h lt = absurd (cc)
-    waits-fit (g ∷ gs) next (lacks class) value cells result waits shapes e h lt = absurd (cc)
+    waits-fit (g ∷ gs) next a value cells result waits shapes e h lt = absurd (cc)
 
     words-resume : ActsErase w → (m : MethodRec) (i : Placed) (op : Operation) (value : Value) (cells : List ℕ) → Fetches w (erased now) m i
         → Resolves w m i.place i.insn (Ok op)

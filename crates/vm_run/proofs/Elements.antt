@@ -1,6 +1,6 @@
 -- Arrays whose elements are written one after another.
 use Rattle.std.proofs.Common.{◌≡◌, ◌<◌, ◌≤◌, ◌+◌, ◌*◌, ◌/◌, ◌%◌, ℕ, zero, suc, List, [], ◌∷◌, ◌++◌, length, take}
-use Rattle.std.proofs.Common.{map, get_or, refl, sym, ap, ◌∙◌, arith}
+use Rattle.std.proofs.Common.{map, get_or, refl, sym, ap, ◌∙◌, arith, length-take}
 use Rattle.std.specs.Prelude.{sum_by, All}
 use Rattle.std.proofs.lemmas.List.{length-map, map-append, take_more, take_all, append_assoc, length-append}
 use Rattle.std.proofs.lemmas.List.Sums.{sum_by-cons}
@@ -21,39 +21,49 @@ use Rattle.vm_step.specs.Objects.{kind_of_type}
 use Rattle.vm_step.specs.Start.{int_cells, initial_element_cells, initial_object}
 use Rattle.vm_run.proofs.WritesInOrder.{last-cells, last-cell-more, length-overwritten, overwritten-whole}
 
--- an array of elements of one cell
-pub narrow-size : {A : Type 0} (k : Cells A) (kind : ObjectKind) (n : ℕ) → element_width kind ≡ 1 → length (array_cells k kind n) ≡ n
-narrow-size k kind n e = length-array k kind n ∙ (ap (λ w. w * n) e ∙ omega arith)
+-- a new array of elements of one cell each, of which the first i are written
+pub record IsFilled {A : Type 0} (k : Cells A) (kind : ObjectKind) (f : ℕ → A) (words : List ℕ) (s z : State A) (i : ℕ) : Type 0 where
+  pub state : z ≡ with_object s kind (overwritten (array_cells k kind (length words)) 0 (map f (take i words)))
 
-module _ {A : Type 0} (s z : State A) (kind : ObjectKind) (zeros : List A) (f : ℕ → A) (words : List ℕ) (h i : ℕ) (at : h ≡ length s.heap + 1)
-    (size : length zeros ≡ length words) where
+module _ {A : Type 0} {k : Cells A} {kind : ObjectKind} {f : ℕ → A} {words : List ℕ} {s z : State A} {i : ℕ} (filled : IsFilled k kind f words s z i)
+    (narrow : element_width kind ≡ 1) where
+  zeros : List A
+  zeros = array_cells k kind (length words)
+
+  size : length zeros ≡ length words
+  unfolding zeros
+  size = length-array k kind (length words) ∙ (ap (λ w. w * length words) narrow ∙ omega arith)
+
   done-size : i ≤ length words → length (map f (take i words)) ≡ i
-  done-size le = length-map (take i words) f ∙ ap length refl ∙ cut words i le where
-    cut : (xs : List ℕ) (n : ℕ) → n ≤ length xs → length (take n xs) ≡ n
-    cut xs zero l = refl
-    cut [] (suc n) l = absurd (omega arith)
-    cut (x ∷ xs) (suc n) l = ap suc (cut xs n (omega arith))
+  done-size le = length-map (take i words) f ∙ omega (arith, length-take i words)
 
-  pub element-there : z ≡ with_object s kind (overwritten zeros 0 (map f (take i words))) → i < length words → i < length (object_cells z h)
-  element-there e lt =
+  pub element-there : {h : ℕ} → h ≡ length s.heap + 1 → i < length words → i < length (object_cells z h)
+  unfolding zeros
+  element-there {h} at lt =
       let d = done-size (omega arith) in
-      let all = ap length (last-cells s z kind (overwritten zeros 0 (map f (take i words))) h e at)
+      let fits = size in
+      let all = ap length (last-cells s z kind (overwritten zeros 0 (map f (take i words))) h filled.state at)
       ∙ length-overwritten zeros (map f (take i words)) 0 (omega arith) in
       omega (arith, all)
 
-  pub element-more : (v : A) → z ≡ with_object s kind (overwritten zeros 0 (map f (take i words))) → i < length words → v ≡ f (get_or words i 0)
-      → with_object_cell z h i v ≡ with_object s kind (overwritten zeros 0 (map f (take (i + 1) words)))
-  element-more v e lt is =
+  pub element-more : {h : ℕ} {y : State A} (v : A) → h ≡ length s.heap + 1 → i < length words → v ≡ f (get_or words i 0)
+      → y ≡ with_object_cell z h i v → IsFilled k kind f words s y (i + 1)
+  unfolding zeros
+  element-more {h} v at lt is more =
       let d = done-size (omega arith) in
+      let fits = size in
       let next : map f (take i words) ++ v ∷ [] ≡ map f (take (i + 1) words) =
       ap (λ (x : A). map f (take i words) ++ x ∷ []) is
       ∙ (sym (map-append f (take i words) (get_or words i 0 ∷ [])) ∙ ap (map f) (sym (take_more words i 0 lt))) in
-      last-cell-more s z kind zeros (map f (take i words)) h i v e at (sym d) (omega arith)
-      ∙ ap (λ (done : List A). with_object s kind (overwritten zeros 0 done)) next
+      record {
+        state = more ∙ (last-cell-more s z kind zeros (map f (take i words)) h i v filled.state at (sym d) (omega arith)
+            ∙ ap (λ (done : List A). with_object s kind (overwritten zeros 0 done)) next);
+      }
 
-  pub elements-done : z ≡ with_object s kind (overwritten zeros 0 (map f (take i words))) → length words ≤ i → z ≡ with_object s kind (map f words)
-  elements-done e le =
-      e ∙ ap (λ (ws : List ℕ). with_object s kind (overwritten zeros 0 (map f ws))) (take_all i words le)
+  pub all-filled : length words ≤ i → z ≡ with_object s kind (map f words)
+  unfolding zeros
+  all-filled le =
+      filled.state ∙ ap (λ (ws : List ℕ). with_object s kind (overwritten zeros 0 (map f ws))) (take_all i words le)
       ∙ ap (with_object s kind) (overwritten-whole zeros (map f words) (length-map words f ∙ sym size))
 
 -- ---- ints
@@ -108,66 +118,67 @@ module _ {A : Type 0} (k : Cells A) where
       ap (λ (xs : List ℕ). length (int_cells k xs)) (sym (take_all (2 * (length ws / 2)) ws (omega arith)))
       ∙ (int-size (length ws / 2) ws (omega arith) ∙ half)
 
--- two cells more of an array of ints
-module _ {A : Type 0} (k : Cells A) (s z : State A) (words : List ℕ) (h i : ℕ) (at : h ≡ length s.heap + 1) (inside : 2 * i + 1 < length words)
-    (even : length words % 2 ≡ 0)
-    (e : z ≡ with_object s Ints (overwritten (array_cells k Ints (length words / 2)) 0 (int_cells k (take (2 * i) words)))) where
-  zeros : List A
-  zeros = array_cells k Ints (length words / 2)
+-- a new array of ints, of which the first i are written
+pub record AreIntsFilled {A : Type 0} (k : Cells A) (words : List ℕ) (s z : State A) (i : ℕ) : Type 0 where
+  pub state : z ≡ with_object s Ints (overwritten (array_cells k Ints (length words / 2)) 0 (int_cells k (take (2 * i) words)))
 
-  zeros-size : length zeros ≡ length words
-  unfolding zeros
-  zeros-size = length-array k Ints (length words / 2) ∙ omega arith
+module _ {A : Type 0} {k : Cells A} {words : List ℕ} {s z : State A} {i : ℕ} (filled : AreIntsFilled k words s z i) (even : length words % 2 ≡ 0) where
+  blank : List A
+  blank = array_cells k Ints (length words / 2)
 
-  pub high-there : 2 * i < length (object_cells z h)
-  unfolding zeros
-  high-there =
-      let done = int_cells k (take (2 * i) words) in
-      let size = int-size k i words (omega arith) in
-      let zs = zeros-size in
-      let all = ap length (last-cells s z Ints (overwritten zeros 0 done) h e at) ∙ length-overwritten zeros done 0 (omega arith) in
-      omega (arith, all)
+  blank-size : length blank ≡ length words
+  unfolding blank
+  blank-size = length-array k Ints (length words / 2) ∙ omega arith
 
-  pub high-more : (y : State A) (v : A) → y ≡ with_object_cell z h (2 * i) v
-      → y ≡ with_object s Ints (overwritten (array_cells k Ints (length words / 2)) 0 (int_cells k (take (2 * i) words) ++ v ∷ []))
-  unfolding zeros
-  high-more y v is =
-      let size = int-size k i words (omega arith) in let zs = zeros-size in
-      is ∙ last-cell-more s z Ints zeros (int_cells k (take (2 * i) words)) h (2 * i) v e at (sym size) (omega arith)
+  -- two cells more
+  module _ {h : ℕ} (at : h ≡ length s.heap + 1) (inside : 2 * i + 1 < length words) where
+    pub high-there : 2 * i < length (object_cells z h)
+    unfolding blank
+    high-there =
+        let done = int_cells k (take (2 * i) words) in
+        let size = int-size k i words (omega arith) in
+        let zs = blank-size in
+        let all = ap length (last-cells s z Ints (overwritten blank 0 done) h filled.state at) ∙ length-overwritten blank done 0 (omega arith) in
+        omega (arith, all)
 
-  pub low-there : (y : State A) (v : A) → y ≡ with_object_cell z h (2 * i) v → 2 * i + 1 < length (object_cells y h)
-  unfolding zeros
-  low-there y v is =
-      let done = int_cells k (take (2 * i) words) ++ v ∷ [] in
-      let size = int-size k i words (omega arith) in
-      let zs = zeros-size in
-      let more : length done ≡ 2 * i + 1 = length-append (int_cells k (take (2 * i) words)) (v ∷ []) ∙ omega arith in
-      let all = ap length (last-cells s y Ints (overwritten zeros 0 done) h (high-more y v is) at) ∙ length-overwritten zeros done 0 (omega arith) in
-      omega (arith, all)
+    high-more : (y : State A) (v : A) → y ≡ with_object_cell z h (2 * i) v
+        → y ≡ with_object s Ints (overwritten (array_cells k Ints (length words / 2)) 0 (int_cells k (take (2 * i) words) ++ v ∷ []))
+    unfolding blank
+    high-more y v is =
+        let size = int-size k i words (omega arith) in let zs = blank-size in
+        is ∙ last-cell-more s z Ints blank (int_cells k (take (2 * i) words)) h (2 * i) v filled.state at (sym size) (omega arith)
 
-  pub low-more : (y x : State A) (v w : A) → y ≡ with_object_cell z h (2 * i) v → x ≡ with_object_cell y h (2 * i + 1) w
-      → v ≡ k.high (get_or words (2 * i) 0) → w ≡ k.low (get_or words (2 * i + 1) 0)
-      → x ≡ with_object s Ints (overwritten (array_cells k Ints (length words / 2)) 0 (int_cells k (take (2 * (i + 1)) words)))
-  unfolding zeros
-  low-more y x v w first second is was =
-      let done = int_cells k (take (2 * i) words) ++ v ∷ [] in
-      let size = int-size k i words (omega arith) in
-      let zs = zeros-size in
-      let more : length done ≡ 2 * i + 1 = length-append (int_cells k (take (2 * i) words)) (v ∷ []) ∙ omega arith in
-      let all : done ++ w ∷ [] ≡ int_cells k (take (2 * (i + 1)) words) =
-      ap (λ (c : A). (int_cells k (take (2 * i) words) ++ c ∷ []) ++ w ∷ []) is
-      ∙ (ap (λ (c : A). (int_cells k (take (2 * i) words) ++ k.high (get_or words (2 * i) 0) ∷ []) ++ c ∷ []) was ∙ int-more k i words inside) in
-      second ∙ (last-cell-more s y Ints zeros done h (2 * i + 1) w (high-more y v first) at (sym more) (omega arith)
-      ∙ ap (λ (cells : List A). with_object s Ints (overwritten zeros 0 cells)) all)
+    pub low-there : {y : State A} (v : A) → y ≡ with_object_cell z h (2 * i) v → 2 * i + 1 < length (object_cells y h)
+    unfolding blank
+    low-there {y} v is =
+        let done = int_cells k (take (2 * i) words) ++ v ∷ [] in
+        let size = int-size k i words (omega arith) in
+        let zs = blank-size in
+        let more : length done ≡ 2 * i + 1 = length-append (int_cells k (take (2 * i) words)) (v ∷ []) ∙ omega arith in
+        let all = ap length (last-cells s y Ints (overwritten blank 0 done) h (high-more y v is) at) ∙ length-overwritten blank done 0 (omega arith) in
+        omega (arith, all)
 
-pub ints-done : {A : Type 0} (k : Cells A) (s z : State A) (words : List ℕ) (i : ℕ) → length words % 2 ≡ 0 → length words / 2 ≤ i
-    → z ≡ with_object s Ints (overwritten (array_cells k Ints (length words / 2)) 0 (int_cells k (take (2 * i) words)))
-    → z ≡ with_object s Ints (int_cells k words)
-ints-done {A} k s z words i even le e =
-    let zeros = array_cells k Ints (length words / 2) in
-    let zs : length zeros ≡ length words = length-array k Ints (length words / 2) ∙ omega arith in
-    e ∙ ap (λ (ws : List ℕ). with_object s Ints (overwritten zeros 0 (int_cells k ws))) (take_all (2 * i) words (omega arith))
-    ∙ ap (with_object s Ints) (overwritten-whole zeros (int_cells k words) (ints-size k words even ∙ sym zs))
+    pub low-more : {y x : State A} (v w : A) → y ≡ with_object_cell z h (2 * i) v → x ≡ with_object_cell y h (2 * i + 1) w
+        → v ≡ k.high (get_or words (2 * i) 0) → w ≡ k.low (get_or words (2 * i + 1) 0) → AreIntsFilled k words s x (i + 1)
+    unfolding blank
+    low-more {y} {x} v w first second is was =
+        let done = int_cells k (take (2 * i) words) ++ v ∷ [] in
+        let size = int-size k i words (omega arith) in
+        let zs = blank-size in
+        let more : length done ≡ 2 * i + 1 = length-append (int_cells k (take (2 * i) words)) (v ∷ []) ∙ omega arith in
+        let all : done ++ w ∷ [] ≡ int_cells k (take (2 * (i + 1)) words) =
+        ap (λ (c : A). (int_cells k (take (2 * i) words) ++ c ∷ []) ++ w ∷ []) is
+        ∙ (ap (λ (c : A). (int_cells k (take (2 * i) words) ++ k.high (get_or words (2 * i) 0) ∷ []) ++ c ∷ []) was ∙ int-more k i words inside) in
+        record {
+          state = second ∙ (last-cell-more s y Ints blank done h (2 * i + 1) w (high-more y v first) at (sym more) (omega arith)
+              ∙ ap (λ (cells : List A). with_object s Ints (overwritten blank 0 cells)) all);
+        }
+
+  pub all-ints-filled : length words / 2 ≤ i → z ≡ with_object s Ints (int_cells k words)
+  unfolding blank
+  all-ints-filled le =
+      filled.state ∙ ap (λ (ws : List ℕ). with_object s Ints (overwritten blank 0 (int_cells k ws))) (take_all (2 * i) words (omega arith))
+      ∙ ap (with_object s Ints) (overwritten-whole blank (int_cells k words) (ints-size k words even ∙ sym blank-size))
 
 -- ---- the cells of initial arrays
 

@@ -13,45 +13,27 @@ use Rattle.vm_step.specs.Start.{field_cells}
 
 pub field-size : {A : Type 0} (k : Cells A) (kind : Kind) (words : List ℕ) → length words ≡ width kind
     → length (field_cells k kind words) ≡ width kind
-field-size k fields.Int [] e = absurd (omega arith)
-field-size k fields.Int (a ∷ []) e = absurd (omega arith)
 field-size k fields.Int (a ∷ b ∷ ws) e = refl
 field-size k fields.Ref (a ∷ []) e = refl
-field-size k fields.Ref [] e = absurd (omega arith)
-field-size k fields.Ref (a ∷ b ∷ ws) e = absurd (omega arith)
 field-size k fields.Byte (a ∷ []) e = refl
-field-size k fields.Byte [] e = absurd (omega arith)
-field-size k fields.Byte (a ∷ b ∷ ws) e = absurd (omega arith)
 field-size k fields.Short (a ∷ []) e = refl
-field-size k fields.Short [] e = absurd (omega arith)
-field-size k fields.Short (a ∷ b ∷ ws) e = absurd (omega arith)
+field-size k kind words e = absurd (omega arith)
 
 -- as many words as the kind has cells
 pub words-size : (t : ClassTable) (arrays : List ArrayRec) (kind : Kind) (ty : Ty) (words : List ℕ) → AreInitialWords t arrays kind ty words
     → length words ≡ width kind
-words-size t arrays fields.Ref ty [] h = absurd h
-words-size t arrays fields.Ref ty (a ∷ []) h = refl
-words-size t arrays fields.Ref ty (a ∷ b ∷ ws) h = absurd h
-words-size t arrays fields.Byte ty [] h = absurd h
-words-size t arrays fields.Byte ty (a ∷ []) h = refl
-words-size t arrays fields.Byte ty (a ∷ b ∷ ws) h = absurd h
-words-size t arrays fields.Short ty [] h = absurd h
-words-size t arrays fields.Short ty (a ∷ []) h = refl
-words-size t arrays fields.Short ty (a ∷ b ∷ ws) h = absurd h
-words-size t arrays fields.Int ty [] h = absurd h
-words-size t arrays fields.Int ty (a ∷ []) h = absurd h
 words-size t arrays fields.Int ty (a ∷ b ∷ []) h = refl
-words-size t arrays fields.Int ty (a ∷ b ∷ c ∷ ws) h = absurd h
+words-size t arrays fields.Ref ty (a ∷ []) h = refl
+words-size t arrays fields.Byte ty (a ∷ []) h = refl
+words-size t arrays fields.Short ty (a ∷ []) h = refl
+words-size t arrays kind ty words h = absurd h
 
 pub reference-cells : {A : Type 0} (k : Cells A) (kind : Kind) (words : List ℕ) (first : ℕ) → kind ≡ fields.Ref → length words ≡ width kind
     → slice_get words 0 ≡ Some first
     → k.reference first ∷ [] ≡ field_cells k kind words
 reference-cells k fields.Ref (a ∷ []) first e size at = let same : a ≡ first = cc in ap (λ h. k.reference h ∷ []) (sym same)
-reference-cells k fields.Ref [] first e size at = absurd (omega arith)
-reference-cells k fields.Ref (a ∷ b ∷ ws) first e size at = absurd (omega arith)
-reference-cells k fields.Int words first e size at = absurd (cc)
-reference-cells k fields.Byte words first e size at = absurd (cc)
-reference-cells k fields.Short words first e size at = absurd (cc)
+reference-cells k fields.Ref words first e size at = absurd (omega arith)
+reference-cells k kind words first e size at = absurd (cc)
 
 pub short-cells : {A : Type 0} (k : Cells A) (kind : Kind) (words : List ℕ) (first : ℕ) → (kind ≡ fields.Ref → ⊥)
     → (kind ≡ fields.Int → ⊥) → length words ≡ width kind
@@ -59,14 +41,9 @@ pub short-cells : {A : Type 0} (k : Cells A) (kind : Kind) (words : List ℕ) (f
 short-cells k fields.Ref words first r i size at = absurd (r refl)
 short-cells k fields.Int words first r i size at = absurd (i refl)
 short-cells k fields.Byte (a ∷ []) first r i size at = let same : a ≡ first = cc in ap (λ h. k.short (short_of_word h) ∷ []) (sym same)
-short-cells k fields.Byte [] first r i size at = absurd (omega arith)
-short-cells k fields.Byte (a ∷ b ∷ ws) first r i size at = absurd (omega arith)
 short-cells k fields.Short (a ∷ []) first r i size at = let same : a ≡ first = cc in ap (λ h. k.short (short_of_word h) ∷ []) (sym same)
-short-cells k fields.Short [] first r i size at = absurd (omega arith)
-short-cells k fields.Short (a ∷ b ∷ ws) first r i size at = absurd (omega arith)
+short-cells k kind words first r i size at = absurd (omega arith)
 
 pub kind-inside : (kind : Kind) (at n : ℕ) → at + width kind ≤ n → at < n
-kind-inside fields.Ref at n h = omega arith
 kind-inside fields.Int at n h = omega arith
-kind-inside fields.Byte at n h = omega arith
-kind-inside fields.Short at n h = omega arith
+kind-inside kind at n h = omega arith

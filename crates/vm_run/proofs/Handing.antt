@@ -41,16 +41,7 @@ one-cell-size : {A : Type 0} (k : Cells A) (objects : ℕ) (arg : Argument) (ty 
 one-cell-size k objects (number n) types.Short h f = refl
 one-cell-size k objects (number n) types.IntHigh h f = absurd h
 one-cell-size k objects (number n) types.IntLow h f = absurd h
-one-cell-size k objects (number n) types.Bottom h f = absurd (false≢true f)
-one-cell-size k objects (number n) types.Null h f = absurd (false≢true f)
-one-cell-size k objects (number n) (types.Class c) h f = absurd (false≢true f)
-one-cell-size k objects (number n) types.ArrBool h f = absurd (false≢true f)
-one-cell-size k objects (number n) types.ArrByte h f = absurd (false≢true f)
-one-cell-size k objects (number n) types.ArrShort h f = absurd (false≢true f)
-one-cell-size k objects (number n) types.ArrInt h f = absurd (false≢true f)
-one-cell-size k objects (number n) (types.ArrRef c) h f = absurd (false≢true f)
-one-cell-size k objects (number n) (types.Fresh p c) h f = absurd (false≢true f)
-one-cell-size k objects (number n) types.Top h f = absurd (false≢true f)
+one-cell-size k objects (number n) ty h f = absurd (false≢true f)
 one-cell-size k objects null ty h f = refl
 one-cell-size k objects (bytes bs) ty h f = refl
 
@@ -100,18 +91,7 @@ handed-size k n objects (arg ∷ args) (one_cell {a = ty} {types = tys} half w) 
 pub int-argument : {A : Type 0} (k : Cells A) (objects : ℕ) (n : ℤ) (ty : Ty) → (ty ≡ types.Short → ⊥)
     → argument_cells k objects (number n) ty ≡ number_cells k widths.Int n
 int-argument k objects n types.Short h = absurd (h refl)
-int-argument k objects n types.IntHigh h = refl
-int-argument k objects n types.IntLow h = refl
-int-argument k objects n types.Bottom h = refl
-int-argument k objects n types.Null h = refl
-int-argument k objects n (types.Class c) h = refl
-int-argument k objects n types.ArrBool h = refl
-int-argument k objects n types.ArrByte h = refl
-int-argument k objects n types.ArrShort h = refl
-int-argument k objects n types.ArrInt h = refl
-int-argument k objects n (types.ArrRef c) h = refl
-int-argument k objects n (types.Fresh p c) h = refl
-int-argument k objects n types.Top h = refl
+int-argument k objects n ty h = refl
 
 -- ---- one argument more
 
@@ -171,9 +151,8 @@ module _ {A : Type 0} (k : Cells A) (args : List Argument) (tys : List Ty) (n i 
       ∙ ap (overwritten regs x) (sym handed-next)
 
 one-array : (arg : Argument) → arrays_made arg ≤ 1
-one-array (number n) = omega arith
-one-array null = omega arith
 one-array (bytes bs) = omega arith
+one-array arg = omega arith
 
 pub made-next : (arg : Argument) (made objects n : ℕ) → made ≤ objects + n → made + arrays_made arg ≤ objects + (n + 1)
 made-next arg made objects n h = let one = one-array arg in omega arith

@@ -6,7 +6,6 @@ pub mod Performing
 pub mod Drops
 pub mod Sums
 pub mod WritesInOrder
-pub mod NamedWrites
 pub mod Elements
 pub mod Fields
 pub mod Handing

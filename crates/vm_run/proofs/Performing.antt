@@ -44,17 +44,11 @@ some-and (Some x) P h = (x, refl, h)
 
 of-class : (w : Linked) (kind : ObjectKind) (count : ℕ) → IsShapedFor w.classes kind count → IsOfClass w.classes kind
 of-class w (Instance c) count h = h.0
-of-class w Booleans count h = tt {0}
-of-class w Bytes count h = tt {0}
-of-class w Shorts count h = tt {0}
-of-class w Ints count h = tt {0}
-of-class w (References c) count h = tt {0}
+of-class w kind count h = tt {0}
 
 two-cells : (value : Value) → value_width value ≤ 2
-two-cells values.Void = omega arith
-two-cells (values.Short n) = omega arith
 two-cells (values.Int n) = omega arith
-two-cells (values.Ref h) = omega arith
+two-cells value = omega arith
 
 module _ {A : Type 0} (w : Linked) where
   head-frame : (fs : List (Frame A)) → All (IsShapedFrame w) fs → 0 < length fs → IsShapedFrame w (first_frame fs)
@@ -108,10 +102,8 @@ module _ {A : Type 0} (w : Linked) where
   -- ---- what the lead rests on
 
   value-size : (k : Cells A) (value : Value) (stack : List A) → length (value_cells k value stack) ≡ value_width value
-  value-size k values.Void stack = refl
-  value-size k (values.Short n) stack = refl
   value-size k (values.Int n) stack = refl
-  value-size k (values.Ref h) stack = refl
+  value-size k value stack = refl
 
   tested-resumes : (room : ℕ) (s : State A) (value : Value) (known : Known) → IsShaped w s → 257 ≤ room
       → KnowsAt w known (top (without_top s)).method (top (without_top s)).place
@@ -139,13 +131,7 @@ module _ {A : Type 0} (w : Linked) where
         (λ going. subst (λ (n : ℕ). CanResume room w Verified n (without_top s)) (value-size k value (top z).stack)
         ((verified know s kept runs).resumes m i op value cells fetches names e going))
     leads-on known (leads.Throws handle) know e same = subst (λ (x : State A). All (IsOfClass w.classes) (kinds x)) (sym same) (classes-of s shaped)
-    leads-on known leads.Goes know e same = tt {0}
-    leads-on known (leads.Puts put) know e same = tt {0}
-    leads-on known (leads.MakesInstance class place) know e same = tt {0}
-    leads-on known (leads.MakesArray kind count) know e same = tt {0}
-    leads-on known (leads.Calls method count) know e same = tt {0}
-    leads-on known (leads.Raises exception) know e same = tt {0}
-    leads-on known (leads.Lacks class) know e same = tt {0}
+    leads-on known lead know e same = tt {0}
 
   -- ---- what the lead comes to is what the act comes to
 
@@ -164,19 +150,11 @@ module _ {A : Type 0} (w : Linked) where
       → settled k w next z (told k w z lead) ≡ settled k w next s a
   same-outcome k next s z leads.Goes a e same = goes-same k next s z same ∙ ap (settled k w next s) (sym e)
   same-outcome k next s z (leads.Jumps to) a e same = ap (settled k w next s) (sym e)
-  same-outcome k next s z (leads.Puts put) a e same =
-      ap (λ (x : State A). settled k w next x (told k w z (leads.Puts put))) same ∙ ap (settled k w next s) (sym e)
   same-outcome k next s z (leads.MakesInstance class place) a e same = ap (settled k w next s) (sym e)
   same-outcome k next s z (leads.MakesArray kind count) a e same = ap (settled k w next s) (sym e)
   same-outcome k next s z (leads.Calls method count) a e same = ap (settled k w next s) (sym e)
-  same-outcome k next s z (leads.Gives value) a e same =
-      ap (λ (x : State A). settled k w next x (told k w z (leads.Gives value))) same ∙ ap (settled k w next s) (sym e)
-  same-outcome k next s z (leads.Raises exception) a e same =
-      ap (λ (x : State A). settled k w next x (told k w z (leads.Raises exception))) same ∙ ap (settled k w next s) (sym e)
-  same-outcome k next s z (leads.Throws handle) a e same =
-      ap (λ (x : State A). settled k w next x (told k w z (leads.Throws handle))) same ∙ ap (settled k w next s) (sym e)
-  same-outcome k next s z (leads.Lacks class) a e same =
-      ap (λ (x : State A). settled k w next x (told k w z (leads.Lacks class))) same ∙ ap (settled k w next s) (sym e)
+  same-outcome k next s z lead a e same =
+      ap (λ (x : State A). settled k w next x (told k w z lead)) same ∙ ap (settled k w next s) (sym e)
 
   -- ---- the instruction at the place
 

@@ -10,11 +10,11 @@ use Rattle.vm_store.specs.Layout.{overwritten}
 use Rattle.vm_store.proofs.Fills.{overwritten-nil, overwritten-more}
 
 module _ {A : Type 0} where
-  pub write-cell : (xs : List A) (at : ℕ) (v : A) → at < length xs → set xs at v ≡ overwritten xs at (v ∷ [])
-  write-cell xs at v lt = ap (λ zs. set zs at v) (overwritten-nil xs at) ∙ overwritten-more xs [] at at v (omega arith) lt
+  pub cell_written : (xs : List A) (at : ℕ) (v : A) → at < length xs → set xs at v ≡ overwritten xs at (v ∷ [])
+  cell_written xs at v lt = ap (λ zs. set zs at v) (overwritten-nil xs at) ∙ overwritten-more xs [] at at v (omega arith) lt
 
-  pub write-two : (xs : List A) (at : ℕ) (v w : A) → at + 1 < length xs → set (set xs at v) (at + 1) w ≡ overwritten xs at (v ∷ w ∷ [])
-  write-two xs at v w lt = ap (λ zs. set zs (at + 1) w) (write-cell xs at v (omega arith)) ∙ overwritten-more xs (v ∷ []) at (at + 1) w refl lt
+  pub two_written : (xs : List A) (at : ℕ) (v w : A) → at + 1 < length xs → set (set xs at v) (at + 1) w ≡ overwritten xs at (v ∷ w ∷ [])
+  two_written xs at v w lt = ap (λ zs. set zs (at + 1) w) (cell_written xs at v (omega arith)) ∙ overwritten-more xs (v ∷ []) at (at + 1) w refl lt
 
   cut-after : (xs ys : List A) (p n : ℕ) → length xs ≡ p → drop (p + n) (xs ++ ys) ≡ drop n ys
   cut-after xs ys p n e = sym (drop-drop n p (xs ++ ys)) ∙ ap (drop n) (drop_at xs ys p e)

@@ -15,6 +15,7 @@ use vm_step::{Arg, Args};
 use vm_store::{CellForm, Store};
 
 /// Writes one cell into a register, and tells the next register.
+#[tactic(auto, using(crate::proofs::WritesInOrder::cell_written))]
 fn hand_cell<S: Store>(store: &mut S, x: u16, cell: S::Cell) -> u16
     requires well { S.well store.old }
     requires running { IsRunning (S.state store.old) }
@@ -33,7 +34,7 @@ fn hand_cell<S: Store>(store: &mut S, x: u16, cell: S::Cell) -> u16
 }
 
 /// Writes the two cells of an int into a register and the next, and tells the register after them.
-#[tactic(auto, using(crate::proofs::NamedWrites::two_written))]
+#[tactic(auto, using(crate::proofs::WritesInOrder::two_written))]
 fn hand_int<S: Store>(store: &mut S, x: u16, number: i32) -> u16
     requires well { S.well store.old }
     requires running { IsRunning (S.state store.old) }

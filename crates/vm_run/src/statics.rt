@@ -8,7 +8,7 @@ use jc_base::{Kind, StaticRec, World};
 use vm_store::{CellForm, Store};
 
 /// Writes the initial value of a static field into the cells from a slot on, and tells the slot after it.
-#[tactic(auto, using(crate::proofs::NamedWrites::cell_written, crate::proofs::NamedWrites::two_written))]
+#[tactic(auto, using(crate::proofs::WritesInOrder::cell_written, crate::proofs::WritesInOrder::two_written))]
 fn write_field<S: Store>(store: &mut S, slot: u16, field: &StaticRec) -> u16
     requires well { S.well store.old }
     requires words { length field.now.initial ≡ width field.now.kind }

@@ -3,7 +3,7 @@ use Rattle.std.proofs.Common.{◌≡◌, ◌≢◌, ℕ, suc, ◌+◌, ℤ, pos,
 use Rattle.std.proofs.Common.{refl, sym, ap, ◌∙◌, subst, arith, inl, inr, ◌⊎◌}
 use Rattle.std.specs.Prelude.{Option, Some, None, if◌then◌else◌, nat_lt, ◌==◌, ◌*◌, slice_get, unwrap_or}
 use Rattle.jc_base.specs.declared.ty.Ty.{Ty}
-use Rattle.jc_base.specs.declared.ty.Ty.TheVariants.{Short, IntHigh}
+use Rattle.jc_base.specs.declared.ty.Ty.TheVariants.{Short}
 use Rattle.jc_base.specs.declared.record.Handler.{Handler}
 use Rattle.jc_base.specs.Cell.{width}
 use Rattle.jc_base.specs.Dispatch.{cells_of, dispatched}
@@ -74,14 +74,10 @@ module _ {A : Type 0} (k : Cells A) (w : Linked) (s : State A) where
 
   -- where the run may end with another state than s, the objects and the static fields are those of s
   abbrev Keeps : Act A → Type 0
-  Keeps (goes z) = Unit {0}
   Keeps (jumps to z) = IsKept z
   Keeps (makes kind cells reference z) = IsKept z
   Keeps (calls method count z) = IsKept z
-  Keeps (gives value cells) = Unit {0}
-  Keeps (raises exception) = Unit {0}
-  Keeps (throws handle) = Unit {0}
-  Keeps (lacks class) = Unit {0}
+  Keeps _ = Unit {0}
 
   keeps-if : (b : Bool) (x y : Act A) → Keeps x → Keeps y → Keeps (if b then x else y)
   keeps-if true x y h g = h
@@ -112,8 +108,7 @@ module _ {A : Type 0} (k : Cells A) (w : Linked) (s : State A) where
 
   keeps-interface : (interface token count : ℕ) (o : Option ObjectKind) → Keeps (interface_act w.classes interface token count o s)
   keeps-interface interface token count (Some (Instance class)) = keeps-served (served w.classes interface token class) class count
-  keeps-interface interface token count (Some _) = tt {0}
-  keeps-interface interface token count None = tt {0}
+  keeps-interface interface token count _ = tt {0}
 
   keeps-chosen : (callee : Callee) (args : ℕ) (choice : Choice) → Keeps (chosen_act k w.classes callee args choice s)
   keeps-chosen callee args choices.Static = kept
@@ -128,21 +123,13 @@ module _ {A : Type 0} (k : Cells A) (w : Linked) (s : State A) where
       (keeps-interface class token (args + 1) (kind_of_handle (kinds s) (handle_at k (top s).stack args)))
 
   keeps-return : (o : Option Ty) → Keeps (return_act k o s)
-  keeps-return None = tt {0}
   keeps-return (Some Short) = tt {0}
-  keeps-return (Some IntHigh) = tt {0}
-  keeps-return (Some _) = tt {0}
+  keeps-return _ = tt {0}
 
   keeps-act : (i : Insn) (op : Operation) → Keeps (act k w i op s)
-  keeps-act i (ops.Constant c) = tt {0}
-  keeps-act i (ops.Load sort x) = tt {0}
-  keeps-act i (ops.Store sort x) = tt {0}
-  keeps-act i (ops.Increment width x amount) = tt {0}
-  keeps-act i (ops.Move move) = tt {0}
   keeps-act i (ops.Arithmetic (arithmetic.Binary operator width)) =
       keeps-some exceptions.Arithmetic (binary k operator width (top s).stack)
       (λ n. goes (replaced s (both_widths width) (number_cells k width n))) (λ n. tt {0})
-  keeps-act i (ops.Arithmetic _) = tt {0}
   keeps-act i (ops.ArrayRead kind) =
       let read : ℕ → ℕ → Act A = λ h n. goes (replaced s 2 (value_in k kind (object_cells s h) (n * width kind))) in
       let index = short_at k (top s).stack 0 in
@@ -162,8 +149,6 @@ module _ {A : Type 0} (k : Cells A) (w : Linked) (s : State A) where
   keeps-act i (ops.Branch branch) =
       keeps-leads (is_taken k branch (top s).stack) (target (top s).place i.x) (dropped s (branch_width branch)) (record { heap = refl; statics = refl })
   keeps-act i (ops.Switch width) = record { heap = refl; statics = refl }
-  keeps-act i (ops.StaticRead f) = tt {0}
-  keeps-act i (ops.StaticWrite f) = tt {0}
   keeps-act i (ops.FieldRead f holder) =
       keeps-null (held_handle k holder 0 s) (λ h. goes (with_field_read k f holder h s)) (tt {0})
   keeps-act i (ops.FieldWrite f holder) =
@@ -175,8 +160,8 @@ module _ {A : Type 0} (k : Cells A) (w : Linked) (s : State A) where
   keeps-act i ops.Throw = keeps-null (handle_at k (top s).stack 0) throws (tt {0})
   keeps-act i (ops.TypeTest tests.Cast ty) =
       keeps-if (may_cast w.classes s ty (handle_at k (top s).stack 0)) (goes s) (raises exceptions.ClassCast) (tt {0}) (tt {0})
-  keeps-act i (ops.TypeTest tests.InstanceOf ty) = tt {0}
   keeps-act i (ops.Return result) = keeps-return result
+  keeps-act i _ = tt {0}
 
   -- ---- where a step ends
 

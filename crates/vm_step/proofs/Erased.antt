@@ -11,7 +11,7 @@ use Rattle.jc_base.specs.declared.record.ArrayRec.{ArrayRec}
 use Rattle.jc_base.specs.World.{Linked}
 use Rattle.vm_store.specs.declared.cell.Cell.{Cell}
 use Rattle.vm_store.specs.declared.kind.ObjectKind.{ObjectKind}
-use Rattle.vm_store.specs.declared.kind.ObjectKind.TheVariants.{Instance, Booleans, Bytes, Shorts, Ints, References}
+use Rattle.vm_store.specs.declared.kind.ObjectKind.TheVariants.{Bytes, Ints}
 use Rattle.vm_store.specs.Cells.{tagged, words, word_of}
 use Rattle.vm_arithmetic.specs.Arithmetic.{short_of_word}
 use Rattle.vm_store.specs.State.{State, Frame, Object, erased, map_object, map_frame, entered}
@@ -33,11 +33,10 @@ each-word f (w ∷ ws) = ap (λ (xs : List ℕ). word_of (f w) ∷ xs) (each-wor
 
 field-erased : (kind : Kind) (ws : List ℕ) → map word_of (field_cells tagged kind ws) ≡ field_cells words kind ws
 field-erased fields.Ref ws = each-word tagged.reference ws
-field-erased fields.Byte ws = each-word (λ w. tagged.short (short_of_word w)) ws
-field-erased fields.Short ws = each-word (λ w. tagged.short (short_of_word w)) ws
 field-erased fields.Int [] = refl
 field-erased fields.Int (a ∷ []) = refl
 field-erased fields.Int (a ∷ b ∷ ws) = refl
+field-erased kind ws = each-word (λ w. tagged.short (short_of_word w)) ws
 
 statics-erased : (fs : List StaticRec) → map word_of (flat_map (λ f. field_cells tagged f.kind f.initial) fs)
     ≡ flat_map (λ f. field_cells words f.kind f.initial) fs
@@ -54,11 +53,7 @@ ints-erased (a ∷ b ∷ ws) = ap (λ (xs : List ℕ). a ∷ b ∷ xs) (ints-era
 
 elements-erased : (kind : ObjectKind) (ws : List ℕ) → map word_of (initial_element_cells tagged kind ws) ≡ initial_element_cells words kind ws
 elements-erased Ints ws = ints-erased ws
-elements-erased (Instance c) ws = each-word (λ w. tagged.short (short_of_word w)) ws
-elements-erased Booleans ws = each-word (λ w. tagged.short (short_of_word w)) ws
-elements-erased Bytes ws = each-word (λ w. tagged.short (short_of_word w)) ws
-elements-erased Shorts ws = each-word (λ w. tagged.short (short_of_word w)) ws
-elements-erased (References c) ws = each-word (λ w. tagged.short (short_of_word w)) ws
+elements-erased kind ws = each-word (λ w. tagged.short (short_of_word w)) ws
 
 objects-erased : (xs : List ArrayRec) → map (map_object word_of) (map (initial_object tagged) xs) ≡ map (initial_object words) xs
 objects-erased [] = refl
@@ -94,20 +89,7 @@ arrays-erased (bytes bs ∷ args) s =
 
 argument-erased : (objects : ℕ) (arg : Argument) (ty : Ty) → map word_of (argument_cells tagged objects arg ty) ≡ argument_cells words objects arg ty
 argument-erased objects (number n) types.Short = refl
-argument-erased objects (number n) types.IntHigh = refl
-argument-erased objects (number n) types.IntLow = refl
-argument-erased objects (number n) types.Bottom = refl
-argument-erased objects (number n) types.Null = refl
-argument-erased objects (number n) (types.Class c) = refl
-argument-erased objects (number n) types.ArrBool = refl
-argument-erased objects (number n) types.ArrByte = refl
-argument-erased objects (number n) types.ArrShort = refl
-argument-erased objects (number n) types.ArrInt = refl
-argument-erased objects (number n) (types.ArrRef c) = refl
-argument-erased objects (number n) (types.Fresh p c) = refl
-argument-erased objects (number n) types.Top = refl
-argument-erased objects null ty = refl
-argument-erased objects (bytes bs) ty = refl
+argument-erased objects arg ty = refl
 
 handed-erased : (objects : ℕ) (args : List Argument) (tys : List Ty) → map word_of (cells_handed tagged objects args tys) ≡ cells_handed words objects
     args tys

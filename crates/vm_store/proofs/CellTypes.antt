@@ -120,14 +120,9 @@ module _ (t : ClassTable) (ks : List ObjectKind) where
   fall_fresh more h p (Some k) e = subst (λ o. Below t (fresh_seen p o) (fresh_seen p (Some k))) (sym (slice_get-front ks more h k e)) same
 
   pub least-falls : (unset : Ty) (c : Cell) → FallsWithObjects t unset ks c
-  least-falls unset cells.Empty more = same
-  least-falls unset (cells.Short n) more = same
-  least-falls unset (cells.High n) more = same
-  least-falls unset (cells.Low n) more = same
-  least-falls unset (cells.Ref zero) more = same
   least-falls unset (cells.Ref (suc h)) more = fall_reference more h (slice_get ks h) refl
-  least-falls unset (cells.Fresh zero p) more = same
   least-falls unset (cells.Fresh (suc h) p) more = fall_fresh more h p (slice_get ks h) refl
+  least-falls unset c more = same
 
 -- ---- words
 

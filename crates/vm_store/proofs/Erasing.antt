@@ -183,15 +183,11 @@ objects s = record {
 
 in-erased : (kind : Kind) (xs : List Cell) (at : ℕ) → map word_of (value_in tagged kind xs at) ≡ value_in words kind (map word_of xs) at
 in-erased fields.Int xs at = cc (nth-erased xs at, nth-erased xs (at + 1))
-in-erased fields.Ref xs at = cc (nth-erased xs at)
-in-erased fields.Byte xs at = cc (nth-erased xs at)
-in-erased fields.Short xs at = cc (nth-erased xs at)
+in-erased kind xs at = cc (nth-erased xs at)
 
 on-erased : (kind : Kind) (xs : List Cell) → map word_of (value_on tagged kind xs) ≡ value_on words kind (map word_of xs)
 on-erased fields.Int xs = cc (nth-erased xs 1, nth-erased xs 0)
-on-erased fields.Ref xs = cc (nth-erased xs 0)
-on-erased fields.Byte xs = cc (nth-erased xs 0)
-on-erased fields.Short xs = cc (nth-erased xs 0)
+on-erased kind xs = cc (nth-erased xs 0)
 
 bytes-erased : (value : List Cell) → map word_of (kept_value tagged fields.Byte value) ≡ kept_value words fields.Byte (map word_of value)
 bytes-erased [] = refl
@@ -199,15 +195,11 @@ bytes-erased (c ∷ cs) = ap (λ ws. words.short (byte_of_word (word_of c)) ∷ 
 
 kept-erased : (kind : Kind) (value : List Cell) → map word_of (kept_value tagged kind value) ≡ kept_value words kind (map word_of value)
 kept-erased fields.Byte value = bytes-erased value
-kept-erased fields.Int value = refl
-kept-erased fields.Ref value = refl
-kept-erased fields.Short value = refl
+kept-erased kind value = refl
 
 zero-erased : (kind : CellKind) → word_of (zero_cell tagged kind) ≡ zero_cell words kind
 zero-erased made.Reference = refl
-zero-erased made.Short = refl
-zero-erased made.High = refl
-zero-erased made.Low = refl
+zero-erased kind = refl
 
 zeros-erased : (types : List Ty) → map word_of (map (λ ty. zero_cell tagged (cell_kind ty)) types) ≡ map (λ ty. zero_cell words (cell_kind ty)) types
 zeros-erased [] = refl

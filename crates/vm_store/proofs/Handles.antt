@@ -6,7 +6,7 @@ use Rattle.std.proofs.lemmas.Option.{slice_get-map, slice_get-get_or}
 use Rattle.std.proofs.lemmas.List.{get_or-take, get_or-drop, length-map}
 use Rattle.std.proofs.lemmas.Bool.{false≢true}
 use Rattle.vm_store.specs.declared.kind.ObjectKind.{ObjectKind}
-use Rattle.vm_store.specs.declared.kind.ObjectKind.TheVariants.{Instance, Booleans, Bytes, Shorts, Ints, References}
+use Rattle.vm_store.specs.declared.kind.ObjectKind.TheVariants.{Ints}
 use Rattle.vm_store.specs.declared.header.ObjectHeader.{ObjectHeader}
 use Rattle.vm_store.specs.Kind.{element_width, kind_of_handle}
 use Rattle.vm_store.specs.State.{Object, State}
@@ -16,12 +16,8 @@ use Rattle.vm_store.proofs.Heaps.{end-le, write_inside}
 
 -- the number of elements, from the number of cells
 elements_of : (kind : ObjectKind) (n cells : ℕ) → cells ≡ element_width kind * n → cells / element_width kind ≡ n
-elements_of (Instance c) n cells e = omega (arith, e)
-elements_of Booleans n cells e = omega (arith, e)
-elements_of Bytes n cells e = omega (arith, e)
-elements_of Shorts n cells e = omega (arith, e)
 elements_of Ints n cells e = omega (arith, e)
-elements_of (References c) n cells e = omega (arith, e)
+elements_of kind n cells e = omega (arith, e)
 
 some-past : {A : Type 0} (xs : List A) (i : ℕ) → IsSome (slice_get xs i) → i < length xs
 some-past [] i h = absurd (false≢true h)

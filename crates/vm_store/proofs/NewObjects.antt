@@ -18,7 +18,7 @@ use Rattle.jc_base.specs.Linked.{AreLinkedClasses, IsLinkedClass}
 use Rattle.jc_base.proofs.Lists.{slice_get-front}
 use Rattle.vm_store.specs.declared.cell.Cell.{Cell}
 use Rattle.vm_store.specs.declared.kind.ObjectKind.{ObjectKind}
-use Rattle.vm_store.specs.declared.kind.ObjectKind.TheVariants.{Instance, Booleans, Bytes, Shorts, Ints, References}
+use Rattle.vm_store.specs.declared.kind.ObjectKind.TheVariants.{Instance, Ints, References}
 use Rattle.vm_store.specs.Kind.{IsArrayKind, cell_kind, element_cells}
 use Rattle.vm_store.specs.Typing.{HasType, anything, empty, short, high, low, null, reference, fresh}
 use Rattle.vm_store.specs.Cells.{tagged, zero_cell}
@@ -128,11 +128,9 @@ module _ (t : ClassTable) where
   element-has : (ks : List ObjectKind) (kind : ObjectKind) → IsArrayKind kind → CellsHave t ks (map (zero_cell tagged) (element_cells kind))
       (element_types t kind)
   element-has ks (Instance c) h = absurd h
-  element-has ks Booleans h = (short, tt {0}, tt {0})
-  element-has ks Bytes h = (short, tt {0}, tt {0})
-  element-has ks Shorts h = (short, tt {0}, tt {0})
   element-has ks Ints h = (high, tt {0}, (low, tt {0}, tt {0}))
   element-has ks (References c) h = (null null_object, tt {0}, tt {0})
+  element-has ks kind h = (short, tt {0}, tt {0})
 
   repeated-has : (ks : List ObjectKind) (n : ℕ) (cs : List Cell) (types : List Ty) → CellsHave t ks cs types
       → CellsHave t ks (repeated n cs) (repeated n types)
@@ -149,26 +147,14 @@ module _ (t : ClassTable) where
   array-has : (ks : List ObjectKind) (kind : ObjectKind) (count : ℕ) → IsArrayKind kind
       → CellsHave t ks (array_cells tagged kind count) (cell_types t kind (length (array_cells tagged kind count)))
   array-has ks (Instance c) count h = absurd h
-  array-has ks Booleans count h =
-      counted ks (array_cells tagged Booleans count) (element_types t Booleans) (length (array_cells tagged Booleans count)) count
-      (omega (arith, length-array tagged Booleans count))
-      (repeated-has ks count (map (zero_cell tagged) (element_cells Booleans)) (element_types t Booleans) (element-has ks Booleans h))
-  array-has ks Bytes count h =
-      counted ks (array_cells tagged Bytes count) (element_types t Bytes) (length (array_cells tagged Bytes count)) count
-      (omega (arith, length-array tagged Bytes count))
-      (repeated-has ks count (map (zero_cell tagged) (element_cells Bytes)) (element_types t Bytes) (element-has ks Bytes h))
-  array-has ks Shorts count h =
-      counted ks (array_cells tagged Shorts count) (element_types t Shorts) (length (array_cells tagged Shorts count)) count
-      (omega (arith, length-array tagged Shorts count))
-      (repeated-has ks count (map (zero_cell tagged) (element_cells Shorts)) (element_types t Shorts) (element-has ks Shorts h))
   array-has ks Ints count h =
       counted ks (array_cells tagged Ints count) (element_types t Ints) (length (array_cells tagged Ints count) / 2) count
       (halved (length (array_cells tagged Ints count)) count (length-array tagged Ints count))
       (repeated-has ks count (map (zero_cell tagged) (element_cells Ints)) (element_types t Ints) (element-has ks Ints h))
-  array-has ks (References c) count h =
-      counted ks (array_cells tagged (References c) count) (element_types t (References c)) (length (array_cells tagged (References c) count)) count
-      (omega (arith, length-array tagged (References c) count))
-      (repeated-has ks count (map (zero_cell tagged) (element_cells (References c))) (element_types t (References c)) (element-has ks (References c) h))
+  array-has ks kind count h =
+      counted ks (array_cells tagged kind count) (element_types t kind) (length (array_cells tagged kind count)) count
+      (omega (arith, length-array tagged kind count))
+      (repeated-has ks count (map (zero_cell tagged) (element_cells kind)) (element_types t kind) (element-has ks kind h))
 
   pub new-arrays : NewArraysAreTyped t
   new-arrays s kind count typed array = with-object s kind (array_cells tagged kind count) typed (λ ks. array-has ks kind count array)
