@@ -81,11 +81,8 @@ impl Calls {
 fn keep_of(failures: &[Failure], call: u64) -> Option<u32>
     ensures { result ≡ keep_at call failures.now }
 {
-    match failures
+    failures
         .iter()
         .find(|failure| u64::from(failure.call) == call)
-    {
-        Some(failure) => Some(failure.keep),
-        None => None,
-    }
+        .map(|failure| failure.keep)
 }

@@ -7,7 +7,7 @@ ghost use Rattle.cap_files.specs.Mem.{folders_of, set, load_listed, store_listed
 use crate::calls::Calls;
 use crate::folder::{Folder, LoadEnd, StoreFailed};
 use crate::load::hand_over;
-use crate::piece::front;
+use crate::piece::kept;
 use crate::shelf::Shelf;
 use cap_bytes::Part;
 use std::alloc::{AllocError, Global};
@@ -92,19 +92,12 @@ impl Folder for MemFolder {
         ensures stored { is_ok result ≡ store_succeeds self.old (key_of part dir.now) bytes.now }
         ensures after { self.new ≡ stored self.old (key_of part dir.now) bytes.now }
     {
-        match self.stores.next() {
-            Some(keep) => {
-                let _placed = self.shelf.place(dir, part, front(bytes, keep));
-                self.stores.fault();
-                Err(StoreFailed)
-            }
-            None => {
-                if self.shelf.place(dir, part, bytes) {
-                    return Ok(());
-                }
-                self.stores.fault();
-                Err(StoreFailed)
-            }
+        let keep = self.stores.next();
+        let placed = self.shelf.place(dir, part, kept(bytes, keep));
+        if placed && keep.is_none() {
+            return Ok(());
         }
+        self.stores.fault();
+        Err(StoreFailed)
     }
 }

@@ -6,7 +6,7 @@ ghost use Rattle.cap_files.specs.Tape.{empty_tape};
 ghost use Rattle.cap_files.specs.Mem.{text_received, faults_of, put_listed, is_put, received};
 
 use crate::calls::Calls;
-use crate::piece::front;
+use crate::piece::kept;
 use crate::sink::{Sink, SinkFailed};
 use crate::tape::Tape;
 use std::alloc::{AllocError, Global};
@@ -62,19 +62,12 @@ impl Sink for MemSink {
         ensures put { is_ok result ≡ is_put self.old piece.now }
         ensures after { self.new ≡ received self.old piece.now }
     {
-        match self.puts.next() {
-            Some(keep) => {
-                let _appended = self.tape.append(front(piece, keep));
-                self.puts.fault();
-                Err(SinkFailed)
-            }
-            None => {
-                if self.tape.append(piece) {
-                    return Ok(());
-                }
-                self.puts.fault();
-                Err(SinkFailed)
-            }
+        let keep = self.puts.next();
+        let appended = self.tape.append(kept(piece, keep));
+        if appended && keep.is_none() {
+            return Ok(());
         }
+        self.puts.fault();
+        Err(SinkFailed)
     }
 }

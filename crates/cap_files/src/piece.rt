@@ -1,4 +1,5 @@
-ghost use Rattle.std.specs.Prelude.{◌≡◌, ◌+◌, ◌≤◌, ◌++◌, length, take, vec_len, vec_capacity};
+ghost use Rattle.std.specs.Prelude.{◌≡◌, ◌+◌, ◌≤◌, ◌++◌, length, vec_len, vec_capacity};
+ghost use Rattle.cap_files.specs.Mem.{kept_of};
 
 /// Appends a piece that the room suffices for.
 pub(crate) fn append(buffer: &mut Vec<u8>, piece: &[u8])
@@ -11,9 +12,12 @@ pub(crate) fn append(buffer: &mut Vec<u8>, piece: &[u8])
     prove!(appended);
 }
 
-/// The first bytes, at most so many.
-pub(crate) fn front(bytes: &[u8], most: u32) -> &[u8]
-    ensures { result.now ≡ take most bytes.now }
+/// The first bytes, where at most so many are kept, and else all.
+pub(crate) fn kept(bytes: &[u8], most: Option<u32>) -> &[u8]
+    ensures { result.now ≡ kept_of most bytes.now }
 {
-    bytes.get(..most as usize).unwrap_or(bytes)
+    match most {
+        Some(most) => bytes.get(..most as usize).unwrap_or(bytes),
+        None => bytes,
+    }
 }

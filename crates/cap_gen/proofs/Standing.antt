@@ -15,6 +15,7 @@ use Rattle.cap_gen.specs.Described.{methods, described_bytes, descriptor_bytes, 
 use Rattle.cap_gen.specs.Generated.{generated_parts}
 use Rattle.cap_gen.specs.Record.{package_record}
 use Rattle.cap_components.proofs.Saying.{read-said}
+use Rattle.cap_package.proofs.Agreed.{agreed}
 use Rattle.cap_gen.proofs.Agreeing.{sizes_agree, inside, apart, arguments_agree, registers_few, lengths_fit, none_abstract, handlers_home}
 use Rattle.cap_gen.proofs.Counted.{no_customs, imports_agree, applets_agree, images_agree, arrays_agree, array_sizes_agree, pools_agree, instances_agree}
 use Rattle.cap_gen.proofs.Counted.{sums_agree, statics_apart, all_named, all_described, all_typed, fields_inside, no_exports}
@@ -33,65 +34,29 @@ pub parts_stand : (seed : ℕ) → StandsFor (generated_parts seed) (package_rec
 parts_stand seed = record {
   said = read-said (generated_parts seed) (package_record seed) (all_read seed);
   missing = none_missing seed;
-  agree = (
-    no_customs seed,
-    (
-      sizes_agree seed,
-      (
-        apart seed,
-        (
-          inside seed,
-          (
-            imports_agree seed,
-            (
-              applets_agree seed,
-              (
-                images_agree seed,
-                (
-                  arrays_agree seed,
-                  (
-                    array_sizes_agree seed,
-                    (
-                      pools_agree seed,
-                      (
-                        arguments_agree seed,
-                        (
-                          instances_agree seed,
-                          (
-                            sums_agree seed,
-                            (
-                              none_abstract seed,
-                              (
-                                handlers_home seed,
-                                (
-                                  statics_apart seed,
-                                  (
-                                    all_named seed,
-                                    (
-                                      all_described seed,
-                                      (
-                                        registers_few seed,
-                                        (
-                                          all_typed seed,
-                                          (fields_inside seed, (lengths_fit seed, (no_exports seed, tt))),
-                                        ),
-                                      ),
-                                    ),
-                                  ),
-                                ),
-                              ),
-                            ),
-                          ),
-                        ),
-                      ),
-                    ),
-                  ),
-                ),
-              ),
-            ),
-          ),
-        ),
-      ),
-    ),
-  );
+  agree = agreed (generated_parts seed) (package_record seed) (record {
+    forms = no_customs seed;
+    sizes = sizes_agree seed;
+    overlaps = apart seed;
+    outside = inside seed;
+    imports = imports_agree seed;
+    applets = applets_agree seed;
+    image = images_agree seed;
+    arrays = arrays_agree seed;
+    array_sizes = array_sizes_agree seed;
+    pool = pools_agree seed;
+    arguments = arguments_agree seed;
+    instances = instances_agree seed;
+    image_sum = sums_agree seed;
+    bare = none_abstract seed;
+    handlers = handlers_home seed;
+    statics = statics_apart seed;
+    names = all_named seed;
+    classes = all_described seed;
+    registers = registers_few seed;
+    types = all_typed seed;
+    places = fields_inside seed;
+    lengths = lengths_fit seed;
+    exports = no_exports seed;
+  });
 }

@@ -1,19 +1,17 @@
 -- A line tells what is read: two that are the same lead to the same state.
-use Rattle.std.proofs.Common.{◌≡◌, ◌≢◌, ◌<◌, ◌≤◌, ◌+◌, ◌^◌, ℕ, Bool, true, false, Some, None, Option, Result, Ok}
+use Rattle.std.proofs.Common.{◌≡◌, ◌≢◌, ◌<◌, ◌≤◌, ◌+◌, ◌^◌, ℕ, Bool, true, false, Some, None, Result, Ok}
 use Rattle.std.proofs.Common.{Err, List, [], ◌∷◌, ◌++◌, length, map, get_or, refl, sym, ap, ◌∙◌, ⊎_elim, arith, rules}
-use Rattle.std.proofs.Common.{length-append}
+use Rattle.std.proofs.Common.{drop, length-append}
 use Rattle.std.specs.Prelude.{All, ℤ, pos, negsuc, decimal, FitsSigned, ◌==◌}
 use Rattle.std.specs.Int.{w32}
 use Rattle.std.specs.List.{slice_split}
 use Rattle.std.specs.Fmt.{signed_decimal}
 use Rattle.std.proofs.lemmas.Fmt.{decimal_injective, signed_decimal_injective}
-use Rattle.std.proofs.lemmas.Bool.{false≢true}
 use Rattle.std.proofs.lemmas.Bool.Decides.{eqb_tells}
 use Rattle.std.proofs.lemmas.List.Splits.{slice_split_at, slice_split_none}
 use Rattle.std.proofs.lemmas.List.Elements.{All-cons, All-nil}
 use Rattle.hex.specs.Hex.{encode_lower, decode_of}
-use Rattle.hex.specs.declared.error.FromHexError.{FromHexError}
-use Rattle.hex.proofs.HexLemmas.{decode_of-encode_lower}
+use Rattle.hex.proofs.HexLemmas.{decode_of-encode_lower, decode_of-same}
 use Rattle.jc_decode.specs.declared.insn.Insn.{Insn}
 use Rattle.jc_decode.specs.declared.layout.Layout.{Layout}
 use Rattle.jc_decode.specs.declared.insn.CodeEnd.{CodeEnd}
@@ -137,12 +135,8 @@ signed-same [] (z ∷ zs) h k e = absurd (omega (arith, ap length e))
 signed-same (y ∷ ys) [] h k e = absurd (omega (arith, ap length e))
 signed-same (y ∷ ys) (z ∷ zs) h k e =
     ap (λ (x : ℤ). x ∷ ys) (one y z h.0 k.0 (ap (word 0) e))
-    ∙ ap (λ (l : List ℤ). z ∷ l) (signed-same ys zs h.1 k.1 (ap rest e))
+    ∙ ap (λ (l : List ℤ). z ∷ l) (signed-same ys zs h.1 k.1 (ap (drop 1) e))
   where
-    rest : List (List ℕ) → List (List ℕ)
-    rest [] = []
-    rest (w ∷ ws) = ws
-
     one : (a b : ℤ) → FitsSigned w32 a → FitsSigned w32 b → signed_decimal a ≡ signed_decimal b → a ≡ b
     one (pos a) (pos b) p q s = signed_decimal_injective (pos a) (pos b) (omega arith) (omega arith) s
     one (pos a) (negsuc b) p q s = signed_decimal_injective (pos a) (negsuc b) (omega arith) (omega arith) s
@@ -176,25 +170,13 @@ block-same : (place : ℕ) (xs ys : List ℕ) (i j : Insn) → place ≤ 65535 �
 block-same place xs ys i j h one two e =
     let op = names-apart i.op j.op (opcode-named xs 0 i one.are one.decodes) (opcode-named ys 0 j two.are two.decodes) (ap (word 1) e) in
     let numbers = signed-same (numbers_of place i (cases xs 0 i)) (numbers_of place j (cases ys 0 j))
-    (numbers-shown place xs 0 i h one.are one.decodes) (numbers-shown place ys 0 j h two.are two.decodes) (ap after-two e) in
+    (numbers-shown place xs 0 i h one.are one.decodes) (numbers-shown place ys 0 j h two.are two.decodes) (ap (drop 2) e) in
     sym (numbers-tell place xs i one) ∙ ap (λ (n : ℕ). block_of place n (numbers_of place i (cases xs 0 i))) op ∙ ap (block_of place j.op) numbers
     ∙ numbers-tell place ys j two
-  where
-    after-two : List (List ℕ) → List (List ℕ)
-    after-two [] = []
-    after-two (v ∷ []) = []
-    after-two (v ∷ w ∷ ws) = ws
 
-hex-same : (xs ys : List ℕ) → AreBytes xs → AreBytes ys → encode_lower xs ≡ encode_lower ys → xs ≡ ys
+pub hex-same : (xs ys : List ℕ) → AreBytes xs → AreBytes ys → encode_lower xs ≡ encode_lower ys → xs ≡ ys
 hex-same xs ys h k e =
-    ok (decode_of (encode_lower xs)) xs ys (decode_of-encode_lower xs h) (ap decode_of e ∙ decode_of-encode_lower ys k)
-  where
-    ok : (r : Result (List ℕ) FromHexError) (a b : List ℕ) → r ≡ Ok a → r ≡ Ok b → a ≡ b
-    ok r a b p q = ap value (sym p ∙ q)
-      where
-        value : Result (List ℕ) FromHexError → List ℕ
-        value (Ok x) = x
-        value (Err f) = []
+    decode_of-same (encode_lower xs) xs ys (decode_of-encode_lower xs h) (ap decode_of e ∙ decode_of-encode_lower ys k)
 
 mk-handler : ℕ → ℕ → ℕ → ℕ → LaidHandler
 mk-handler s l e p = record { start = s; length = l; entry = e; pool = p }
@@ -220,18 +202,10 @@ block-lead place xs i h = (decimal-first place (omega arith)).1
 
 -- the method that has begun is one
 begun-same : (st : State) (a b : Begun) → st.begun ≡ Some a → st.begun ≡ Some b → a ≡ b
-begun-same st a b p q = ap (begun-or a) (sym p ∙ q)
-  where
-    begun-or : Begun → Option Begun → Begun
-    begun-or d None = d
-    begun-or d (Some x) = x
+begun-same st a b p q = cc
 
 not-begun : (st : State) (b : Begun) → st.begun ≡ None → st.begun ≡ Some b → ⊥
-not-begun st b p q = false≢true (ap is-some (sym p ∙ q))
-  where
-    is-some : Option Begun → Bool
-    is-some None = false
-    is-some (Some x) = true
+not-begun st b p q = absurd (cc)
 
 few-before : (xs ys : List ℕ) → length (xs ++ ys) ≤ 65535 → length xs ≤ 65535
 few-before xs ys h = omega (arith, length-append xs ys, h)

@@ -8,7 +8,7 @@ use Rattle.std.specs.Fmt.{signed_decimal}
 use Rattle.std.proofs.lemmas.List.{append-nil}
 use Rattle.hex.specs.Hex.{encode_lower, decode_of}
 use Rattle.hex.specs.declared.error.FromHexError.{FromHexError}
-use Rattle.hex.proofs.HexLemmas.{decode_of-encode_lower}
+use Rattle.hex.proofs.HexLemmas.{decode_of-encode_lower, decode_of-same}
 use Rattle.jc_decode.specs.declared.insn.Insn.{Insn}
 use Rattle.jc_decode.specs.declared.symbols.LaidHandler.{LaidHandler}
 use Rattle.jc_decode.specs.Names.{name, HasName}
@@ -156,18 +156,11 @@ handler-read line first a second b third d fourth f start end length entry pool 
     ∙ ap (λ (k : ℕ). mk-handler h.start h.length k pool) (entries h.entry fits.entry w3.0)
     ∙ ap (λ (k : ℕ). mk-handler h.start h.length h.entry k) (pools h.pool fits.pool w4.0)
 
-ok-bytes : (r : Result (List ℕ) FromHexError) (a b : List ℕ) → r ≡ Ok a → r ≡ Ok b → a ≡ b
-ok-bytes r a b p q = ap value (sym p ∙ q)
-  where
-    value : Result (List ℕ) FromHexError → List ℕ
-    value (Ok x) = x
-    value (Err f) = []
-
 no-error : (r : Result (List ℕ) FromHexError) (a : List ℕ) (e : FromHexError) → r ≡ Ok a → r ≡ Err e → ⊥
 no-error r a e p q = absurd (cc)
 
 pub digits-read : (digits read bytes : List ℕ) → decode_of digits ≡ Ok read → AreBytes bytes → digits ≡ encode_lower bytes → read ≡ bytes
-digits-read digits read bytes is are e = ok-bytes (decode_of digits) read bytes is (ap decode_of e ∙ decode_of-encode_lower bytes are)
+digits-read digits read bytes is are e = decode_of-same digits read bytes is (ap decode_of e ∙ decode_of-encode_lower bytes are)
 
 pub digits-unread : (digits bytes : List ℕ) (e : FromHexError) → decode_of digits ≡ Err e → AreBytes bytes → digits ≡ encode_lower bytes → ⊥
 digits-unread digits bytes e is are same = no-error (decode_of digits) bytes e (ap decode_of same ∙ decode_of-encode_lower bytes are) is
@@ -187,11 +180,7 @@ pub no-bytes : (xs : List ℕ) (b : Bool) → b ≡ (length xs == 0) → b ≡ t
 no-bytes xs b p q = let same = eqb-true (length xs) 0 (sym p ∙ q) in omega (arith, same)
 
 pub some-same : (o : Option ℕ) (x y : ℕ) → o ≡ Some x → o ≡ Some y → x ≡ y
-some-same o x y p q = ap value (sym p ∙ q)
-  where
-    value : Option ℕ → ℕ
-    value (Some n) = n
-    value None = 0
+some-same o x y p q = cc
 
 pub not-some : (o : Option ℕ) (x : ℕ) → o ≡ None → o ≡ Some x → ⊥
 not-some o x p q = absurd (cc)

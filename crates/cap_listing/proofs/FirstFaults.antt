@@ -1,7 +1,6 @@
 -- The first fault is found in one pass over the methods.
 use Rattle.std.proofs.Common.{◌≡◌, ◌≢◌, ◌<◌, ◌≤◌, ◌+◌, ℕ, Bool, true, false, cond, min, List, [], ◌∷◌, ◌++◌, length, drop, get_or}
 use Rattle.std.proofs.Common.{Result, Ok, Err, refl, sym, ap, subst, ◌∙◌, arith}
-use Rattle.std.proofs.lemmas.Bool.{false≢true}
 use Rattle.std.proofs.lemmas.List.{drop_more, drop_all, length-drop}
 use Rattle.jc_decode.specs.declared.symbols.LaidHandler.{LaidHandler}
 use Rattle.cap_listing.specs.declared.method.ListedMethod.{ListedMethod}
@@ -12,12 +11,8 @@ use Rattle.cap_listing.specs.Placing.{is_same, lies_in, other_faults, range_faul
 
 -- ---- faults one list after the other
 
-abbrev is-fine : Result (Unit {0}) AsmFault → Bool
-is-fine (Ok u) = true
-is-fine (Err f) = false
-
 refused-not : (r : Result (Unit {0}) AsmFault) (f : AsmFault) → r ≡ Err f → r ≡ Ok (tt {0}) → ⊥
-refused-not r f e g = false≢true (sym (ap is-fine e) ∙ ap is-fine g)
+refused-not r f e g = absurd (cc)
 
 pub refused-after : (xs ys : List AsmFault) → first_refused xs ≡ Ok (tt {0}) → first_refused (xs ++ ys) ≡ first_refused ys
 refused-after [] ys e = refl

@@ -18,8 +18,8 @@ use Rattle.cap_listing.specs.declared.fault.AsmFault.{AsmFault}
 use Rattle.cap_listing.specs.declared.fault.AsmFault.TheVariants.{OtherMethod, Registers, HandlerRange, CodeLength, TooManyHandlers}
 use Rattle.cap_listing.specs.declared.condition.Condition.TheVariants as conditions
 use Rattle.cap_listing.specs.Methods.{laid_of, listed_by, listed_from, listed_in, methods_of}
-use Rattle.cap_listing.specs.Placing.{is_same, other_faults, range_faults, own_faults, faults_from, handler_total, total_faults, faults, has_code}
-use Rattle.cap_listing.specs.Placing.{is_coded, coded_in}
+use Rattle.cap_listing.specs.Placing.{is_same, other_faults, range_faults, own_faults, faults_from}
+use Rattle.cap_listing.specs.Placing.{handler_total, total_faults, faults, has_code, is_coded, coded_in}
 use Rattle.cap_listing.specs.Placing.{coded, first_filled, rest_filled, filled, placed, first_refused}
 
 -- ---- lists that are empty
@@ -121,11 +121,7 @@ none-header : (x : Option Header) (h : Header) → x ≡ None → x ≡ Some h �
 none-header x h e f = absurd (cc)
 
 same-header : (x : Option Header) (g h : Header) → x ≡ Some g → x ≡ Some h → g ≡ h
-same-header x g h e f = ap (or g) (sym e ∙ f)
-  where
-    or : Header → Option Header → Header
-    or d None = d
-    or d (Some y) = y
+same-header x g h e f = cc
 
 code-for : (m : ListedMethod) (h : Header) → Fits m → m.laid.nargs ≡ h.nargs → IsCodeFor h m.laid
 code-for m h f e = record { some = f.some; short = f.short; arguments = e; registers = f.registers; inside = f.inside }

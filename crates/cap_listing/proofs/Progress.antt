@@ -36,8 +36,8 @@ one-read text rest bytes after number st next h cut l =
       reads = reads-append start h.lines st (l.words ∷ []) next h.reads
           (reads_more st l.words next [] next l.next (reads_nothing next));
       is = h.is ∙ ap (λ (t : List ℕ). text_of_lines h.lines ++ t) (cut.is ∙ ap (λ (b : List ℕ). b ++ 10 ∷ after) l.is)
-          ∙ sym (ap (λ (t : List ℕ). t ++ after) (text-append h.lines (l.words ∷ [])
-          ∙ ap (λ (t : List ℕ). text_of_lines h.lines ++ t) (append-nil (line l.words)))
+          ∙ sym (ap (λ (t : List ℕ). t ++ after)
+          (text-append h.lines (l.words ∷ []) ∙ ap (λ (t : List ℕ). text_of_lines h.lines ++ t) (append-nil (line l.words)))
           ∙ append_assoc (text_of_lines h.lines) (line l.words) after
           ∙ ap (λ (t : List ℕ). text_of_lines h.lines ++ t) (append_assoc (joined l.words) (10 ∷ []) after));
       count = omega (arith, h.count, length-append h.lines (l.words ∷ []));

@@ -1,7 +1,7 @@
 -- Words, and lines of them: what is joined is cut into the same words.
 use Rattle.std.proofs.Common.{◌≡◌, ◌<◌, ◌≤◌, ◌≢◌, ◌+◌, ◌^◌, ℕ, zero, suc, Bool, true, false, List, [], ◌∷◌}
 use Rattle.std.proofs.Common.{◌++◌, length, map, get_or, refl, sym, ap, ◌∙◌, ⊎_elim, ◌/◌, ◌%◌, arith, rules, append_assoc, nat_lt, subst}
-use Rattle.std.proofs.Common.{replicate}
+use Rattle.std.proofs.Common.{drop, replicate}
 use Rattle.std.specs.Prelude.{ℤ, pos, negsuc, All, decimal, FitsSigned, ⊤, ◌==◌, ◌&&◌}
 use Rattle.std.specs.Int.{w32}
 use Rattle.std.specs.Fmt.{signed_decimal}
@@ -51,21 +51,13 @@ joined-free (w ∷ ws) h = free-append w (spaced ws) (plain-free w h.0) (spaced-
 
 -- two lists that are the same are the same up to the first byte of a value, and after it
 pub first-cut : (c : ℕ) (a x b y : List ℕ) → HasNone c a → HasNone c b → a ++ c ∷ x ≡ b ++ c ∷ y → (a ≡ b) × (x ≡ y)
-first-cut c [] x [] y h k e = (refl, ap drop-one e)
-  where
-    drop-one : List ℕ → List ℕ
-    drop-one [] = []
-    drop-one (d ∷ ds) = ds
+first-cut c [] x [] y h k e = (refl, ap (drop 1) e)
 first-cut c [] x (d ∷ b) y h k e = absurd (k.0 (sym (ap (λ (l : List ℕ). get_or l 0 0) e)))
 first-cut c (d ∷ a) x [] y h k e = absurd (h.0 (ap (λ (l : List ℕ). get_or l 0 0) e))
 first-cut c (d ∷ a) x (f ∷ b) y h k e =
-    let rest = first-cut c a x b y h.1 k.1 (ap drop-one e) in
+    let rest = first-cut c a x b y h.1 k.1 (ap (drop 1) e) in
     let one = ap (λ (l : List ℕ). get_or l 0 0) e in
     (ap (λ (n : ℕ). n ∷ a) one ∙ ap (λ (l : List ℕ). f ∷ l) rest.0, rest.1)
-  where
-    drop-one : List ℕ → List ℕ
-    drop-one [] = []
-    drop-one (g ∷ gs) = gs
 
 pub none-cut : (c : ℕ) (xs ys : List ℕ) → HasNone c (xs ++ c ∷ ys) → ⊥
 none-cut c [] ys h = h.0 refl

@@ -2,8 +2,8 @@
 use Rattle.std.specs.Prelude.{◌≡◌, ℕ, List, Result, Ok, Err}
 use Rattle.cap_listing.specs.declared.method.ListedMethod.{ListedMethod}
 use Rattle.cap_listing.specs.declared.fault.AsmFault.{AsmFault}
-use Rattle.cap_listing.specs.declared.fault.AsmFault.TheVariants.{NotListing, OtherMethod, Registers, HandlerRange, CodeLength}
-use Rattle.cap_listing.specs.declared.fault.AsmFault.TheVariants.{TooManyHandlers}
+use Rattle.cap_listing.specs.declared.fault.AsmFault.TheVariants.{NotListing, OtherMethod, Registers}
+use Rattle.cap_listing.specs.declared.fault.AsmFault.TheVariants.{HandlerRange, CodeLength, TooManyHandlers}
 use Rattle.cap_listing.specs.declared.fault.AsmEnd.{AsmEnd}
 use Rattle.cap_listing.specs.declared.fault.AsmEnd.TheVariants.{Fault, Memory}
 use Rattle.cap_listing.specs.Text.{Lists}

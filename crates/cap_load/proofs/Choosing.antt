@@ -1,8 +1,8 @@
 -- The components among the parts, in order.
 use Rattle.std.proofs.Common.{◌≡◌, ℕ, zero, suc, ◌+◌, ◌<◌, ◌≤◌, Bool, true, false, not, List, [], ◌∷◌, ◌++◌, length, map}
-use Rattle.std.proofs.Common.{Option, Some, None, IsSome, cond, refl, sym, ap, subst, ◌∙◌, arith, lit<, length-append, if◌then◌else◌}
+use Rattle.std.proofs.Common.{Option, Some, None, IsSome, cond, refl, sym, ap, subst, ◌∙◌, arith, rules, length-append, if◌then◌else◌}
 use Rattle.std.proofs.lemmas.List.Concat.{flat_map-append}
-use Rattle.std.proofs.lemmas.Bool.{eqb-true, lt-ltb, le-leb}
+use Rattle.std.proofs.lemmas.Bool.{eqb-true, lt-ltb, le-leb, ltb-true}
 use Rattle.std.specs.Prelude.{◌==◌, ◌||◌, ◌&&◌, nat_le, nat_lt, is_some, position, find, option_map}
 use Rattle.std.specs.List.{position_or_len}
 use Rattle.std.proofs.lemmas.Bool.Decides.{nat_tests}
@@ -189,74 +189,25 @@ customs_order (suc n) first h few = (
   customs_order n (suc first) (omega arith) (omega arith),
 )
 
-component_before : (t n : ℕ) → place t ≡ Some n → n < 128 → AllByRecursion (λ u. comes_before t u ≡ true) (counted_from 128 128)
+component_by : (t : ℕ) (o : Option ℕ) → place t ≡ o → is_below o (Some 128) ≡ true
+    → AllByRecursion (λ u. comes_before t u ≡ true) (counted_from 128 128)
 unfolding comes_before
-component_before t n e l = all_counted (λ u. comes_before t u ≡ true) 128 128 (λ u h m.
+component_by t None e l = absurd (cc)
+component_by t (Some n) e l = all_counted (λ u. comes_before t u ≡ true) 128 128 (λ u h m.
+    let low = ltb-true n 128 l in
     ap (λ (o : Option ℕ). is_below o (place u)) e ∙ ap (λ (o : Option ℕ). is_below (Some n) o) (custom_place u h (omega arith))
     ∙ lt-ltb n u (omega arith))
 
+component_before : (t : ℕ) → is_below (place t) (Some 128) ≡ true → AllByRecursion (λ u. comes_before t u ≡ true) (counted_from 128 128)
+component_before t l = component_by t (place t) refl l
+
 components_order : InOrder components
 unfolding place comes_before
-components_order = (
-  refl,
-  (refl, (refl, (refl, (refl, (refl, (refl, (refl, (refl, (refl, (refl, tt {0})))))))))),
-  (
-    refl,
-    (refl, (refl, (refl, (refl, (refl, (refl, (refl, (refl, (refl, tt {0}))))))))),
-    (
-      refl,
-      (refl, (refl, (refl, (refl, (refl, (refl, (refl, (refl, tt {0})))))))),
-      (
-        refl,
-        (refl, (refl, (refl, (refl, (refl, (refl, (refl, tt {0}))))))),
-        (
-          refl,
-          (refl, (refl, (refl, (refl, (refl, (refl, tt {0})))))),
-          (
-            refl,
-            (refl, (refl, (refl, (refl, (refl, tt {0}))))),
-            (
-              refl,
-              (refl, (refl, (refl, (refl, tt {0})))),
-              (refl, (refl, (refl, (refl, tt {0}))), (refl, (refl, (refl, tt {0})), (refl, (refl, tt {0}), (refl, tt {0}, tt {0})))),
-            ),
-          ),
-        ),
-      ),
-    ),
-  ),
-)
+components_order = search rules
 
 components_first : AllByRecursion (λ t. AllByRecursion (λ u. comes_before t u ≡ true) (counted_from 128 128)) components
 unfolding place
-components_first = (
-  component_before 1 0 refl (lit< tt),
-  (
-    component_before 2 1 refl (lit< tt),
-    (
-      component_before 4 2 refl (lit< tt),
-      (
-        component_before 3 3 refl (lit< tt),
-        (
-          component_before 6 4 refl (lit< tt),
-          (
-            component_before 7 5 refl (lit< tt),
-            (
-              component_before 8 6 refl (lit< tt),
-              (
-                component_before 10 7 refl (lit< tt),
-                (
-                  component_before 5 8 refl (lit< tt),
-                  (component_before 9 9 refl (lit< tt), (component_before 11 10 refl (lit< tt), tt {0})),
-                ),
-              ),
-            ),
-          ),
-        ),
-      ),
-    ),
-  ),
-)
+components_first = search (rules, component_before)
 
 pub all_placed : InOrder in_order
 unfolding in_order

@@ -13,6 +13,7 @@ use Rattle.cap_load.specs.Order.{place, is_below, comes_before, InOrder}
 use Rattle.cap_load.specs.LoadFile.{IsFile, tag_of, files_of, AreFiles}
 use Rattle.cap_load.specs.Loaded.{begun, IsNext, IsRead}
 use Rattle.cap_load.specs.Finishing.{AreWhole}
+use Rattle.cap_load.proofs.Splits.{same_lent}
 use Rattle.cap_load.proofs.Streams.{later}
 
 -- the first of files, by the bytes that tell its size
@@ -107,11 +108,7 @@ next_absent contents rest done left e f long =
 
 same_part : (p : Lent) (tag : ℕ) (bytes : List ℕ) → tag ≡ p.part → bytes ≡ p.bytes
     → p ≡ (let part : Lent = record { part = tag; bytes = bytes } in part)
-same_part p tag bytes e h = go p.part tag p.bytes bytes (sym e) (sym h)
-  where
-    go : (a b : ℕ) (x y : List ℕ) → a ≡ b → x ≡ y → (let l : Lent = record { part = a; bytes = x } in l)
-        ≡ (let m : Lent = record { part = b; bytes = y } in m)
-    go a b x y e h = cc
+same_part p tag bytes e h = same_lent p.part tag p.bytes bytes (sym e) (sym h)
 
 -- one part more, and what is left
 pub next_parts : (contents rest back file : List ℕ) (done left new : List Lent) (tag : ℕ) → rest ≡ files_of left

@@ -35,14 +35,8 @@ fn tag_fault(last: Option<u8>, tag: u8) -> Option<StreamFault>
         return Some(StreamFault::NoTag(tag));
     }
     match last {
-        None => None,
-        Some(first) => {
-            if comes_before(first, tag) {
-                None
-            } else {
-                Some(StreamFault::Order(first, tag))
-            }
-        }
+        Some(first) if !comes_before(first, tag) => Some(StreamFault::Order(first, tag)),
+        _ => None,
     }
 }
 
@@ -82,23 +76,12 @@ impl Reading {
     pub(crate) fn after(self, byte: u8) -> Reading
         ensures { result ≡ read_byte self byte }
     {
-        match self.next {
-            Next::Tag => Reading {
-                last: Some(byte),
-                next: Next::High,
-            },
-            Next::High => Reading {
-                last: self.last,
-                next: Next::Low(byte),
-            },
-            Next::Low(high) => Reading {
-                last: self.last,
-                next: info_left(BigEndian::read_u16(&[high, byte])),
-            },
-            Next::Info(left) => Reading {
-                last: self.last,
-                next: info_left(left.saturating_sub(1)),
-            },
-        }
+        let (last, next) = match self.next {
+            Next::Tag => (Some(byte), Next::High),
+            Next::High => (self.last, Next::Low(byte)),
+            Next::Low(high) => (self.last, info_left(BigEndian::read_u16(&[high, byte]))),
+            Next::Info(left) => (self.last, info_left(left.saturating_sub(1))),
+        };
+        Reading { last, next }
     }
 }

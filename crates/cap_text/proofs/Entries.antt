@@ -1,6 +1,6 @@
 -- A word that writes an entry is split at its full stop.
 use Rattle.std.proofs.Common.{◌≡◌, ◌≢◌, ℕ, ◌<◌, ◌^◌, Option, List, [], ◌∷◌, ◌++◌, length, zero, suc, Bor, ap, sym, refl, subst}
-use Rattle.std.proofs.Common.{arith}
+use Rattle.std.proofs.Common.{arith, drop, get_or}
 use Rattle.std.specs.Prelude.{decimal, get_or, MatchOption}
 use Rattle.std.specs.Char.{digit_value}
 use Rattle.std.specs.Str.Parse.{AllDigits}
@@ -22,27 +22,18 @@ halves word e r is w =
     split_after 46 word (decimal e.class_no) (decimal e.method_no) r is (omega arith) w.writes
     (no_stop (decimal e.class_no) ((decimal_is_IsNumeral e.class_no (omega (arith, w.class_fits))).0.1))
 
-head_of : List ℕ → ℕ
-head_of [] = 0
-head_of (x ∷ xs) = x
-
-tail_of : List ℕ → List ℕ
-tail_of [] = []
-tail_of (x ∷ xs) = xs
-
 -- a full stop is no digit
 stop_is_none : (x : ℕ) → 46 ≡ x → digit_value x < 10 → ⊥
 stop_is_none x is digit = let small = subst (λ c. digit_value c < 10) (sym is) digit in omega (arith, small)
 
 -- what stands before the first full stop and after it
 split_same : (xs us ys vs : List ℕ) → AllDigits 10 xs → AllDigits 10 us → xs ++ (46 ∷ ys) ≡ us ++ (46 ∷ vs) → (xs ≡ us) × (ys ≡ vs)
-unfolding head_of tail_of
-split_same [] [] ys vs all_xs all_us same = (refl, ap tail_of same)
-split_same [] (u ∷ us) ys vs all_xs all_us same = absurd (stop_is_none u (ap head_of same) all_us.0)
-split_same (x ∷ xs) [] ys vs all_xs all_us same = absurd (stop_is_none x (sym (ap head_of same)) all_xs.0)
+split_same [] [] ys vs all_xs all_us same = (refl, ap (drop 1) same)
+split_same [] (u ∷ us) ys vs all_xs all_us same = absurd (stop_is_none u (ap (λ (l : List ℕ). get_or l 0 0) same) all_us.0)
+split_same (x ∷ xs) [] ys vs all_xs all_us same = absurd (stop_is_none x (sym (ap (λ (l : List ℕ). get_or l 0 0) same)) all_xs.0)
 split_same (x ∷ xs) (u ∷ us) ys vs all_xs all_us same =
-    let head : x ≡ u = ap head_of same in
-    let rest = split_same xs us ys vs all_xs.1 all_us.1 (ap tail_of same) in
+    let head : x ≡ u = ap (λ (l : List ℕ). get_or l 0 0) same in
+    let rest = split_same xs us ys vs all_xs.1 all_us.1 (ap (drop 1) same) in
     (λ i. head i ∷ rest.0 i, rest.1)
 
 -- two texts of a number, a full stop and a number are of the same numbers

@@ -1,5 +1,4 @@
 pub mod Numerals
-pub mod Pieces
 pub mod Arguments
 pub mod Folders
 pub mod Entries

@@ -1,7 +1,7 @@
 -- std's `parse` reads each word that the grammar allows, and a comparison of texts that fails
 -- tells two lists apart.
 use Rattle.std.proofs.Common.{◌≡◌, ◌≢◌, ℕ, ◌<◌, ◌≤◌, ◌^◌, ℤ, pos, negsuc, FitsSigned, List, [], ◌∷◌, length, Bor, ap, subst}
-use Rattle.std.proofs.Common.{false, eqb, sym, ◌∙◌, arith, rules, w32, to_z, of_z, true≢false}
+use Rattle.std.proofs.Common.{drop, get_or, false, eqb, sym, ◌∙◌, arith, rules, w32, to_z, of_z, true≢false}
 use Rattle.std.specs.Prelude.{Result, Ok, Err, Option, Some, None, MatchOption, IfSome, IfNone, IsTrue, codes, decimal}
 use Rattle.std.specs.Fmt.{signed_decimal}
 use Rattle.std.specs.Str.Parse.{ParsesUnsigned, ParsesSigned}
@@ -59,14 +59,9 @@ nothing_read word r e reads is no_null no_sign (bytes bs) w = no_bytes word bs n
 
 -- ---- bytes
 
-tail_of : List ℕ → List ℕ
-tail_of [] = []
-tail_of (x ∷ xs) = xs
-
 -- the digits of a word of bytes are the text of these bytes
 digits_of : (digits bs : List ℕ) → IsBytesWord (35 ∷ digits) bs → digits ≡ encode_lower bs
-unfolding tail_of
-digits_of digits bs w = ap tail_of w.writes
+digits_of digits bs w = ap (drop 1) w.writes
 
 -- more digits than 2,048 write no bytes
 pub too_many : (digits bs : List ℕ) → 2048 < length digits → IsBytesWord (35 ∷ digits) bs → ⊥
@@ -123,19 +118,13 @@ pub sign_missing : (word : List ℕ) (r : Option (Bor (List ℕ))) → MatchOpti
 sign_missing word None is = is
 sign_missing word (Some x) is = tt {0}
 
-first : List ℕ → ℕ
-first [] = 0
-first (x ∷ xs) = x
-
 -- `null` and a number begin with no number sign
 pub no_sign : (z : ℤ) (digits : List ℕ) → FitsSigned w32 z → 35 ∷ digits ≡ signed_decimal z → ⊥
-unfolding first
 no_sign (pos n) digits fits e = absurd (omega (arith, (subst (AllDigits 10) (sym e) ((decimal_is_IsNumeral n (search rules)).0.1)).0))
-no_sign (negsuc n) digits fits e = let differ : 35 ≡ 45 = ap first e in omega (arith, differ)
+no_sign (negsuc n) digits fits e = let differ : 35 ≡ 45 = ap (λ (l : List ℕ). get_or l 0 0) e in omega (arith, differ)
 
 pub no_null_sign : (digits : List ℕ) → 35 ∷ digits ≡ codes "null" → ⊥
-unfolding first
-no_null_sign digits e = let differ : 35 ≡ 110 = ap first e in omega (arith, differ)
+no_null_sign digits e = let differ : 35 ≡ 110 = ap (λ (l : List ℕ). get_or l 0 0) e in omega (arith, differ)
 
 -- a word with a number sign writes bytes or nothing
 pub no_signed : (word digits : List ℕ) → word ≡ 35 ∷ digits → ((bs : List ℕ) → IsBytesWord (35 ∷ digits) bs → ⊥) → (a : Argument)

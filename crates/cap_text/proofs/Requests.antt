@@ -1,6 +1,6 @@
 -- A list of words asks for one thing: each number and each argument has one word.
-use Rattle.std.proofs.Common.{◌≡◌, ℕ, ℤ, pos, negsuc, List, [], ◌∷◌, sym, ◌∙◌, ap, arith, rules, codes, subst, refl, FitsSigned, w32}
-use Rattle.std.specs.Prelude.{Ok, ◌+◌, ◌*◌, Bool, true, false, length}
+use Rattle.std.proofs.Common.{◌≡◌, ℕ, ℤ, pos, negsuc, List, [], ◌∷◌, sym, ◌∙◌, ap, arith, rules, codes, drop, get_or, subst, refl, FitsSigned, w32}
+use Rattle.std.specs.Prelude.{◌+◌, ◌*◌, Bool, true, false, length}
 use Rattle.std.specs.Fmt.{signed_decimal}
 use Rattle.std.specs.Str.Parse.{AllDigits}
 use Rattle.std.proofs.lemmas.Fmt.{decimal_injective, signed_decimal_injective, decimal_is_IsNumeral}
@@ -17,36 +17,21 @@ use Rattle.cap_text.proofs.Ends.{is_end}
 use Rattle.cap_text.specs.OutOfDirs.{OutOfDirsRequest, IsOutOfDirs}
 use Rattle.cap_text.specs.Generate.{GenerateRequest, IsGenerate}
 use Rattle.cap_text.specs.EntryWords.{EntryRequest, AreEntryWords}
-use Rattle.cap_text.specs.Request.{Request, probe, show, list, asm, check, verify, defend, run, transform, share, trial, generate, bound, pack}
-use Rattle.cap_text.specs.Request.{install, takes_arguments, IsRequest, IsUsage, NoneSuch, OneRequest}
+use Rattle.cap_text.specs.Request.{Request, probe, show, list, asm, check, verify, defend, run, transform, share, trial, generate}
+use Rattle.cap_text.specs.Request.{bound, pack, install, takes_arguments, IsRequest, IsUsage, NoneSuch, OneRequest}
 use Rattle.cap_text.specs.declared.entry.Entry.{Entry}
 use Rattle.vm_step.specs.Arguments.{Argument, number, null, bytes}
-use Rattle.hex.specs.Hex.{encode_lower, decode_of, IsBytes}
-use Rattle.hex.proofs.HexLemmas.{decode_of-encode_lower, decode_of-same}
+use Rattle.hex.specs.Hex.{encode_lower}
+use Rattle.cap_listing.proofs.Apart.{hex-same}
 use Rattle.cap_text.proofs.Numerals.{no_sign, no_null_sign}
 use Rattle.cap_text.proofs.Entries.{entry_halves}
 
-first : List ℕ → ℕ
-first [] = 0
-first (x ∷ xs) = x
-
 -- `null` is no number
 no_null : (z : ℤ) → FitsSigned w32 z → codes "null" ≡ signed_decimal z → ⊥
-unfolding first
 no_null (pos n) fits e = absurd (omega (arith, (subst (AllDigits 10) (sym e) ((decimal_is_IsNumeral n (search rules)).0.1)).0))
-no_null (negsuc n) fits e = let differ : 110 ≡ 45 = ap first e in omega (arith, differ)
-
-others_of : List ℕ → List ℕ
-others_of [] = []
-others_of (x ∷ xs) = xs
-
--- bytes have one text of digits
-same_bytes : (xs ys : List ℕ) → IsBytes xs → IsBytes ys → encode_lower xs ≡ encode_lower ys → xs ≡ ys
-same_bytes xs ys fit_xs fit_ys same =
-    decode_of-same (encode_lower ys) xs ys (subst (λ t. decode_of t ≡ Ok xs) same (decode_of-encode_lower xs fit_xs)) (decode_of-encode_lower ys fit_ys)
+no_null (negsuc n) fits e = let differ : 110 ≡ 45 = ap (λ (l : List ℕ). get_or l 0 0) e in omega (arith, differ)
 
 one_argument : (word : List ℕ) (a b : Argument) → IsArgWord word a → IsArgWord word b → a ≡ b
-unfolding others_of
 one_argument word null null p q = refl
 one_argument word null (number z) p q = absurd (no_null z q.1 (sym p ∙ q.0))
 one_argument word null (bytes bs) p q = absurd (no_null_sign (encode_lower bs) (sym q.writes ∙ p))
@@ -55,7 +40,7 @@ one_argument word (number y) (number z) p q = ap number (signed_decimal_injectiv
 one_argument word (number z) (bytes bs) p q = absurd (no_sign z (encode_lower bs) p.1 (sym q.writes ∙ p.0))
 one_argument word (bytes bs) null p q = absurd (no_null_sign (encode_lower bs) (sym p.writes ∙ q))
 one_argument word (bytes bs) (number z) p q = absurd (no_sign z (encode_lower bs) q.1 (sym p.writes ∙ q.0))
-one_argument word (bytes xs) (bytes ys) p q = ap bytes (same_bytes xs ys p.are_bytes q.are_bytes (ap others_of (sym p.writes ∙ q.writes)))
+one_argument word (bytes xs) (bytes ys) p q = ap bytes (hex-same xs ys p.are_bytes q.are_bytes (ap (drop 1) (sym p.writes ∙ q.writes)))
 
 one_list : (words : List (List ℕ)) (xs ys : List Argument) → AreArgWords words xs → AreArgWords words ys → xs ≡ ys
 one_list [] [] [] p q = refl

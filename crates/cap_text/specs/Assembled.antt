@@ -2,8 +2,8 @@
 use Rattle.std.specs.Prelude.{ℕ, List, [], ◌∷◌, codes}
 use Rattle.std.specs.List.{concat}
 use Rattle.cap_listing.specs.declared.fault.AsmFault.{AsmFault}
-use Rattle.cap_listing.specs.declared.fault.AsmFault.TheVariants.{NotListing, OtherMethod, Registers, HandlerRange, CodeLength}
-use Rattle.cap_listing.specs.declared.fault.AsmFault.TheVariants.{TooManyHandlers}
+use Rattle.cap_listing.specs.declared.fault.AsmFault.TheVariants.{NotListing, OtherMethod, Registers}
+use Rattle.cap_listing.specs.declared.fault.AsmFault.TheVariants.{HandlerRange, CodeLength, TooManyHandlers}
 use Rattle.cap_text.specs.Fault.{name_1, name_2}
 
 -- the text is no listing from this line on, or the listing does not fit the package

@@ -10,8 +10,8 @@ use Rattle.cap_text.specs.OutOfDirs.{OutOfDirsRequest, IsOutOfDirs, out_of_dirs_
 use Rattle.cap_text.specs.EntryWords.{EntryRequest, AreEntryWords, entry_request}
 use Rattle.cap_text.specs.Generate.{GenerateRequest, IsGenerate, generate_request}
 use Rattle.cap_text.specs.declared.command.Command.{Command}
-use Rattle.cap_text.specs.declared.command.Command.TheVariants.{Probe, Show, Asm, Check, Verify, Defend, Run, Transform, Share}
-use Rattle.cap_text.specs.declared.command.Command.TheVariants.{Trial, Generate, Bound, Pack, Install}
+use Rattle.cap_text.specs.declared.command.Command.TheVariants.{Probe, Show, Asm, Check, Verify, Defend, Run, Transform}
+use Rattle.cap_text.specs.declared.command.Command.TheVariants.{Share, Trial, Generate, Bound, Pack, Install}
 use Rattle.cap_text.specs.declared.command.Command.TheVariants as commands
 
 -- a command with its operands

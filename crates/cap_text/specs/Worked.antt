@@ -13,8 +13,8 @@ use Rattle.vm_step.specs.declared.ending.Fault.TheVariants.{StackFault}
 use Rattle.vm_step.specs.declared.ending.Ending.TheVariants as endings
 use Rattle.cap_text.specs.Ending.{ending_line, static_lines, array_line}
 use Rattle.cap_text.specs.Table.{component_line}
-use Rattle.cap_text.specs.Line.{malformed_line, malformed_stream_line, not_linked_line, not_started_line, refused_bare_line}
-use Rattle.cap_text.specs.Line.{methods_line, refused_flow_line}
+use Rattle.cap_text.specs.Line.{malformed_line, malformed_stream_line, not_linked_line}
+use Rattle.cap_text.specs.Line.{not_started_line, refused_bare_line, methods_line, refused_flow_line}
 use Rattle.cap_text.specs.Line.{bare_ending_line, bound_line, cycle_line, refused_card_line}
 use Rattle.cap_text.specs.Packed.{packed_line, load_limit_line}
 use Rattle.cap_text.specs.Shared.{shared_line}

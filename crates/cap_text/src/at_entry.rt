@@ -19,12 +19,7 @@ impl<'a> AtEntry<'a> {
         ensures found { IfSome result (λ a. AreEntryWords (words_left operands.entry) (entry_request a)) }
         ensures none { IfNone result ((e : EntryRequest) → AreEntryWords (words_left operands.entry) e → ⊥) }
     {
-        let Some(word) = operands.next() else {
-            return None;
-        };
-        let Some(entry) = Entry::read(word) else {
-            return None;
-        };
+        let entry = Entry::read(operands.next()?)?;
         if !folder_words(operands) {
             return None;
         }

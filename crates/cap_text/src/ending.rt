@@ -1,21 +1,11 @@
-ghost use Rattle.std.specs.Prelude.{◌≡◌, [], ◌∷◌, codes, decimal};
+ghost use Rattle.std.specs.Prelude.{◌≡◌, [], ◌∷◌, codes};
 ghost use Rattle.std.specs.List.{concat};
 ghost use Rattle.cap_text.specs.Room.{HasRoom, Writes, WritesAtMost};
-ghost use Rattle.cap_text.specs.Ending.{reference_text, value_text, plain_text, fault_name, ending_line, static_line, kind_name, array_head, element_text};
+ghost use Rattle.cap_text.specs.Ending.{value_text, plain_text, fault_name, ending_line, static_line, kind_name, array_head, element_text};
 
 use crate::room::Room;
 use jc_base::Ty;
 use vm_step::{Ending, Fault, Plain, Value};
-
-// A reference that is not null.
-fn write_reference(room: &mut Room, handle: u16)
-    requires { HasRoom room.old 15 }
-    ensures writes { Writes room.old room.new (reference_text handle) }
-    ensures few { WritesAtMost room.old room.new 15 }
-{
-    room.write("reference ");
-    room.write_number(handle);
-}
 
 // What a method gives, or what a field holds.
 fn write_value(room: &mut Room, value: Value)
@@ -34,18 +24,8 @@ fn write_value(room: &mut Room, value: Value)
             room.write_signed(n);
         }
         Value::Ref(0) => room.write("null"),
-        Value::Ref(handle) => write_reference(room, handle),
+        Value::Ref(handle) => room.write_named("reference", handle),
     }
-}
-
-// The class of an object that has no method for a method of an interface.
-fn write_missing(room: &mut Room, class: u16)
-    requires { HasRoom room.old 29 }
-    ensures writes { Writes room.old room.new (concat (codes "interface missing class " ∷ decimal class ∷ [])) }
-    ensures few { WritesAtMost room.old room.new 29 }
-{
-    room.write("interface missing class ");
-    room.write_number(class);
 }
 
 // How a run ends that no fault ends.
@@ -60,15 +40,14 @@ fn write_plain(room: &mut Room, plain: Plain)
             write_value(room, value);
         }
         Plain::Threw { class, handle } => {
-            room.write("threw class ");
-            room.write_number(class);
+            room.write_named("threw class", class);
             room.write(" ");
-            write_reference(room, handle);
+            room.write_named("reference", handle);
         }
         Plain::Spent => room.write("spent"),
         Plain::TooDeep => room.write("too deep"),
         Plain::HeapFull => room.write("heap full"),
-        Plain::InterfaceMissing(class) => write_missing(room, class),
+        Plain::InterfaceMissing(class) => room.write_named("interface missing class", class),
     }
 }
 
@@ -113,8 +92,7 @@ pub fn write_static(room: &mut Room, number: u16, value: Value)
     ensures writes { Writes room.old room.new (static_line number value) }
     ensures few { WritesAtMost room.old room.new 31 }
 {
-    room.write("static ");
-    room.write_number(number);
+    room.write_named("static", number);
     room.write(" ");
     write_value(room, value);
     room.write("\n");
@@ -140,8 +118,7 @@ pub fn write_array_head(room: &mut Room, handle: u16, ty: Ty, count: u16)
     ensures writes { Writes room.old room.new (array_head handle ty count) }
     ensures few { WritesAtMost room.old room.new 25 }
 {
-    room.write("array ");
-    room.write_number(handle);
+    room.write_named("array", handle);
     room.write(" ");
     room.write(kind_name(ty));
     room.write(" ");

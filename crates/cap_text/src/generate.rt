@@ -20,19 +20,10 @@ impl<'a> Generate<'a> {
         ensures found { IfSome result (λ g. IsGenerate (words_left operands.entry) (generate_request g)) }
         ensures none { IfNone result ((g : GenerateRequest) → IsGenerate (words_left operands.entry) g → ⊥) }
     {
-        let Some(seed) = operands.next() else {
-            return None;
-        };
-        let Some(out) = operands.next() else {
-            return None;
-        };
-        let None = operands.next() else {
-            return None;
-        };
-        let Some(seed) = number(seed) else {
-            return None;
-        };
-        if !folder_word(out) {
+        let seed = operands.next()?;
+        let out = operands.next()?;
+        let seed = number(seed)?;
+        if operands.next().is_some() || !folder_word(out) {
             return None;
         }
         Some(Generate { seed, out })

@@ -17,9 +17,7 @@ impl<'a> OfDir<'a> {
         ensures found { IfSome result (λ d. IsOfDir (words_left operands.entry) d.dir.now) }
         ensures none { IfNone result ((dir : List ℕ) → IsOfDir (words_left operands.entry) dir → ⊥) }
     {
-        let Some(dir) = operands.next() else {
-            return None;
-        };
+        let dir = operands.next()?;
         if operands.next().is_some() || !folder_word(dir) {
             return None;
         }

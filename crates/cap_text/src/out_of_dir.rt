@@ -18,12 +18,8 @@ impl<'a> OutOfDir<'a> {
         ensures found { IfSome result (λ o. IsOutOfDir (words_left operands.entry) (out_of_dir_request o)) }
         ensures none { IfNone result ((o : OutOfDirRequest) → IsOutOfDir (words_left operands.entry) o → ⊥) }
     {
-        let Some(out) = operands.next() else {
-            return None;
-        };
-        let Some(dir) = operands.next() else {
-            return None;
-        };
+        let out = operands.next()?;
+        let dir = operands.next()?;
         if operands.next().is_some() || !folder_word(out) || !folder_word(dir) {
             return None;
         }

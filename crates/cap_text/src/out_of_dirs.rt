@@ -19,9 +19,7 @@ impl<'a> OutOfDirs<'a> {
         ensures found { IfSome result (λ o. IsOutOfDirs (words_left operands.entry) (out_of_dirs_request o)) }
         ensures none { IfNone result ((o : OutOfDirsRequest) → IsOutOfDirs (words_left operands.entry) o → ⊥) }
     {
-        let Some(out) = operands.next() else {
-            return None;
-        };
+        let out = operands.next()?;
         if !folder_word(out) || !folder_words(operands) {
             return None;
         }

@@ -35,10 +35,8 @@ fn write_fresh(room: &mut Room, place: u16, class: u16)
     ensures writes { Writes room.old room.new (fresh_text place class) }
     ensures few { WritesAtMost room.old room.new 23 }
 {
-    room.write("fresh ");
-    room.write_number(place);
-    room.write(" class ");
-    room.write_number(class);
+    room.write_named("fresh", place);
+    room.write_named(" class", class);
 }
 
 /// Writes why the typing rule of an instruction refuses, in at most 69 bytes.

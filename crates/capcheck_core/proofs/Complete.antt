@@ -35,8 +35,8 @@ use Rattle.capcheck_core.specs.World.{Own, of_world, OverWorld}
 use Rattle.capcheck_core.specs.Outside.{Outside}
 use Rattle.capcheck_core.specs.Answers.{Answers, IsVerdict}
 use Rattle.capcheck_core.specs.Assemble.{Assembles}
-use Rattle.capcheck_core.specs.Completeness.{Needs, CanProbe, CanRead, CanAssemble, CanPack, CanOverPlaces, CanBring, CanShare, CanGenerate}
-use Rattle.capcheck_core.specs.Completeness.{AreWithinLimits, CanDo, NoFault, Completes}
+use Rattle.capcheck_core.specs.Completeness.{Needs, CanProbe, CanRead, CanAssemble, CanPack, CanOverPlaces, CanBring}
+use Rattle.capcheck_core.specs.Completeness.{CanShare, CanGenerate, AreWithinLimits, CanDo, NoFault, Completes}
 use Rattle.capcheck_core.specs.MethodFile.{IsMethodFile}
 use Rattle.capcheck_core.specs.Probe.{ProbesFolder, FailsMethodPart, Probes, OfMethodPart, OfMethod, IsRefusal, IsUnstarted, IsNoMethod, method_key}
 use Rattle.capcheck_core.specs.Report.{Seen, IsReported}
@@ -178,8 +178,8 @@ can_assemble o before after sink put verdict can calm (inr of) =
 
 -- parts that are not too long for a Load file are packed
 packs : (parts : List Lent) (roles : Option (List ℕ)) (out : List ℕ) (before after : Folders) (sink put : Seen) (verdict : Verdict)
-    → ((size : ℕ) → packing.IsTooLong parts (LoadLong size) → ⊥) → NoFault before after sink put → PacksInto parts roles out before after verdict
-    → Completed verdict
+    → ((size : ℕ) → packing.IsTooLong parts (LoadLong size) → ⊥) → NoFault before after sink put
+    → PacksInto parts roles out before after verdict → Completed verdict
 packs parts roles out before after sink put (Done text) short calm own = inl refl
 packs parts roles out before after sink put Memory short calm own = inr refl
 packs parts roles out before after sink put StoreFault short calm own = absurd (calm.stores own.broken.rose)
@@ -346,8 +346,8 @@ can_do (defend r) before after sink put verdict can calm answers =
     over_world (of_world (DefendsWorld r)) (λ packages roles w. run_fault w r ≡ None) (places Components r.dirs) before after sink put verdict
     (λ packages roles w. defended before after r w verdict) can calm answers
 can_do (run r) before after sink put verdict can calm answers =
-    over_world (of_world (RunsWorld r)) (λ packages roles w. HaveCardTypings w × (run_fault w r ≡ None))
-    (places Components r.dirs) before after sink put verdict
+    over_world (of_world (RunsWorld r)) (λ packages roles w. HaveCardTypings w × (run_fault w r ≡ None)) (places Components r.dirs)
+    before after sink put verdict
     (λ packages roles w has. ran before after r w verdict has.0 has.1) can calm answers
 can_do (transform t) before after sink put verdict can calm answers =
     over_world (TransformsWorld t) (λ packages roles w. CanBring packages w) (places Components t.dirs) before after sink put verdict
@@ -360,8 +360,8 @@ can_do (trial r) before after sink put verdict can calm answers =
     (λ packages roles w has. tried before after r packages roles w verdict has.0 has.1) can calm answers
 can_do (generate g) before after sink put verdict can calm answers = can_generate g before after sink put verdict can calm answers
 can_do (bound e) before after sink put verdict can calm answers =
-    over_world (of_world (BoundsWorld e)) (λ packages roles w. HaveCardTypings w × (bound_fault w e ≡ None))
-    (places Components e.dirs) before after sink put verdict
+    over_world (of_world (BoundsWorld e)) (λ packages roles w. HaveCardTypings w × (bound_fault w e ≡ None)) (places Components e.dirs)
+    before after sink put verdict
     (λ packages roles w has. bounded before after e w verdict has.0 has.1) can calm answers
 can_do (pack o) before after sink put verdict can calm answers = can_pack o before.folders after.folders sink put verdict can calm answers.0
 can_do (install dirs) before after sink put verdict can calm answers =

@@ -139,8 +139,8 @@ module _ (parts : List Lent) (p : PackageRecord) (stands : StandsFor parts p) wh
   of_asked (suc (suc (suc (suc (suc (suc (suc (suc zero)))))))) bytes asked is = of_said 8 _ p.statics bytes stands.said.statics is
   of_asked (suc (suc (suc (suc (suc (suc (suc (suc (suc zero))))))))) bytes asked is = of_said 9 _ p.locations bytes stands.said.locations is
   of_asked (suc (suc (suc (suc (suc (suc (suc (suc (suc (suc zero)))))))))) bytes asked is = of_said_if 10 _ p.export bytes stands.said.export is
-  of_asked (suc (suc (suc (suc (suc (suc (suc
-      (suc (suc (suc (suc zero))))))))))) bytes asked is = of_component 11 _ p.description.info p.description.items bytes stands.said.description is
+  of_asked (suc (suc (suc (suc (suc (suc (suc (suc (suc (suc (suc zero))))))))))) bytes asked is =
+      of_component 11 _ p.description.info p.description.items bytes stands.said.description is
   of_asked (suc (suc (suc (suc (suc (suc (suc (suc (suc (suc (suc (suc zero)))))))))))) bytes asked is = absurd (false≢true asked)
   of_asked (suc (suc (suc (suc (suc (suc (suc (suc (suc (suc (suc (suc (suc n))))))))))))) bytes asked is =
       of_custom (suc (suc (suc (suc (suc (suc (suc (suc (suc (suc (suc (suc (suc n))))))))))))) bytes (omega arith) asked is
@@ -190,7 +190,8 @@ fits_blocks (content ∷ next ∷ blocks) full =
     let high = rest.high in
     record { low = omega (arith, whole, long, low); high = omega (arith, whole, long, high) }
 
-pub counts_blocks : (stream : List ℕ) (blocks : List (List ℕ)) → AreFull blocks → stream ≡ stream_of blocks → (length stream + 254) / 256 ≡ length blocks
+pub counts_blocks : (stream : List ℕ) (blocks : List (List ℕ)) → AreFull blocks → stream ≡ stream_of blocks
+    → (length stream + 254) / 256 ≡ length blocks
 counts_blocks stream blocks full is =
     let fits = fits_blocks blocks full in
     let low = fits.low in

@@ -2,8 +2,8 @@
 use Rattle.std.proofs.Common.{◌≡◌, List, ℕ, subst, sym, inl, refl}
 use Rattle.std.specs.Prelude.{Result, Ok, Err, IfOk, IsAscii, IsUtf8, MatchResult}
 use Rattle.std.proofs.lemmas.Str.{IsUtf8-from_ascii}
-use Rattle.cap_text.specs.Request.{Request, probe, show, list, asm, check, verify, defend, run, transform, share, trial, generate, bound, pack}
-use Rattle.cap_text.specs.Request.{install, IsRequest, OneRequest}
+use Rattle.cap_text.specs.Request.{Request, probe, show, list, asm, check, verify, defend, run, transform, share}
+use Rattle.cap_text.specs.Request.{trial, generate, bound, pack, install, IsRequest, OneRequest}
 use Rattle.capcheck_core.specs.declared.verdict.Verdict.{Verdict}
 use Rattle.capcheck_core.specs.declared.verdict.Verdict.TheVariants.{Memory}
 use Rattle.capcheck_core.specs.Outside.{Outside, Untouched}

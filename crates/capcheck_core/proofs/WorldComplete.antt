@@ -35,8 +35,8 @@ use Rattle.capcheck_core.specs.FolderFault.{OfPack}
 use Rattle.capcheck_core.specs.InLoadFile.{AreInLoadFile, load_tag, load_key}
 use Rattle.capcheck_core.specs.Place.{Place}
 use Rattle.capcheck_core.specs.Roles.{AreRolesIn, LacksRoles, BreaksRoles, roles_key}
-use Rattle.capcheck_core.specs.Packages.{ArePartsAt, ArePartsBy, LacksPartsAt, FailsPartsAt, FailsPartsBy, AreRoleBytes, LacksPackage, IsFirstWhere}
-use Rattle.capcheck_core.specs.Packages.{IsFirstStop}
+use Rattle.capcheck_core.specs.Packages.{ArePartsAt, ArePartsBy, LacksPartsAt, FailsPartsAt, FailsPartsBy}
+use Rattle.capcheck_core.specs.Packages.{AreRoleBytes, LacksPackage, IsFirstWhere, IsFirstStop}
 use Rattle.capcheck_core.specs.OverFolders.{StopsAtLoad, OfGiven, OverPlaces}
 use Rattle.capcheck_core.specs.World.{Own, StopsAtLink, OverWorld}
 use Rattle.capcheck_core.specs.Completeness.{CanLink}

@@ -20,8 +20,8 @@ use Rattle.cap_text.specs.EntryWords.{EntryRequest}
 use Rattle.cap_text.specs.Generate.{GenerateRequest}
 use Rattle.cap_text.specs.Line.{methods_line}
 use Rattle.cap_text.specs.Probe.{ProbeRequest}
-use Rattle.cap_text.specs.Request.{Request, probe, show, list, asm, check, verify, defend, run, transform, share, trial, generate}
-use Rattle.cap_text.specs.Request.{bound, pack, install, IsRequest}
+use Rattle.cap_text.specs.Request.{Request, probe, show, list, asm, check, verify, defend, run, transform}
+use Rattle.cap_text.specs.Request.{share, trial, generate, bound, pack, install, IsRequest}
 use Rattle.cap_text.specs.Run.{RunRequest}
 use Rattle.cap_text.specs.OutOfDir.{OutOfDirRequest}
 use Rattle.cap_text.specs.Packed.{packed_line}

@@ -13,8 +13,8 @@ use Rattle.capcheck_core.specs.Outside.{Outside}
 use Rattle.capcheck_core.specs.FolderFault.{OfPack}
 use Rattle.capcheck_core.specs.Place.{Place}
 use Rattle.capcheck_core.specs.Roles.{LacksRoles, roles_key}
-use Rattle.capcheck_core.specs.Packages.{ArePartsBy, FailsPartsBy, AreRoleBytes, AreTooMany, LacksPackage, IsFirstWhere}
-use Rattle.capcheck_core.specs.Packages.{IsFirstStop, IsFirstAtFault, IsFailed}
+use Rattle.capcheck_core.specs.Packages.{ArePartsBy, FailsPartsBy, AreRoleBytes, AreTooMany, LacksPackage}
+use Rattle.capcheck_core.specs.Packages.{IsFirstWhere, IsFirstStop, IsFirstAtFault, IsFailed}
 use Rattle.capcheck_core.specs.PackageEnds.{PackagesStopLeaves}
 use Rattle.capcheck_core.specs.OverFolders.{OfGiven}
 use Rattle.capcheck_core.specs.World.{Own, OverPackages, OverWorld}

@@ -27,5 +27,5 @@ returns-in-Ok c =
       runs = c.in-Ok.ensures.runs;
       prints = prints;
     })
-    (subst (λ v. IfOk c.bound_line.result (λ text. string_bytes text
-    ≡ bound_text v c.in-Ok.found)) c.world-world.ensures.is c.bound_line.ensures) c.done.ensures
+    (subst (λ v. IfOk c.bound_line.result (λ text. string_bytes text ≡ bound_text v c.in-Ok.found)) c.world-world.ensures.is c.bound_line.ensures)
+    c.done.ensures

@@ -24,5 +24,5 @@ returns-in-Ok-store_parts g c = record {
 pub returns : goal.returns
 returns g c =
     shared_in_part c.args.packages.now c.args.roles c.args.world.now c.args.out.now c.args.fewer.now.parts c.in-Ok.stores (option_copied c.roles_beside.result)
-    (g.F.Folder.folders c.args.folder.now) (g.F.Folder.folders c.store_parts.new.folder) c.requires.shared c.in-Ok.ensures c.roles_beside.ensures
-    c.in-Err.ensures
+    (g.F.Folder.folders c.args.folder.now) (g.F.Folder.folders c.store_parts.new.folder)
+    c.requires.shared c.in-Ok.ensures c.roles_beside.ensures c.in-Err.ensures

@@ -13,41 +13,42 @@ use Rattle.capcheck_core.proofs.trying.run_new.Goals as goal
 
 pub text_of-requires : goal.text_of-requires
 text_of-requires c =
-    new_runs c.args.made.now.packages.now c.args.made.now.roles c.args.made.now.world.now c.requires.linked c.args.made.now.parts.now c.args.new.now
-    c.requires.made
+    let source = c.args.told.now.source.now in
+    let m = c.args.made.now in
+    new_runs m.packages.now m.roles m.world.now c.requires.linked m.parts.now c.args.new.now c.requires.made
     c.starts_refuse_alike.ensures.refused c.starts_refuse_alike.ensures.numbered (run_request c.args.told.now.run.now) (steps_each * c.from-steps.result)
-    (words_of c.run_in_card-verdict.new.card) c.args.told.now.source.now c.run_in_card-verdict.result
+    (words_of c.run_in_card-verdict.new.card) source c.run_in_card-verdict.result
     c.requires.defended c.run_in_card-verdict.ensures.runs
 
 pub returns-in-Ok-clause-tries : goal.returns-in-Ok-clause-tries
 returns-in-Ok-clause-tries c =
+    let source = c.args.told.now.source.now in
+    let m = c.args.made.now in
     let r = run_request c.args.told.now.run.now in
     let left = words_of c.run_in_card-verdict.new.card in
     let runs = subst (RunsWorldIn c.args.new.now (with_budget (steps_each * c.from-steps.result) r) left) c.in-Ok.ensures c.run_in_card-verdict.ensures.runs in
-    said string_bytes Done (TriesIn c.args.made.now.packages.now c.args.made.now.roles c.args.made.now.world.now r left) c.tried.result
-    (trial_text c.args.told.now.source.now c.as_str.result.now) c.done.result (tt {0})
+    said string_bytes Done (TriesIn m.packages.now m.roles m.world.now r left) c.tried.result
+    (trial_text source c.as_str.result.now) c.done.result (tt {0})
     (λ t prints.
-    tried c.args.made.now.packages.now c.args.made.now.roles c.args.made.now.world.now c.args.made.now.parts.now c.args.new.now r
-    (steps_each * c.from-steps.result) left
-    c.args.told.now.source.now (string_bytes c.in-Ok.target) (string_bytes t) c.requires.made
-    (ap (λ n. steps_each * n) c.from-steps.ensures) c.requires.defended
-    runs (prints ∙ ap (trial_text c.args.told.now.source.now) c.as_str.ensures.value))
+    tried m.packages.now m.roles m.world.now m.parts.now c.args.new.now r (steps_each * c.from-steps.result) left
+    source (string_bytes c.in-Ok.target) (string_bytes t) c.requires.made (ap (λ n. steps_each * n) c.from-steps.ensures) c.requires.defended
+    runs (prints ∙ ap (trial_text source) c.as_str.ensures.value))
     c.tried.ensures c.done.ensures
 
 pub returns-in-Ok-clause-kept : goal.returns-in-Ok-clause-kept
 returns-in-Ok-clause-kept c =
+    let source = c.args.told.now.source.now in
+    let m = c.args.made.now in
     let r = run_request c.args.told.now.run.now in
     let before = words_of c.args.card.now in
     let left = words_of c.run_in_card-verdict.new.card in
     let target = string_bytes c.in-Ok.target in
     let runs = subst (RunsWorldIn c.args.new.now (with_budget (steps_each * c.from-steps.result) r) left) c.in-Ok.ensures c.run_in_card-verdict.ensures.runs in
-    let both = tried c.args.made.now.packages.now c.args.made.now.roles c.args.made.now.world.now c.args.made.now.parts.now c.args.new.now r
-    (steps_each * c.from-steps.result) left
-    c.args.told.now.source.now target (trial_text c.args.told.now.source.now target) c.requires.made
-    (ap (λ n. steps_each * n) c.from-steps.ensures) c.requires.defended runs
+    let both = tried m.packages.now m.roles m.world.now m.parts.now c.args.new.now r (steps_each * c.from-steps.result) left
+    source target (trial_text source target) c.requires.made (ap (λ n. steps_each * n) c.from-steps.ensures) c.requires.defended runs
     refl in
-    said string_bytes Done (IsUntriedKept c.args.made.now.packages.now c.args.made.now.roles c.args.made.now.world.now r before left) c.tried.result
-    (trial_text c.args.told.now.source.now c.as_str.result.now) c.done.result (inr (trial_text c.args.told.now.source.now target, both)) (λ t prints. tt {0})
+    said string_bytes Done (IsUntriedKept m.packages.now m.roles m.world.now r before left) c.tried.result
+    (trial_text source c.as_str.result.now) c.done.result (inr (trial_text source target, both)) (λ t prints. tt {0})
     c.tried.ensures c.done.ensures
 
 pub returns-in-Err-clause-kept : goal.returns-in-Err-clause-kept
