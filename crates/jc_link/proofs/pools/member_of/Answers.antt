@@ -15,7 +15,7 @@ member_referred-requires-clause-count c =
 
 pub returns-clause-linked : goal.returns-clause-linked
 returns-clause-linked c =
-    let low : token_in (entry_seen c.args.entry).bytes < 256 = omega (arith, c.token-_token.ensures) in
+    let low : token_in (entry_seen c.args.entry).bytes < 256 = omega (arith, c.token-token.ensures) in
     member_there c.args.names.now c.args.classes.now c.args.statics.now c.args.package (entry_seen c.args.entry) c.member_referred.result
     c.facts.ensures.classes
     c.facts.ensures.methods c.records-records.ensures.chains c.requires.linked c.requires.cells low
