@@ -123,6 +123,10 @@ one_at_entry (entry ∷ dirs) e f is_e is_f =
 
 -- ---- the commands' names are apart
 
+first : List ℕ → ℕ
+first [] = 0
+first (x ∷ xs) = x
+
 -- a name by its first letter and its length
 key : List ℕ → ℕ
 key name = 100 * first name + length name
