@@ -1,7 +1,8 @@
 ghost use Rattle.std.specs.Prelude.{◌≡◌, ◌<◌, ◌^◌, ◌↔◌, length, IsTrue, IfSome, IfNone, slice_get, slice_index};
 ghost use Rattle.jc_base.specs.Class.{AreClasses, IsClass, IsNextOnChain, IsEndOfChain, parent_of, is_interface};
+ghost use Rattle.jc_base.specs.Dispatch.{entry_at, public_of, visible_of};
 
-use crate::list::ClassRecs;
+use crate::list::{ClassRecs, Dispatch};
 use crate::record::ClassRec;
 use std::marker::Model;
 
@@ -83,6 +84,37 @@ impl Classes {
         self.at(c).parent
     }
 
+    /// The method at a token of a class's own dispatch lists, which is package-visible from 128 on.
+    #[tactic(auto, unfolding(crate::specs::Dispatch::entry_at))]
+    pub fn entry_at(&self, c: u16, token: u8) -> Option<u16>
+        requires { c < length self.now.records }
+        ensures { result ≡ entry_at self.now c token }
+    {
+        if token < 128 {
+            self.public_entry(c, token)
+        } else {
+            self.visible_entry(c, token - 128)
+        }
+    }
+
+    /// The method at a public token of a class.
+    #[tactic(auto, unfolding(crate::specs::Dispatch::public_of))]
+    pub fn public_entry(&self, c: u16, token: u8) -> Option<u16>
+        requires { c < length self.now.records }
+        ensures { result ≡ slice_get (public_of self.now c) token }
+    {
+        entry(&self.at(c).public, token)
+    }
+
+    /// The method at a package-visible token of a class, the first of which counts as 0.
+    #[tactic(auto, unfolding(crate::specs::Dispatch::visible_of))]
+    pub fn visible_entry(&self, c: u16, n: u8) -> Option<u16>
+        requires { c < length self.now.records }
+        ensures { result ≡ slice_get (visible_of self.now c) n }
+    {
+        entry(&self.at(c).visible, n)
+    }
+
     /// The class of a role.
     pub fn role(&self, k: u8) -> u16
         requires { k < 8 }
@@ -97,4 +129,11 @@ impl Classes {
     {
         self.roles
     }
+}
+
+/// The method at a number of a dispatch list.
+fn entry(list: &Dispatch, n: u8) -> Option<u16>
+    ensures { result ≡ slice_get list.now n }
+{
+    list.as_slice().get(n as usize).copied()
 }

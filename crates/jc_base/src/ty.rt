@@ -1,4 +1,5 @@
-ghost use Rattle.std.specs.Prelude.{◌≡◌, ◌↔◌, IsTrue};
+ghost use Rattle.std.specs.Prelude.{◌≡◌, ◌≤◌, ◌↔◌, IsTrue};
+ghost use Rattle.jc_base.specs.Cell.{width};
 ghost use Rattle.jc_base.specs.SameType.{same_type};
 
 /// What a verifier knows of one cell: of a register, of the operand stack, or of a field
@@ -35,6 +36,19 @@ pub enum Kind {
     Byte,
     Short,
     Int,
+}
+
+impl Kind {
+    /// How many cells a value of the kind takes, each of 16 bits.
+    pub fn width(self) -> u16
+        ensures value { result ≡ width self }
+        ensures most { result ≤ 2 }
+    {
+        match self {
+            Kind::Int => 2,
+            _ => 1,
+        }
+    }
 }
 
 /// Whether two types are equal.
