@@ -1,7 +1,5 @@
-ghost use Rattle.std.specs.Prelude.{◌≡◌, ◌<◌, length, IfSome, Some, slice_get};
-ghost use Rattle.jc_base.specs.Class.{IsClass};
+ghost use Rattle.std.specs.Prelude.{◌≡◌, ◌<◌, length, IfSome, Some};
 ghost use Rattle.jc_base.specs.declared.record.Member.TheVariants.{Super, StaticCall};
-ghost use Rattle.jc_base.specs.Dispatch.{entry_at};
 ghost use Rattle.jc_base.specs.Linked.{lacks_code};
 ghost use Rattle.jc_base.specs.World.{member_at};
 ghost use Rattle.jc_ops.specs.Resolve.{virtual_callee, entry_callee, special_callee, static_callee, interface_callee, described_callee, is_described, only, described, callee, own_receiver};
@@ -12,27 +10,8 @@ use crate::named::{byte_of, member, short_of};
 use crate::operation::{Callee, Choice};
 use crate::row::Invocation;
 use crate::want::Want;
-use jc_base::{Dispatch, Member, MethodRec, Ty, World};
+use jc_base::{Member, MethodRec, Ty, World};
 use jc_decode::Insn;
-
-/// The entry of a class's own dispatch lists.
-fn entry(world: &World<'_>, class: u16, token: u8) -> Option<u16>
-    requires { IsClass world.now.classes class }
-    ensures { result ≡ entry_at world.now.classes class token }
-{
-    let record = world.class(class);
-    if token < 128 {
-        number_at(&record.public, token as usize)
-    } else {
-        number_at(&record.visible, token as usize - 128)
-    }
-}
-
-fn number_at(list: &Dispatch, n: usize) -> Option<u16>
-    ensures { result ≡ slice_get list.now n }
-{
-    list.as_slice().get(n).copied()
-}
 
 fn virtual_callee(world: &World<'_>, package: u16, pool: u16) -> Result<Callee, RuleFault>
     requires { «package» < length world.now.infos }
@@ -44,7 +23,7 @@ fn virtual_callee(world: &World<'_>, package: u16, pool: u16) -> Result<Callee, 
             pool,
             class,
             token,
-            entry(world, class, token),
+            world.classes().entry_at(class, token),
         ),
         _ => Err(RuleFault::BadMember(pool)),
     }
