@@ -1,14 +1,12 @@
 -- Searches along the chain of superclasses, one class after the other.
-use Rattle.std.proofs.Common.{◌≡◌, ℕ, ◌-◌, ◌<◌, ◌≤◌, ◌==◌, Bool, true, false, List, [], ◌∷◌, ◌++◌, Some, None, refl}
+use Rattle.std.proofs.Common.{◌≡◌, ℕ, ◌==◌, Bool, true, false, List, [], ◌∷◌, ◌++◌, Some, None, refl}
 use Rattle.std.proofs.Common.{sym, ap, ◌∙◌}
 use Rattle.std.specs.Prelude.{find, flat_map, slice_get}
 use Rattle.std.proofs.lemmas.List.Concat.{flat_map-cons}
 use Rattle.jc_base.specs.declared.record.Iface.{Iface}
 use Rattle.jc_base.specs.declared.record.ClassRec.{ClassRec}
-use Rattle.jc_base.specs.Class.{ClassTable, IsNextOnChain, IsEndOfChain, chain, list_of}
-use Rattle.std.proofs.lemmas.Bool.{lt-ltb, le-ltb}
-use Rattle.jc_base.specs.Dispatch.{package_of, public_of, visible_of, visible_in, nearest_of, dispatched}
-use Rattle.jc_base.proofs.Dispatches.{visible_read}
+use Rattle.jc_base.specs.Class.{ClassTable, IsNextOnChain, IsEndOfChain, chain}
+use Rattle.jc_base.specs.Dispatch.{package_of, nearest_of}
 use Rattle.jc_base.proofs.Climbs.{chain-front}
 use Rattle.vm_step.specs.Calls.{interfaces_of, serving}
 
@@ -85,22 +83,3 @@ module _ (t : ClassTable) where
       ap (λ cs. find (Is interface) (flat_map (interfaces_of t) cs)) end.chain_is
       ∙ (ap (find (Is interface)) (flat_map-cons (interfaces_of t) c [])
       ∙ find-in-second (Is interface) (interfaces_of t c) [] h)
-
-  -- ---- dispatch lists
-
-  pub visible-found : (home c a : ℕ) (r : ClassRec) → nearest_of t home c ≡ Some a → slice_get t.records a ≡ Some r
-      → visible_in t home c ≡ r.visible
-  unfolding visible_in
-  visible-found home c a r nearest at = ap (list_of (visible_of t)) nearest ∙ visible_read t a r at
-
-  pub visible-nowhere : (home c : ℕ) → nearest_of t home c ≡ None → visible_in t home c ≡ []
-  unfolding visible_in
-  visible-nowhere home c nearest = ap (list_of (visible_of t)) nearest
-
-  pub dispatched-public : (c token of : ℕ) → token < 128 → dispatched t c token of ≡ slice_get (public_of t of) token
-  unfolding dispatched
-  dispatched-public c token of lt = rw (lt-ltb token 128 lt) refl
-
-  pub dispatched-visible : (c token of : ℕ) → 128 ≤ token → dispatched t c token of ≡ slice_get (visible_in t (package_of t c) of) (token - 128)
-  unfolding dispatched
-  dispatched-visible c token of le = rw (le-ltb token 128 le) refl

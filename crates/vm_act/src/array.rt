@@ -9,7 +9,6 @@ ghost use Rattle.vm_step.specs.Fields.{elements_of, element_index, keeps_kind, a
 ghost use Rattle.vm_act.specs.Lead.{goes_unless, put_or, PutStands};
 ghost use Rattle.vm_act.specs.Found.{IsNullOr, IsObject, IsArrayFor, MayCompare};
 
-use crate::put::width;
 use crate::{Put, handle_on, push_short, short_on};
 use jc_base::{Kind, Ty, World};
 use vm_arithmetic::short_of_word;
@@ -36,7 +35,7 @@ pub fn read_array<S: Store>(store: &mut S, kind: Kind) -> Option<Exception>
     match element_at(store, handle, short_on(store, 0)) {
         Some(element) => {
             store.discard(2);
-            push_object_value(store, handle, element * width(kind), kind);
+            push_object_value(store, handle, element * kind.width(), kind);
             None
         }
         None => Some(Exception::ArrayIndex),
@@ -56,7 +55,7 @@ pub fn write_array<S: Store>(store: &S, world: &World<'_>, kind: Kind) -> Result
     ensures act { array_write_act S.Cell.cells world.now.classes kind (S.state store.now) ≡ put_or S.Cell.cells (S.state store.now) result }
     ensures stands { IfOk result (PutStands (S.state store.now)) }
 {
-    let size = width(kind) as usize;
+    let size = usize::from(kind.width());
     let handle = handle_on(store, size + 1);
     if handle == 0 {
         return Err(Exception::NullPointer);

@@ -6,7 +6,6 @@ ghost use Rattle.vm_step.specs.Fields.{held_handle, holder_width, field_read_act
 ghost use Rattle.vm_act.specs.Lead.{goes_unless, put_or, PutStands};
 ghost use Rattle.vm_act.specs.Found.{IsNullOr, HasField, HasHolder};
 
-use crate::put::width;
 use crate::{Put, handle_on};
 use jc_ops::{Holder, InstanceField};
 use vm_step::Exception;
@@ -61,7 +60,7 @@ pub fn write_field<S: Store>(
     ensures act { field_write_act S.Cell.cells field holder (S.state store.now) ≡ put_or S.Cell.cells (S.state store.now) result }
     ensures stands { IfOk result (PutStands (S.state store.now)) }
 {
-    let handle = held(store, holder, width(field.kind) as usize);
+    let handle = held(store, holder, usize::from(field.kind.width()));
     if handle == 0 {
         Err(Exception::NullPointer)
     } else {

@@ -33,7 +33,7 @@ pub fn perform_put<S: Store>(store: &mut S, put: Put)
             handle,
             element,
             kind,
-        } => pop_value(store, handle, element * width(kind), kind, 2),
+        } => pop_value(store, handle, element * kind.width(), kind, 2),
     }
 }
 
@@ -54,17 +54,6 @@ fn pop_value<S: Store>(store: &mut S, handle: u16, at: u16, kind: Kind, under: u
 {
     pop_object_value(store, handle, at, kind);
     store.discard(under);
-}
-
-/// How many cells a value of a kind takes.
-pub fn width(kind: Kind) -> u16
-    ensures value { result ≡ width kind }
-    ensures most { result ≤ 2 }
-{
-    match kind {
-        Kind::Int => 2,
-        _ => 1,
-    }
 }
 
 /// How many cells the object of a field takes on the stack.

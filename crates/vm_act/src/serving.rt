@@ -1,9 +1,7 @@
-ghost use Rattle.std.specs.Prelude.{◌≡◌, ◌==◌, ◌<◌, length, slice_get, find, Some, None, MatchOption};
+ghost use Rattle.std.specs.Prelude.{◌≡◌, ◌==◌, find, Some, None, MatchOption};
 ghost use Rattle.jc_base.specs.Class.{IsClass};
-ghost use Rattle.jc_base.specs.Dispatch.{public_of};
 ghost use Rattle.vm_step.specs.Calls.{serving, served};
 
-use crate::dispatching::entry;
 use jc_base::{Iface, World};
 
 /// The method of a class that serves a token of an interface, where the class implements the interface and its
@@ -14,19 +12,11 @@ pub fn served(world: &World<'_>, interface: u16, token: u8, class: u16) -> Optio
 {
     match serving(world, interface, class) {
         Some(entry) => match entry.tokens.as_slice().get(token as usize) {
-            Some(public) => public_entry(world, class, *public),
+            Some(public) => world.classes().public_entry(class, *public),
             None => None,
         },
         None => None,
     }
-}
-
-/// The method at a public token of a class.
-fn public_entry(world: &World<'_>, class: u16, public: u8) -> Option<u16>
-    requires { class < length world.now.classes.records }
-    ensures { result ≡ slice_get (public_of world.now.classes class) public }
-{
-    entry(&world.class(class).public, public)
 }
 
 /// The nearest entry for an interface among those of a class and its superclasses.
