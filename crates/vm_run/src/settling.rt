@@ -1,5 +1,4 @@
 ghost use Rattle.std.specs.Prelude.{◌≡◌, ◌<◌, ◌≤◌, length};
-ghost use Rattle.jc_base.specs.Cell.{width};
 ghost use Rattle.vm_store.specs.State.{IsRunning, top, without_top};
 ghost use Rattle.vm_store.specs.Store.{IsOf};
 ghost use Rattle.vm_step.specs.Settled.{goes_to, given_to, settled};
@@ -12,22 +11,11 @@ use crate::{
     Known, enter_call, fault_next, finish, give_cell, give_int, give_nothing, go_to, jump_to,
     make_array, make_instance, raise, throw_object,
 };
-use jc_base::{Kind, World};
+use jc_base::World;
 use jc_ops::Holder;
 use vm_act::{Lead, Put, perform_put};
 use vm_step::{Ending, Plain, Value};
 use vm_store::Store;
-
-/// How many cells a field of a kind takes.
-fn width(kind: Kind) -> usize
-    ensures value { result ≡ width kind }
-    ensures most { result ≤ 2 }
-{
-    match kind {
-        Kind::Int => 2,
-        _ => 1,
-    }
-}
 
 /// How many cells are gone from the stack once a value was written.
 fn put_width(put: Put) -> usize
@@ -35,14 +23,14 @@ fn put_width(put: Put) -> usize
     ensures most { result ≤ 4 }
 {
     match put {
-        Put::Static(field) => width(field.kind),
+        Put::Static(field) => usize::from(field.kind.width()),
         Put::Field {
             field,
             holder: Holder::Stack,
             ..
-        } => width(field.kind) + 1,
-        Put::Field { field, .. } => width(field.kind),
-        Put::Element { kind, .. } => width(kind) + 2,
+        } => usize::from(field.kind.width()) + 1,
+        Put::Field { field, .. } => usize::from(field.kind.width()),
+        Put::Element { kind, .. } => usize::from(kind.width()) + 2,
     }
 }
 
