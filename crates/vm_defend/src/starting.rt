@@ -1,4 +1,4 @@
-ghost use Rattle.std.specs.Prelude.{◌≡◌, ◌≤◌, None, IfOk, IfErr, sum_by};
+ghost use Rattle.std.specs.Prelude.{◌≡◌, None, IfOk, IfErr, sum_by};
 ghost use Rattle.jc_base.specs.Cell.{width};
 ghost use Rattle.vm_step.specs.Start.{start_fault};
 ghost use Rattle.vm_defend.specs.Held.{IsRunOf};
@@ -6,7 +6,7 @@ ghost use Rattle.vm_defend.specs.Begun.{IsBegun, RefusesRun};
 ghost use Rattle.vm_defend.specs.Safe.{BeginsSafely};
 
 use crate::state::State;
-use jc_base::{Kind, World};
+use jc_base::World;
 use law_sound::typed_code_never_fails;
 use std::alloc::{AllocError, Global};
 use vm_run::{MarkedPlaces, begin, start_fault, starts_are_sized};
@@ -62,18 +62,7 @@ pub fn static_cells(world: &World<'_>) -> u16
     let _limits = world.classes();
     let mut cells = 0;
     'fields: for n in 0..world.static_count() {
-        cells += width(world.static_field(n).kind);
+        cells += world.static_field(n).kind.width();
     }
     cells
-}
-
-/// How many cells a field of a kind takes.
-fn width(kind: Kind) -> u16
-    ensures value { result ≡ width kind }
-    ensures most { result ≤ 2 }
-{
-    match kind {
-        Kind::Int => 2,
-        _ => 1,
-    }
 }
