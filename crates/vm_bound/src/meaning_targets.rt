@@ -1,6 +1,4 @@
 ghost use Rattle.std.specs.Prelude.{◌≡◌, ◌<◌, ◌≤◌, ◌↔◌, ℕ, IfOk, IsTrue, MatchOption, length, slice_get};
-ghost use Rattle.jc_base.specs.Class.{IsClass};
-ghost use Rattle.jc_base.specs.Dispatch.{public_of, entry_at};
 ghost use Rattle.law_chains.specs.Calls.{HasCode};
 ghost use Rattle.vm_bound.specs.declared.vertex.Meaning.TheVariants.{Span};
 ghost use Rattle.vm_bound.specs.declared.vertex.Vertex.TheVariants.{Means};
@@ -12,9 +10,8 @@ use crate::nearest::named;
 use crate::spread::{Block, Spread};
 use crate::vertex::{Meaning, Vertex};
 use digraph::Row;
-use jc_base::{Dispatch, MethodRec, World};
+use jc_base::{MethodRec, World};
 use std::alloc::{AllocError, Global};
-use vm_act::dispatched;
 
 /// The vertices to which edges go from what a method means that an interface describes: the blocks of the interface.
 pub(crate) fn described_targets(
@@ -157,16 +154,8 @@ fn own(world: &World<'_>, class: u16, token: u8) -> Option<u16>
     if !world.classes().is_class(class) {
         return None;
     }
-    let n = own_entry(world, class, token)?;
+    let n = world.classes().entry_at(class, token)?;
     if has_code(world, n) { Some(n) } else { None }
-}
-
-/// The entry of a class's own lists at a token.
-fn own_entry(world: &World<'_>, class: u16, token: u8) -> Option<u16>
-    requires { IsClass world.now.classes class }
-    ensures { result ≡ entry_at world.now.classes class token }
-{
-    dispatched(world, class, token, class)
 }
 
 /// Whether a subclass has an entry of its own for the token of a class.
@@ -239,7 +228,7 @@ fn supplied(world: &World<'_>, order: &[u16], node: u16, token: u8) -> Option<u1
         ((n : ℕ) → ¬ (IsSupplied world.now order.now node token n)) (IsSupplied world.now order.now node token) }
 {
     let class = class_at(order, node as usize - order.len())?;
-    let n = public_entry(world, class, token)?;
+    let n = world.classes().public_entry(class, token)?;
     if has_code(world, n) { Some(n) } else { None }
 }
 
@@ -248,19 +237,4 @@ fn class_at(order: &[u16], position: usize) -> Option<u16>
     ensures { result ≡ slice_get order.now position }
 {
     order.get(position).copied()
-}
-
-/// The method at a public token of a class.
-fn public_entry(world: &World<'_>, class: u16, token: u8) -> Option<u16>
-    requires { class < length world.now.classes.records }
-    ensures { result ≡ slice_get (public_of world.now.classes class) token }
-{
-    entry(&world.class(class).public, token)
-}
-
-/// The method at a number of a dispatch list.
-fn entry(list: &Dispatch, n: u8) -> Option<u16>
-    ensures { result ≡ slice_get list.now n }
-{
-    list.as_slice().get(n as usize).copied()
 }
