@@ -61,7 +61,7 @@ use Rattle.law_homes.proofs.Valued.{asked_types, IsCellOf, CellsAt, cell-of, loa
 use Rattle.law_homes.proofs.Few.{same-value, one-few}
 use Rattle.law_homes.proofs.Stores.{stores-run, none-low}
 use Rattle.law_homes.proofs.Beside.{Typed, each-among, among-each, objects, typed, types, needed-valued}
-use Rattle.law_homes.specs.Premises.{AreLaws}
+use Rattle.law_homes.specs.Premises.{AreMoveLaws}
 use Rattle.law_groups.specs.Laid.{IsLaidIn, body_at, count_of, rename, steps_of}
 use Rattle.law_groups.specs.Beside.{AreOf, IsTypedAt, StaysTyped}
 use Rattle.law_groups.specs.Body.{AreAtBody, BodyRuns, body_falls}
@@ -253,7 +253,7 @@ stored-few s letter (h ∷ hs) le = let c = copies-few s h hs in (omega arith, o
 
 module _
     {v w : Linked} {s : Source} {place : ℕ → ℕ} (laid : IsLaidIn v w s place)
-    (world : IsWorld v) (decided : OperationsAreDecided v) (laws : (w : Linked) → IsExecutable w → AreLaws v w) (i : Placed) (x : ℕ)
+    (world : IsWorld v) (decided : OperationsAreDecided v) (laws : (w : Linked) → IsExecutable w → AreMoveLaws v w) (i : Placed) (x : ℕ)
     (f : Frame Cell) (below : List (Frame Cell)) (heap : List (Object Cell)) (statics : List Cell) (t : State Cell) where
   abbrev z : State Cell
   z = record { frames = f ∷ below; heap = heap; statics = statics }
@@ -273,7 +273,7 @@ module _
       }
 
   module _ (letter : Sort) (b : AreAtBody v w s place i (ops.Store letter x) z t) where
-    l : AreLaws v w
+    l : AreMoveLaws v w
     l = laws w laid.new
 
     beside_z : IsBeside w s f.place f t
@@ -512,7 +512,7 @@ module _
       finished sorts.Int b after (drop 2 f.stack) put (subst (StaysTyped v s) has.comes stays (omega arith) b.of.source) o has.comes
 
 pub store-bodies-run :
-    (v : Linked) → IsWorld v → OperationsAreDecided v → ((w : Linked) → IsExecutable w → AreLaws v w) → StoreBodiesRun v
+    (v : Linked) → IsWorld v → OperationsAreDecided v → ((w : Linked) → IsExecutable w → AreMoveLaws v w) → StoreBodiesRun v
 store-bodies-run v world decided laws w s place i letter x z t o laid b step fine stays =
     by z.frames z.heap z.statics b step
   where

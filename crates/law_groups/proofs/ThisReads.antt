@@ -75,7 +75,7 @@ use Rattle.law_homes.proofs.Copies.{wide}
 use Rattle.law_homes.proofs.Going.{operations-go-on}
 use Rattle.law_homes.proofs.Loading.{loads-run, step-place}
 use Rattle.law_homes.proofs.Beside.{among-each, held-can-load, needed-valued, register-small}
-use Rattle.law_homes.specs.Premises.{AreLaws}
+use Rattle.law_homes.specs.Premises.{AreMoveLaws}
 use Rattle.law_homes.proofs.Standing.{steps-execute}
 use Rattle.law_groups.specs.Laid.{IsLaidIn, body_at, count_of, rename, steps_of}
 use Rattle.law_groups.specs.Beside.{IsTypedAt, StandsInGroup, StaysTyped}
@@ -136,7 +136,7 @@ same-locals s p f g k e locals x =
 -- ---- the load of the object, where register 0 is not the home of local 0
 
 module _
-    {v w : Linked} {s : Source} {place : ℕ → ℕ} (laid : IsLaidIn v w s place) (l : AreLaws v w) {i : Placed} {op : Operation}
+    {v w : Linked} {s : Source} {place : ℕ → ℕ} (laid : IsLaidIn v w s place) (l : AreMoveLaws v w) {i : Placed} {op : Operation}
     (f : Frame Cell) (below : List (Frame Cell)) (heap : List (Object Cell)) (statics : List Cell) (t : State Cell)
     (b : AreAtBody v w s place i op (record { frames = f ∷ below; heap = heap; statics = statics }) t)
     (home : IsHomeOf s i.place 0 sorts.Reference)
@@ -186,7 +186,7 @@ module _
 
 module _
     {v w : Linked} {s : Source} {place : ℕ → ℕ} (laid : IsLaidIn v w s place)
-    (world : IsWorld v) (decided : OperationsAreDecided v) (laws : (w : Linked) → IsExecutable w → AreLaws v w)
+    (world : IsWorld v) (decided : OperationsAreDecided v) (laws : (w : Linked) → IsExecutable w → AreMoveLaws v w)
     (i : Placed) (fd : InstanceField)
     (f : Frame Cell) (below : List (Frame Cell)) (heap : List (Object Cell)) (statics : List Cell) (t : State Cell) where
   abbrev z : State Cell

@@ -67,7 +67,7 @@ use Rattle.law_homes.specs.Moves.{IsExecutable, size, load_of, InstructionsStand
 use Rattle.jc_decode.specs.Places.{place_after}
 use Rattle.law_homes.proofs.Going.{operations-go-on}
 use Rattle.law_homes.proofs.Loading.{step-place}
-use Rattle.law_homes.specs.Premises.{AreLaws}
+use Rattle.law_homes.specs.Premises.{AreMoveLaws}
 use Rattle.law_homes.proofs.Standing.{steps-execute}
 use Rattle.law_groups.specs.Laid.{IsLaidIn, body_at, count_of, rename, steps_of}
 use Rattle.law_groups.specs.Beside.{StandsInGroup}
@@ -85,7 +85,7 @@ use Rattle.law_groups.proofs.ThisReads.{HasSettled, has-settled, same-locals, th
 
 module _
     {v w : Linked} {s : Source} {place : ℕ → ℕ} (laid : IsLaidIn v w s place)
-    (world : IsWorld v) (decided : OperationsAreDecided v) (laws : (w : Linked) → IsExecutable w → AreLaws v w)
+    (world : IsWorld v) (decided : OperationsAreDecided v) (laws : (w : Linked) → IsExecutable w → AreMoveLaws v w)
     (types : IsOrderOfTypes v.classes) (source_sound : OperationsAreSound v) (i : Placed) (fd : InstanceField)
     (f : Frame Cell) (below : List (Frame Cell)) (heap : List (Object Cell)) (statics : List Cell) (t : State Cell) where
   abbrev z : State Cell

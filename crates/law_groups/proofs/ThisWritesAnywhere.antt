@@ -25,7 +25,7 @@ use Rattle.xf_emission.specs.Move.{load, with_byte}
 use Rattle.xf_emission.specs.Mnemonics.{from_write, swap_x}
 use Rattle.law_rewritten_typing.specs.Whole.{DerivedAreWhole}
 use Rattle.law_homes.specs.Moves.{IsExecutable}
-use Rattle.law_homes.specs.Premises.{AreLaws}
+use Rattle.law_homes.specs.Premises.{AreMoveLaws}
 use Rattle.law_groups.specs.Body.{AreAtBody, BodyRuns}
 use Rattle.law_groups.specs.Fields.{ThisWritesRun}
 use Rattle.law_groups.proofs.Reading.{IsHomeOf}
@@ -55,7 +55,7 @@ kept-body s i f h at e =
 
 module _
     (v : Linked) (world : IsWorld v) (decided : OperationsAreDecided v) (alike_steps : StepsAreAlike v)
-    (laws : (w : Linked) → IsExecutable w → AreLaws v w) (types : IsOrderOfTypes v.classes) (source_sound : OperationsAreSound v)
+    (laws : (w : Linked) → IsExecutable w → AreMoveLaws v w) (types : IsOrderOfTypes v.classes) (source_sound : OperationsAreSound v)
     (whole : DerivedAreWhole v) where
   pub this-writes-run : ThisWritesRun v
   this-writes-run w s place i f z t o laid b step fine typed_after =

@@ -33,7 +33,7 @@ use Rattle.law_rewritten_typing.proofs.Registers.{both-below}
 use Rattle.law_homes.specs.Edges.{IsBeside}
 use Rattle.law_homes.specs.Held.{HoldsValue, slots}
 use Rattle.law_homes.specs.Moves.{letter_of, CanLoad, OwnRegisters}
-use Rattle.law_homes.specs.Premises.{AreLaws}
+use Rattle.law_homes.specs.Premises.{AreMoveLaws}
 use Rattle.law_homes.proofs.Copies.{homes-own-registers, wide}
 use Rattle.law_homes.proofs.Valued.{asked_types, asked-size, CellsAt, cells-moved, load-asked, load-filled, value-cells}
 
@@ -100,7 +100,7 @@ held-in-registers s f g h inside held = record {
   equal = λ n lt. held.equal n lt ∙ get-left f.registers (reverse f.stack) (h.slot + n) (omega (arith, inside, lt));
 }
 
-module _ (v w : Linked) (l : AreLaws v w) (s : Source) (is : s.world ≡ v) (plan : IsPlanned s) where
+module _ (v w : Linked) (l : AreMoveLaws v w) (s : Source) (is : s.world ≡ v) (plan : IsPlanned s) where
   pub serve : Serve s.world s.method s.frames s.homes
   serve = (subst HomesServe (sym is) l.serve) s.method s.frames s.homes plan.homes
 

@@ -33,11 +33,11 @@ use Rattle.law_homes.specs.Held.{HoldsValue, slots}
 use Rattle.law_homes.specs.Moves.{letter_of, InstructionsStandFrom, IsAtStep}
 use Rattle.law_homes.proofs.Valued.{asked_types, CellsAt}
 use Rattle.law_homes.proofs.Beside.{each-among, among-each, own, register-inside, register-small, cells-valued, held-as, get-left, placed-state}
-use Rattle.law_homes.specs.Premises.{AreLaws}
+use Rattle.law_homes.specs.Premises.{AreMoveLaws}
 use Rattle.law_homes.proofs.Carrying.{same-letter, same-or-reference, ArePairs, no_pairs, more_pairs, cells-run}
 use Rattle.law_homes.proofs.Edging.{home-same}
 
-module _ (v w : Linked) (l : AreLaws v w) (place : ℕ → ℕ) (steps : List Step) (s : Source) (is : s.world ≡ v) (plan : IsPlanned s) (q : ℕ)
+module _ (v w : Linked) (l : AreMoveLaws v w) (place : ℕ → ℕ) (steps : List Step) (s : Source) (is : s.world ≡ v) (plan : IsPlanned s) (q : ℕ)
     (f : Frame Cell) (keeps : KeepsStack s.world s.method s.frames q) where
   module _
       (g : Frame Cell) (below : List (Frame Cell)) (heap : List (Object Cell)) (statics : List Cell) (n count : ℕ)
@@ -124,7 +124,7 @@ module _ (v w : Linked) (l : AreLaws v w) (place : ℕ → ℕ) (steps : List St
   cells-frames (g ∷ below) heap statics n hs ks beside matched at stand low inside held =
       run-cells g below heap statics n (length (insns (cell_copies s hs ks))) beside at low hs ks matched held inside refl stand
 
-pub cells-all-run : (v w : Linked) → AreLaws v w → CellsRun v w
+pub cells-all-run : (v w : Linked) → AreMoveLaws v w → CellsRun v w
 cells-all-run v w l place steps t n s q f hs ks is plan beside matched at stand low inside keeps held =
     cells-frames v w l place steps s is plan q f keeps t.frames t.heap t.statics n hs ks beside matched at stand low inside held
 

@@ -36,7 +36,7 @@ use Rattle.law_homes.specs.Moves.{size, letter_of, InstructionsStandFrom, IsAtSt
 use Rattle.law_homes.proofs.Copies.{wide}
 use Rattle.law_homes.proofs.Valued.{asked_types, CellsAt, cells-left, value-inside}
 use Rattle.law_homes.proofs.Beside.{each-among, among-each, own, register-inside, register-small, needed-valued, count-registers, held-as, placed-state}
-use Rattle.law_homes.specs.Premises.{AreLaws}
+use Rattle.law_homes.specs.Premises.{AreMoveLaws}
 use Rattle.law_homes.proofs.Beside.{held-in-slots, held-in-registers}
 use Rattle.law_homes.proofs.Carrying.{same-letter, same-or-reference, IsFrom, LocalIs, locals-run}
 
@@ -87,7 +87,7 @@ module _ (s : Source) (q : ℕ) (f g : Frame Cell) where
       only (inl e) = e
       only (inr a) = absurd a
 
-module _ (v w : Linked) (l : AreLaws v w) (place : ℕ → ℕ) (steps : List Step) (s : Source) (is : s.world ≡ v) (plan : IsPlanned s) (o : Origin)
+module _ (v w : Linked) (l : AreMoveLaws v w) (place : ℕ → ℕ) (steps : List Step) (s : Source) (is : s.world ≡ v) (plan : IsPlanned s) (o : Origin)
     (q : ℕ) (f : Frame Cell) (leads : LeadsTo s o q) where
   module _
       (g : Frame Cell) (below : List (Frame Cell)) (heap : List (Object Cell)) (statics : List Cell) (n : ℕ)
@@ -244,6 +244,6 @@ module _ (v w : Linked) (l : AreLaws v w) (place : ℕ → ℕ) (steps : List St
   edge-frames [] heap statics n beside at stand low holds = absurd (let lt = at.runs in omega (arith, lt))
   edge-frames (g ∷ below) heap statics n beside at stand low holds = run-edge g below heap statics n beside at low holds stand
 
-pub edges-run : (v w : Linked) → AreLaws v w → EdgesRun v w
+pub edges-run : (v w : Linked) → AreMoveLaws v w → EdgesRun v w
 edges-run v w l place steps t n s o q f is plan beside leads at stand low holds =
     edge-frames v w l place steps s is plan o q f leads t.frames t.heap t.statics n beside at stand low holds

@@ -50,7 +50,7 @@ use Rattle.law_homes.proofs.StackStores.{piled, piled-stack}
 use Rattle.law_homes.proofs.Spilling.{reverse-among}
 use Rattle.law_homes.proofs.Carrying.{insns-append}
 use Rattle.law_homes.proofs.Beside.{each-among, typed, types, count-registers, count-stack, cells-valued}
-use Rattle.law_homes.specs.Premises.{AreLaws}
+use Rattle.law_homes.specs.Premises.{AreMoveLaws}
 
 -- ---- stacks that are kept
 
@@ -97,7 +97,7 @@ module _ (t : ClassTable) (order : IsOrderOfTypes t) (ks : List ObjectKind) wher
       ∙ (ap (λ (cs : List Cell). cs ++ map (renamed_cell e) (piled values hs [])) (same-value e (letter_of h.ty) values h.slot all.0)
       ∙ ap (λ (cs : List Cell). value_in_register (letter_of h.ty) h.slot values ++ cs) (same-pile e values hs all.1))
 
-pub kept-stacks-stay : (v w : Linked) → AreLaws v w → KeptStacksStay v w
+pub kept-stacks-stay : (v w : Linked) → AreMoveLaws v w → KeptStacksStay v w
 kept-stacks-stay v w l s q f t e is plan beside keeps =
     let hs : List Home = stack_homes s q in
     let filled : FillStack s q (typed v w l s is plan q f t beside).frame =

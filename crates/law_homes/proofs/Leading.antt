@@ -22,14 +22,14 @@ use Rattle.law_homes.specs.Moves.{InstructionsStandFrom, load_of, loaded_stack, 
 use Rattle.law_homes.proofs.Loading.{loads-run}
 use Rattle.law_homes.proofs.Stacked.{loaded-is-stack}
 use Rattle.law_homes.proofs.Beside.{each-among, among-each, typed, count-registers, count-stack, stack-fits, cells-valued, register-small}
-use Rattle.law_homes.specs.Premises.{AreLaws}
+use Rattle.law_homes.specs.Premises.{AreMoveLaws}
 use Rattle.law_homes.proofs.Beside.{held-can-load}
 
 pub insns-loads : (s : Source) (hs : List Home) → insns (loads s hs) ≡ map (load_of s) hs
 insns-loads s [] = refl
 insns-loads s (h ∷ hs) = ap (λ (is : List Insn). load_of s h ∷ is) (insns-loads s hs)
 
-pub leaders-load : (v w : Linked) → AreLaws v w → LeadersLoad v w
+pub leaders-load : (v w : Linked) → AreMoveLaws v w → LeadersLoad v w
 leaders-load v w l place steps t n s q f is plan beside keeps at stand waits =
     let filled : FillStack s q (typed v w l s is plan q f t beside).frame =
     (subst CellsFillStack (sym is) l.fill) s refl plan q (typed v w l s is plan q f t beside).frame (typed v w l s is plan q f t beside).at keeps in

@@ -37,7 +37,7 @@ use Rattle.law_homes.proofs.Loading.{loads-run}
 use Rattle.law_homes.proofs.StackStores.{piled, piled-append, piled-from}
 use Rattle.law_homes.proofs.Leading.{insns-loads}
 use Rattle.law_homes.proofs.Beside.{each-among, among-each, typed, count-registers, count-stack, stack-fits, cells-valued, register-small}
-use Rattle.law_homes.specs.Premises.{AreLaws}
+use Rattle.law_homes.specs.Premises.{AreMoveLaws}
 use Rattle.law_homes.proofs.Beside.{held-can-load, get-left}
 
 -- ---- values that are loaded
@@ -143,7 +143,7 @@ among-right h (k ∷ hs) ks a = inr (among-right h hs ks a)
 
 -- ---- a conditional over a deeper stack
 
-module _ (v w : Linked) (l : AreLaws v w) (place : ℕ → ℕ) (steps : List Step) (t : State Cell) (s : Source) (is : s.world ≡ v) (plan : IsPlanned s)
+module _ (v w : Linked) (l : AreMoveLaws v w) (place : ℕ → ℕ) (steps : List Step) (t : State Cell) (s : Source) (is : s.world ≡ v) (plan : IsPlanned s)
     (i : Placed) (k : ℕ) (f : Frame Cell)
     (beside : IsBeside w s i.place f t) (fork : IsForkedAt s i.place k (typed v w l s is plan i.place f t beside).frame)
     (over : has_under s i.place k ≡ true) where
@@ -273,19 +273,19 @@ module _ (v w : Linked) (l : AreLaws v w) (place : ℕ → ℕ) (steps : List St
             length-drop k f.stack,
           )
 
-pub operands-all-load : (v w : Linked) → AreLaws v w → ForksAreCut v → OperandsLoad v w
+pub operands-all-load : (v w : Linked) → AreMoveLaws v w → ForksAreCut v → OperandsLoad v w
 operands-all-load v w l cuts place steps t n s i op k f is plan beside st names some over at stand empty held =
     let g = typed v w l s is plan i.place f t beside in
     operands-load v w l place steps t s is plan i k f beside ((subst ForksAreCut (sym is) cuts) s refl plan i op k g.frame st g.at names some) over n held
     at stand empty
 
-pub under-all-load : (v w : Linked) → AreLaws v w → ForksAreCut v → UnderLoads v w
+pub under-all-load : (v w : Linked) → AreMoveLaws v w → ForksAreCut v → UnderLoads v w
 under-all-load v w l cuts place steps t n s i op k f is plan beside st names some over at stand empty held =
     let g = typed v w l s is plan i.place f t beside in
     under-load v w l place steps t s is plan i k f beside ((subst ForksAreCut (sym is) cuts) s refl plan i op k g.frame st g.at names some) over n held at
     stand empty
 
-pub under-all-hold : (v w : Linked) → AreLaws v w → ForksAreCut v → UnderHold v w
+pub under-all-hold : (v w : Linked) → AreMoveLaws v w → ForksAreCut v → UnderHold v w
 under-all-hold v w l cuts t s i op k f y g is plan beside st names some over same_registers same_stack =
     let p = typed v w l s is plan i.place f t beside in
     under-holds v w l fixed [] t s is plan i k f beside ((subst ForksAreCut (sym is) cuts) s refl plan i op k p.frame st p.at names some) over y g

@@ -46,7 +46,7 @@ use Rattle.law_homes.proofs.Standing.{steps-execute}
 use Rattle.law_homes.proofs.Valued.{asked_types, CellsAt, value-inside}
 use Rattle.law_homes.proofs.StackStores.{piled, piled-stack, stored, stored-count, stored-holds, stored-apart, store-asked}
 use Rattle.law_homes.proofs.Beside.{each-among, among-each, own, register-inside, register-small, typed, count-registers, count-stack, stack-fits, placed-state}
-use Rattle.law_homes.specs.Premises.{AreLaws}
+use Rattle.law_homes.specs.Premises.{AreMoveLaws}
 use Rattle.law_homes.proofs.Beside.{cells-valued, held-as}
 
 -- a store into a home
@@ -257,7 +257,7 @@ slots-from n [] follow h a = absurd a
 slots-from n (k ∷ hs) follow h (inl e) = omega (arith, follow.0, ap (λ (x : Home). x.slot) e)
 slots-from n (k ∷ hs) follow h (inr a) = omega (arith, slots-from (n + type_width k.ty) hs follow.1 h a)
 
-module _ (v w : Linked) (l : AreLaws v w) (place : ℕ → ℕ) (steps : List Step) (s : Source) (is : s.world ≡ v) (plan : IsPlanned s) (q : ℕ)
+module _ (v w : Linked) (l : AreMoveLaws v w) (place : ℕ → ℕ) (steps : List Step) (s : Source) (is : s.world ≡ v) (plan : IsPlanned s) (q : ℕ)
     (f : Frame Cell) (keeps : KeepsStack s.world s.method s.frames q) where
   spill-by :
       (g : Frame Cell) (below : List (Frame Cell)) (heap : List (Object Cell)) (statics : List Cell) (n : ℕ)
@@ -331,6 +331,6 @@ module _ (v w : Linked) (l : AreLaws v w) (place : ℕ → ℕ) (steps : List St
   spill-frames [] heap statics n beside at stand e = absurd (let lt = at.runs in omega (arith, lt))
   spill-frames (g ∷ below) heap statics n beside at stand e = spill-by g below heap statics n beside at stand e
 
-pub stacks-spill : (v w : Linked) → AreLaws v w → StacksSpill v w
+pub stacks-spill : (v w : Linked) → AreMoveLaws v w → StacksSpill v w
 stacks-spill v w l place steps t n s q f is plan beside keeps at stand e =
     spill-frames v w l place steps s is plan q f keeps t.frames t.heap t.statics n beside at stand e

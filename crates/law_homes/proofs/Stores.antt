@@ -64,7 +64,7 @@ use Rattle.law_homes.proofs.StackStores.{stored, stored-count, stored-holds, sto
 use Rattle.law_homes.proofs.Spilling.{one-store}
 use Rattle.law_homes.proofs.Carrying.{insns-append, copies-count, copy-fits}
 use Rattle.law_homes.proofs.Beside.{each-among, among-each, own, register-inside, register-small, needed-valued, types, held-as}
-use Rattle.law_homes.specs.Premises.{AreLaws}
+use Rattle.law_homes.specs.Premises.{AreMoveLaws}
 
 -- ---- what was loaded is of its letter alone
 
@@ -306,7 +306,7 @@ module _
 
 -- ---- the store
 
-module _ (v w : Linked) (l : AreLaws v w) (place : ℕ → ℕ) (steps : List Step) (s : Source) (is : s.world ≡ v) (plan : IsPlanned s) (letter : Sort)
+module _ (v w : Linked) (l : AreMoveLaws v w) (place : ℕ → ℕ) (steps : List Step) (s : Source) (is : s.world ≡ v) (plan : IsPlanned s) (letter : Sort)
     (q x : ℕ) (f : Frame Cell) (stack : List Cell) where
   module _
       (g : Frame Cell) (below : List (Frame Cell)) (heap : List (Object Cell)) (statics : List Cell) (n count : ℕ)
@@ -499,6 +499,6 @@ module _ (v w : Linked) (l : AreLaws v w) (place : ℕ → ℕ) (steps : List St
   store-frames (g ∷ below) heap statics n beside local at stand stack_is low =
       store-runs g below heap statics n (length (insns (stored_items s letter (needed s q x)))) beside local at stack_is low refl stand
 
-pub stores-run : (v w : Linked) → AreLaws v w → StoresRun v w
+pub stores-run : (v w : Linked) → AreMoveLaws v w → StoresRun v w
 stores-run v w l place steps t n s letter q x f stack is plan beside local at stand stack_is low =
     store-frames v w l place steps s is plan letter q x f stack t.frames t.heap t.statics n beside local at stand stack_is low

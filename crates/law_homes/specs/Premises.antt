@@ -7,7 +7,7 @@ use Rattle.law_rewritten_typing.specs.Edges.{CellsFillStack, EdgesCarry, NeededH
 use Rattle.law_homes.specs.Moves.{IsExecutable}
 
 -- laws of the source's world v, and that code can run in w
-pub record AreLaws (v w : Linked) : Type 0 where
+pub record AreMoveLaws (v w : Linked) : Type 0 where
   pub serve : HomesServe v
   pub needed : NeededHaveHomes v
   pub fill : CellsFillStack v

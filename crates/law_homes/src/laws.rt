@@ -2,7 +2,7 @@ ghost use Rattle.jc_base.specs.World.{Linked};
 ghost use Rattle.vm_store.specs.declared.cell.Cell.{Cell};
 ghost use Rattle.law_homes.specs.Edges.{CellsAreFew, CellsRun, CopiesAreFew, EdgesRun, KeptStacksStay, LeadersLoad, OperandsLoad, StacksSpill, StartsHold, UnderHold, UnderLoads};
 ghost use Rattle.law_homes.specs.Moves.{IsExecutable, CopiesKeepHomes, CopiesRun, HomesAreCopied, HomesOwnRegisters, LoadedIsStack, LoadsRun, OperationsGoOn};
-ghost use Rattle.law_homes.specs.Premises.{AreLaws};
+ghost use Rattle.law_homes.specs.Premises.{AreMoveLaws};
 ghost use Rattle.law_homes.specs.Stores.{StoresRun};
 ghost use Rattle.law_homes.specs.Laws.{HomesStay, IncrementsRunAlike, KeptRunAlike, LoadsRunAlike, LoadsWriteNone, LocalsStay, NamesNoneWritesNone, StepsExecute, StepsStandAtPlaces, StoresRunAlike, WrittenHold};
 
@@ -84,7 +84,7 @@ pub fn none_are_written(world: &World<'_>)
 
 /// What lists of moves rest on holds of each world, beside one that can run.
 pub fn premises_hold(source: &World<'_>)
-    ensures { (w : Linked) → IsExecutable w → AreLaws source.now w }
+    ensures { (w : Linked) → IsExecutable w → AreMoveLaws source.now w }
 {
     homes_serve(source);
     edges_carry(source);
