@@ -18,7 +18,7 @@ use Rattle.law_package.specs.Writing as writing
 use Rattle.law_package.proofs.Lists.{Each}
 use Rattle.cap_write.specs.Described.{SeenMember, body_seen, member_seen, seen_body, seen_method, seen_methods, seen_classes, seen_package}
 use Rattle.cap_write.specs.Condition.{no_method, methods_for, AreElements, MayBeLaid}
-use Rattle.cap_write.specs.SmallStacks.{HasSmallStack, HaveSmallStacks}
+use Rattle.cap_write.specs.SmallStacks.{BodyHasSmallStack, HaveSmallStacks}
 
 -- ---- an element for each method
 
@@ -181,19 +181,19 @@ members_are p laid xs l e =
 
 -- ---- the words of stack that each needs
 
-stack_of : (info : List ℕ) (s : FormerMethod) (b : Body) → writing.IsBodyOf info s b → HasSmallStack b → writing.HasSmallStack s
+stack_of : (info : List ℕ) (s : FormerMethod) (b : Body) → writing.IsBodyOf info s b → BodyHasSmallStack b → writing.LaidHasSmallStack s
 stack_of info s (body.Code laid) h f = subst (λ o. IfSome o (λ l. l.max_stack < 256)) (sym h) f
 stack_of info s (body.Header header) h f = subst (λ o. IfSome o (λ l. l.max_stack < 256)) (sym h.0) tt
 
 small_stacks : (info : List ℕ) (ss : List FormerMethod) (ms : List WrittenMember) → writing.AreMembersOf info ss ms
-    → Each (λ m. HasSmallStack m.body) ms → Each writing.HasSmallStack ss
+    → Each (λ m. BodyHasSmallStack m.body) ms → Each writing.LaidHasSmallStack ss
 small_stacks info [] ms a f = tt
 small_stacks info (s ∷ ss) [] a f = absurd a
 small_stacks info (s ∷ ss) (m ∷ ms) a f = (stack_of info s m.body a.0.body f.0, small_stacks info ss ms a.1 f.1)
 
 pub all_stacks : (info : List ℕ) (ss : List FormerMethod) (ms : List WrittenMember) → writing.AreMembersOf info ss ms → HaveSmallStacks ms
-    → All writing.HasSmallStack ss
-all_stacks info ss ms a f = All-from_Each writing.HasSmallStack ss (small_stacks info ss ms a (Each-from_All (λ m. HasSmallStack m.body) ms f))
+    → All writing.LaidHasSmallStack ss
+all_stacks info ss ms a f = All-from_Each writing.LaidHasSmallStack ss (small_stacks info ss ms a (Each-from_All (λ m. BodyHasSmallStack m.body) ms f))
 
 -- ---- each has code that may be laid for it
 

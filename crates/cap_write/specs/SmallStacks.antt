@@ -4,9 +4,9 @@ use Rattle.cap_laying.specs.declared.member.Body.{Body}
 use Rattle.cap_laying.specs.declared.member.Body.TheVariants.{Code, Header}
 use Rattle.cap_laying.specs.declared.member.WrittenMember.{WrittenMember}
 
-abbrev pub HasSmallStack : Body → Type 0
-HasSmallStack (Code laid) = laid.now.max_stack < 256
-HasSmallStack (Header header) = Unit {0}
+abbrev pub BodyHasSmallStack : Body → Type 0
+BodyHasSmallStack (Code laid) = laid.now.max_stack < 256
+BodyHasSmallStack (Header header) = Unit {0}
 
 abbrev pub HaveSmallStacks : List WrittenMember → Type 0
-HaveSmallStacks ms = All (λ m. HasSmallStack m.body) ms
+HaveSmallStacks ms = All (λ m. BodyHasSmallStack m.body) ms

@@ -6,7 +6,7 @@ ghost use Rattle.cap_desc.specs.MemberLists.{methods_left};
 ghost use Rattle.cap_desc.specs.MemberRecords.{method_seen};
 ghost use Rattle.law_package.specs.Written.{lead_bytes};
 ghost use Rattle.cap_write.specs.Described.{seen_body, body_seen, first_of_them, member_seen, seen_class, seen_classes, seen_method, seen_methods};
-ghost use Rattle.cap_write.specs.SmallStacks.{HasSmallStack, HaveSmallStacks};
+ghost use Rattle.cap_write.specs.SmallStacks.{BodyHasSmallStack, HaveSmallStacks};
 
 use crate::facts::is_byte;
 use cap_bytes::View;
@@ -95,7 +95,7 @@ fn put_methods<'a>(
 /// A method with the first element of the list.
 fn member<'a>(method: &MethodInfo, info: View<'a>, laid: &'a [Option<Laid>]) -> WrittenMember<'a>
     ensures seen { member_seen result ≡ seen_method info.entry.bytes.now (method_seen method.now) (first_of_them laid.now) }
-    ensures stack { HasSmallStack result.body }
+    ensures stack { BodyHasSmallStack result.body }
 {
     WrittenMember {
         offset: method.method_offset,
@@ -111,7 +111,7 @@ fn member<'a>(method: &MethodInfo, info: View<'a>, laid: &'a [Option<Laid>]) -> 
 /// What it is written as.
 fn body<'a>(info: View<'a>, offset: u16, laid: &'a [Option<Laid>]) -> Body<'a>
     ensures seen { body_seen result ≡ seen_body info.entry.bytes.now offset (first_of_them laid.now) }
-    ensures stack { HasSmallStack result }
+    ensures stack { BodyHasSmallStack result }
 {
     match laid.first() {
         Some(Some(laid)) => {

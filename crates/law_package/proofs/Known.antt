@@ -26,7 +26,7 @@ use Rattle.jc_decode.specs.declared.symbols.Laid.{Laid}
 use Rattle.law_package.specs.Changes.{FormerMethod, sources, laid_but}
 use Rattle.law_package.specs.Written.{IsAs, size_written, lead_bytes}
 use Rattle.law_package.specs.Laying.{IsCodeFor, IsFor, FitsHeader, AreLaidFor}
-use Rattle.law_package.specs.Writing.{IsBodyOf, IsMemberOf, HasSmallStack, IsWrittenAnew, places}
+use Rattle.law_package.specs.Writing.{IsBodyOf, IsMemberOf, LaidHasSmallStack, IsWrittenAnew, places}
 use Rattle.law_package.proofs.Lists.{Each, each_at, each_of, map_each}
 use Rattle.cap_package.proofs.Agreed.{agrees}
 use Rattle.law_package.proofs.Zipped.{method_of, sources_method, length_but}
@@ -75,7 +75,7 @@ other_byte : (a b : ℕ) → a + b ≤ 255 → b < 256
 other_byte a b h = omega arith
 
 body_at : (xs ys : List ℕ) (s : FormerMethod) (h : Header) (b : Body) (at : ℕ) → HeadersReadBack
-    → s.method.method_offset + size_by (number_at 1 s.method.method_offset xs) ≤ length xs → IsFor h s.laid → HasSmallStack s → IsBodyOf xs s b
+    → s.method.method_offset + size_by (number_at 1 s.method.method_offset xs) ≤ length xs → IsFor h s.laid → LaidHasSmallStack s → IsBodyOf xs s b
     → take (body_size b) (drop at ys) ≡ body_bytes b → IsBodyAt xs ys s b at
 body_at xs ys s h (Code laid) at back within fits small is bytes =
     let f : IsCodeFor h laid.now = subst (IsFor h) is fits in
@@ -135,7 +135,7 @@ known parts p q laid ms s l w stand back =
     let inside = of_methods p q laid ms (ClaimsInside room) w (all_claims parts p a) in
     let within = of_members p q laid ms (λ (m : WrittenMember). m.offset < size) w (each_within size ms w.may.each) in
     let fits = of_sources p q laid ms (FitsHeader p) w (Each-from_All (FitsHeader p) (sources p laid) l) in
-    let small = of_sources p q laid ms HasSmallStack w (Each-from_All HasSmallStack (sources p laid) w.stacks) in
+    let small = of_sources p q laid ms LaidHasSmallStack w (Each-from_All LaidHasSmallStack (sources p laid) w.stacks) in
     each_of (Known p q ms) zs (λ z h.
     let i = each_at (λ (x : Pair). IsMemberOf p.methods.info x.source x.member) zs z is h in
     let ok = each_at (λ (x : Pair). WasWell p x.source.method) zs z was h in
@@ -150,7 +150,7 @@ known parts p q laid ms s l w stand back =
       inside = each_at (λ (x : Pair). ClaimsInside room x.source.method) zs z inside h;
       within = each_at (λ (x : Pair). x.member.offset < size) zs z within h;
       body = body_at p.methods.info q.methods.info z.source ok.header z.member.body (to (places p ms) z.member.offset) back (omega arith) (f ok.header ok.there)
-          (each_at (λ (x : Pair). HasSmallStack x.source) zs z small h) i.body
+          (each_at (λ (x : Pair). LaidHasSmallStack x.source) zs z small h) i.body
           (ap (λ info. take (body_size z.member.body) (drop (to (places p ms) z.member.offset) info)) w.info ∙ bytes);
     })
 

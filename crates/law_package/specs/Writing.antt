@@ -48,8 +48,8 @@ AreMembersOf info (s ∷ ss) [] = ⊥
 AreMembersOf info (s ∷ ss) (m ∷ ms) = IsMemberOf info s m × AreMembersOf info ss ms
 
 -- the code needs no more stack than one byte tells
-abbrev pub HasSmallStack : FormerMethod → Type 0
-HasSmallStack s = IfSome s.laid (λ laid. laid.max_stack < 256)
+abbrev pub LaidHasSmallStack : FormerMethod → Type 0
+LaidHasSmallStack s = IfSome s.laid (λ laid. laid.max_stack < 256)
 
 -- where each method is written, by its former offset
 abbrev pub places : PackageRecord → List WrittenMember → List (Option NewMethod)
@@ -60,7 +60,7 @@ places p ms = new_places (length p.methods.info) (length p.methods.handlers) ms
 -- q is what is written: the Method component anew, offsets of methods renewed in the others, and all else as it was
 pub record IsWrittenAnew (p : PackageRecord) (laid : List (Option Laid)) (ms : List WrittenMember) (q : PackageRecord) : Type 0 where
   pub each : length laid ≡ length (methods_of p.description.items.classes)
-  pub stacks : All HasSmallStack (sources p laid)
+  pub stacks : All LaidHasSmallStack (sources p laid)
   pub members : AreMembersOf p.methods.info (sources p laid) ms
   pub may : MayBeWritten (length p.methods.info) ms
   pub info : q.methods.info ≡ written_info (length p.methods.info) (length p.methods.handlers) ms
