@@ -37,7 +37,7 @@ use Rattle.law_laid.specs.Laid.{class_by}
 use Rattle.law_rewritten_typing.specs.Typed.{registers_of}
 use Rattle.law_rewritten_typing.proofs.Walks.{nothing_asked, emptied, catching, count}
 use Rattle.law_rewritten_typing.proofs.Ready.{IsReady}
-use Rattle.law_rewritten_typing.specs.Premises.{AreLaws}
+use Rattle.law_rewritten_typing.specs.Premises.{AreTypingLaws}
 use Rattle.law_rewritten_typing.proofs.Running.{IsRecordFor}
 use Rattle.law_rewritten_typing.proofs.Listings.{filled}
 use Rattle.xf_emission.proofs.Ways.{way-found}
@@ -49,7 +49,7 @@ use Rattle.law_rewritten_typing.proofs.Ordered.{ranges-filled, handlers-are}
 use Rattle.law_rewritten_typing.proofs.Others.{no-others}
 use Rattle.law_rewritten_typing.proofs.Named.{Names, items-name}
 
-module _ (s : Source) (l : AreLaws s.world) (ready : IsReady s) (code : IsCode s) (mo : IsMethodOf s.world s.method)
+module _ (s : Source) (l : AreTypingLaws s.world) (ready : IsReady s) (code : IsCode s) (mo : IsMethodOf s.world s.method)
     (r : MethodRec) (own_rec : IsRecordFor s.method.rec r) where
   res : IfSome s.method.rec.sig.result (IsDeclared s.world.classes)
   res = (of_world s.world l.rules s.method mo).result

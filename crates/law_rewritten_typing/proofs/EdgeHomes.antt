@@ -42,7 +42,7 @@ use Rattle.law_rewritten_typing.proofs.Walks.{Asked, nothing_asked}
 use Rattle.law_rewritten_typing.proofs.Moves.{IsPlainValue}
 use Rattle.law_rewritten_typing.proofs.Ready.{IsReady, value-is, value-plain, framed, reached, found, needed-are}
 use Rattle.law_rewritten_typing.proofs.Registers.{kept-ready, arguments-known, arguments-full, arguments-ready}
-use Rattle.law_rewritten_typing.specs.Premises.{AreLaws}
+use Rattle.law_rewritten_typing.specs.Premises.{AreTypingLaws}
 use Rattle.law_rewritten_typing.proofs.Carried.{is-high}
 use Rattle.law_rewritten_typing.proofs.Matching.{home-one, home-int}
 use Rattle.law_rewritten_typing.proofs.Below.{value-moved, value-before, value-below, loads-same, unwritten, unspoiled}
@@ -116,7 +116,7 @@ fills slot pre _ over (one_cell {a = a} {types = us} h is) top =
 
 -- ---- places and edges
 
-module _ (s : Source) (l : AreLaws s.world) (plan : IsPlanned s) where
+module _ (s : Source) (l : AreTypingLaws s.world) (plan : IsPlanned s) where
   abbrev asks : ℕ → Asked
   asks n = nothing_asked
 
@@ -345,12 +345,12 @@ module _ (s : Source) (l : AreLaws s.world) (plan : IsPlanned s) where
   carry _ _ x h (leads_after {i = i} {op = op} {q = q} st there is succ) a = on-after i op q x h st there is succ a
   carry _ _ x h (leads_entry {q = q} there) a = inr (on-entry q x h there a)
 
-module _ (w : Linked) (laws : AreLaws w) where
+module _ (w : Linked) (laws : AreTypingLaws w) where
   pub needed-have-homes : NeededHaveHomes w
-  needed-have-homes s own plan = needed-for s (subst AreLaws (sym own) laws) plan
+  needed-have-homes s own plan = needed-for s (subst AreTypingLaws (sym own) laws) plan
 
   pub cells-fill-stack : CellsFillStack w
-  cells-fill-stack s own plan = fill-stack s (subst AreLaws (sym own) laws) plan
+  cells-fill-stack s own plan = fill-stack s (subst AreTypingLaws (sym own) laws) plan
 
   pub edges-carry : EdgesCarry w
-  edges-carry s own plan = carry s (subst AreLaws (sym own) laws) plan
+  edges-carry s own plan = carry s (subst AreTypingLaws (sym own) laws) plan

@@ -44,13 +44,13 @@ use Rattle.law_rewritten_typing.proofs.Carried.{carries-after, carries-entry}
 use Rattle.law_rewritten_typing.proofs.Registers.{kept-ready}
 use Rattle.law_rewritten_typing.proofs.Cuts.{IsForked, IsCut}
 use Rattle.law_rewritten_typing.proofs.Matching.{matched}
-use Rattle.law_rewritten_typing.specs.Premises.{AreLaws}
+use Rattle.law_rewritten_typing.specs.Premises.{AreTypingLaws}
 use Rattle.law_rewritten_typing.proofs.Running.{IsRecordFor, IsRun}
 use Rattle.law_rewritten_typing.proofs.Leading.{fit-at, cells-are, cells-stand, spill-at, named-at, goto-flows, is-kept, below-lesser, emptied_there}
 use Rattle.law_rewritten_typing.proofs.Leading.{falls_there, FallsInto, fall-arrives}
 use Rattle.law_rewritten_typing.proofs.ForkTypings.{each-left, all-right, empty-is, named-all, fork, depth-is, keeps-over, cut-at, stand-cut}
 
-module _ (new : ℕ → ℕ) (apart : (a b : ℕ) → new a ≡ new b → a ≡ b) (s : Source) (l : AreLaws s.world) (ready : IsReady s) (r : MethodRec)
+module _ (new : ℕ → ℕ) (apart : (a b : ℕ) → new a ≡ new b → a ≡ b) (s : Source) (l : AreTypingLaws s.world) (ready : IsReady s) (r : MethodRec)
     (own_rec : IsRecordFor s.method.rec r) (asks : ℕ → Asked) (res : IfSome s.method.rec.sig.result (IsDeclared s.world.classes)) (code : IsCode s)
   where
     abbrev Going : List Ty → List Item → List Ty → Type 0

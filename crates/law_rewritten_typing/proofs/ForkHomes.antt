@@ -37,7 +37,7 @@ use Rattle.law_rewritten_typing.specs.Planned.{IsPlanned, KeepsValues}
 use Rattle.law_rewritten_typing.specs.Edges.{AreMatched, none_matched, more_matched, IsForkedAt, ForksAreCut, ForksMatch}
 use Rattle.law_rewritten_typing.specs.Typed.{registers_of}
 use Rattle.law_rewritten_typing.proofs.Walks.{Asked, nothing_asked}
-use Rattle.law_rewritten_typing.specs.Premises.{AreLaws}
+use Rattle.law_rewritten_typing.specs.Premises.{AreTypingLaws}
 use Rattle.law_rewritten_typing.proofs.Cuts.{IsForked, IsCut}
 use Rattle.law_rewritten_typing.proofs.ForkTypings.{fork, cut-at, depth-is, keeps-over, all-right, each-left}
 use Rattle.law_rewritten_typing.proofs.Listings.{IsReachedRun, run-of}
@@ -53,7 +53,7 @@ conditional-of s (ops.Branch b) n e = tt
 conditional-of s (ops.Switch type_width) n e = tt
 conditional-of s op n e = absurd (cc)
 
-module _ (s : Source) (l : AreLaws s.world) where
+module _ (s : Source) (l : AreTypingLaws s.world) where
   -- the homes of two lists of whole values, one below the other
   matched-homes :
       (slot : ℕ) (pre before : List Ty) {xs ys : List Ty} (over : List Ty) → length pre ≡ length before → AreWhole xs
@@ -108,7 +108,7 @@ module _ (s : Source) (l : AreLaws s.world) where
       (sym right_is)
       (more_matched slots a2.0 b2.0 (loads-same s.world.classes l.rules.types u p le (All-head IsNotBottom u us full) (All-head IsNotTop p vs top2)) rest))
 
-module _ (s : Source) (l : AreLaws s.world) (plan : IsPlanned s) where
+module _ (s : Source) (l : AreTypingLaws s.world) (plan : IsPlanned s) where
   abbrev new : ℕ → ℕ
   new n = n
 
@@ -222,12 +222,12 @@ module _ (s : Source) (l : AreLaws s.world) (plan : IsPlanned s) where
         (cells_from (register_count s.method.rec) (reverse k.after.stack ++ reverse forked.operands) 0 (length (reverse k.after.stack))) ks)
         (sym second) m)
 
-module _ (w : Linked) (laws : AreLaws w) where
+module _ (w : Linked) (laws : AreTypingLaws w) where
   pub forks-are-cut : ForksAreCut w
   forks-are-cut s own plan i op n f st at names some =
-      forked-at s (subst AreLaws (sym own) laws) plan i op n f st at names some
+      forked-at s (subst AreTypingLaws (sym own) laws) plan i op n f st at names some
 
   pub forks-match : ForksMatch w
   forks-match s own plan i op n q f st at names some succ lead =
-      matched-at s (subst AreLaws (sym own) laws) plan i op n f st at names some q succ
+      matched-at s (subst AreTypingLaws (sym own) laws) plan i op n f st at names some q succ
       lead

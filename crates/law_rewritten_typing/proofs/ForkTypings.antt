@@ -50,7 +50,7 @@ use Rattle.law_rewritten_typing.proofs.Turns.{IsLesser, kept-resolves}
 use Rattle.law_rewritten_typing.proofs.Registers.{conditional-ready, all-left}
 use Rattle.law_rewritten_typing.proofs.Rows.{wide-is}
 use Rattle.law_rewritten_typing.proofs.Cuts.{IsForked, forked, IsCut, cut-is}
-use Rattle.law_rewritten_typing.specs.Premises.{AreLaws}
+use Rattle.law_rewritten_typing.specs.Premises.{AreTypingLaws}
 use Rattle.law_rewritten_typing.proofs.Running.{IsRecordFor, IsRun}
 use Rattle.law_rewritten_typing.proofs.Leading.{cells-stand, cells-pushed, spill-at, named-at}
 
@@ -94,7 +94,7 @@ named-all new apart (x ∷ xs) all =
     one (Fresh p c) h = absurd h
     one a h = refl
 
-module _ (new : ℕ → ℕ) (apart : (a b : ℕ) → new a ≡ new b → a ≡ b) (s : Source) (l : AreLaws s.world) (ready : IsReady s) (r : MethodRec)
+module _ (new : ℕ → ℕ) (apart : (a b : ℕ) → new a ≡ new b → a ≡ b) (s : Source) (l : AreTypingLaws s.world) (ready : IsReady s) (r : MethodRec)
     (own_rec : IsRecordFor s.method.rec r) (asks : ℕ → Asked) (res : IfSome s.method.rec.sig.result (IsDeclared s.world.classes)) (code : IsCode s)
   where
     abbrev regs : List Ty

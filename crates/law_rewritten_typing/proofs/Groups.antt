@@ -25,7 +25,7 @@ use Rattle.law_rewritten_typing.proofs.Walks.{State, holding, left, Asked, nothi
 use Rattle.law_rewritten_typing.proofs.Ready.{IsReady}
 use Rattle.law_rewritten_typing.proofs.Renames.{named}
 use Rattle.law_rewritten_typing.proofs.Turns.{IsLesser}
-use Rattle.law_rewritten_typing.specs.Premises.{AreLaws}
+use Rattle.law_rewritten_typing.specs.Premises.{AreTypingLaws}
 use Rattle.law_rewritten_typing.proofs.Running.{IsRecordFor, IsRun, IsPassed, kept-passed, load-passed}
 use Rattle.law_rewritten_typing.proofs.Storing.{increment-passed, store-passed}
 use Rattle.law_rewritten_typing.proofs.This.{read-passed, write-passed}
@@ -33,7 +33,7 @@ use Rattle.law_rewritten_typing.proofs.Leading.{Arrives, FallsInto, fall-arrives
 use Rattle.law_rewritten_typing.proofs.ForkTypings.{branch-flows}
 use Rattle.law_rewritten_typing.proofs.Edges.{fork-falls, gone-flows}
 
-module _ (new : ℕ → ℕ) (apart : (a b : ℕ) → new a ≡ new b → a ≡ b) (s : Source) (l : AreLaws s.world) (ready : IsReady s) (r : MethodRec)
+module _ (new : ℕ → ℕ) (apart : (a b : ℕ) → new a ≡ new b → a ≡ b) (s : Source) (l : AreTypingLaws s.world) (ready : IsReady s) (r : MethodRec)
     (own_rec : IsRecordFor s.method.rec r) (asks : ℕ → Asked) (res : IfSome s.method.rec.sig.result (IsDeclared s.world.classes)) (code : IsCode s)
   where
     -- the frame at a place to which control goes is above what is left

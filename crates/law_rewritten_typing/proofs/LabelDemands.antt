@@ -17,7 +17,7 @@ use Rattle.xf_emission.proofs.TwoBytes.{two-bytes}
 use Rattle.xf_emission.proofs.Ways.{ways-few}
 use Rattle.law_rewritten_typing.proofs.Walks.{Asked, nothing_asked, emptied, catching}
 use Rattle.law_rewritten_typing.proofs.Ready.{IsReady}
-use Rattle.law_rewritten_typing.specs.Premises.{AreLaws}
+use Rattle.law_rewritten_typing.specs.Premises.{AreTypingLaws}
 use Rattle.law_rewritten_typing.proofs.Running.{IsRecordFor}
 use Rattle.law_rewritten_typing.proofs.Rewriting.{AreWanted}
 
@@ -54,7 +54,7 @@ at-handler s n =
     (slice_get s.method.rec.handlers (49152 + n - 49152))) e
     ∙ ap (λ (b : Bool). if b then emptied else caught_by (slice_get s.method.rec.handlers (49152 + n - 49152))) f ∙ h
 
-module _ (new : ℕ → ℕ) (apart : (a b : ℕ) → new a ≡ new b → a ≡ b) (s : Source) (l : AreLaws s.world) (ready : IsReady s) (r : MethodRec)
+module _ (new : ℕ → ℕ) (apart : (a b : ℕ) → new a ≡ new b → a ≡ b) (s : Source) (l : AreTypingLaws s.world) (ready : IsReady s) (r : MethodRec)
     (own_rec : IsRecordFor s.method.rec r) (res : IfSome s.method.rec.sig.result (IsDeclared s.world.classes)) (code : IsCode s) where
   reached-inside : (q : ℕ) → IsReached s.method q → q < length s.method.code
   reached-inside q there =

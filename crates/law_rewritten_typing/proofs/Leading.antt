@@ -45,7 +45,7 @@ use Rattle.law_rewritten_typing.proofs.Carried.{carries-after}
 use Rattle.law_rewritten_typing.proofs.Registers.{not-fresh, kept-ready}
 use Rattle.law_rewritten_typing.proofs.Rows.{goto-is}
 use Rattle.law_rewritten_typing.proofs.Turns.{IsLesser}
-use Rattle.law_rewritten_typing.specs.Premises.{AreLaws}
+use Rattle.law_rewritten_typing.specs.Premises.{AreTypingLaws}
 use Rattle.law_rewritten_typing.proofs.Running.{IsRecordFor, IsRun}
 
 -- under cells that are ready no cell is an uninitialised object
@@ -60,7 +60,7 @@ named-under new apart t types (more_cells {a = a} {b = b} {xs = xs} {ys = ys} p 
     ap (λ (u : Ty). u ∷ map (named new apart) xs) (named-one new apart a (not-fresh t types a b p (All-head IsNotFresh b ys f) (All-head IsNotTop b ys n)))
     ∙ ap (λ (us : List Ty). a ∷ us) (named-under new apart t types ps (All-tail IsNotFresh b ys f) (All-tail IsNotTop b ys n))
 
-module _ (new : ℕ → ℕ) (apart : (a b : ℕ) → new a ≡ new b → a ≡ b) (s : Source) (l : AreLaws s.world) (ready : IsReady s) (r : MethodRec)
+module _ (new : ℕ → ℕ) (apart : (a b : ℕ) → new a ≡ new b → a ≡ b) (s : Source) (l : AreTypingLaws s.world) (ready : IsReady s) (r : MethodRec)
     (own_rec : IsRecordFor s.method.rec r) (asks : ℕ → Asked) (res : IfSome s.method.rec.sig.result (IsDeclared s.world.classes)) (code : IsCode s)
   where
     -- ---- the homes of a stack that is kept

@@ -25,13 +25,13 @@ use Rattle.xf_emission.specs.Group.{first_place, entrance, body, fallen, done, g
 use Rattle.law_rewritten_typing.specs.Typed.{registers_of}
 use Rattle.law_rewritten_typing.proofs.Walks.{State, left, Asked, nothing_asked, emptied, Flows, flow_end, flows-append, count, count-append}
 use Rattle.law_rewritten_typing.proofs.Ready.{IsReady, framed, reached}
-use Rattle.law_rewritten_typing.specs.Premises.{AreLaws}
+use Rattle.law_rewritten_typing.specs.Premises.{AreTypingLaws}
 use Rattle.law_rewritten_typing.proofs.Running.{IsRecordFor, IsRun}
 use Rattle.law_rewritten_typing.proofs.Leading.{fit-at, Arrives, only_elsewhere}
 use Rattle.law_rewritten_typing.proofs.Numbers.{IsNumbered, AreFilled, body-some}
 use Rattle.law_rewritten_typing.proofs.Groups.{IsAbove, LeadsOn, IsGone, group-flows}
 
-module _ (new : ℕ → ℕ) (apart : (a b : ℕ) → new a ≡ new b → a ≡ b) (s : Source) (l : AreLaws s.world) (ready : IsReady s) (r : MethodRec)
+module _ (new : ℕ → ℕ) (apart : (a b : ℕ) → new a ≡ new b → a ≡ b) (s : Source) (l : AreTypingLaws s.world) (ready : IsReady s) (r : MethodRec)
     (own_rec : IsRecordFor s.method.rec r) (asks : ℕ → Asked) (res : IfSome s.method.rec.sig.result (IsDeclared s.world.classes)) (code : IsCode s)
   where
     -- ---- an instruction that control reaches

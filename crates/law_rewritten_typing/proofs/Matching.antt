@@ -20,7 +20,7 @@ use Rattle.law_rewritten_typing.proofs.Stacks.{Stands, int-value, low-none, one-
 use Rattle.law_rewritten_typing.proofs.Ready.{IsReady}
 use Rattle.law_rewritten_typing.proofs.Copies.{AreUnder, none_under, more_under}
 use Rattle.law_rewritten_typing.proofs.WholeStacks.{high-only, low-only, no-half-above}
-use Rattle.law_rewritten_typing.specs.Premises.{AreLaws}
+use Rattle.law_rewritten_typing.specs.Premises.{AreTypingLaws}
 
 pub home-one : (slot : ℕ) (pre : List Ty) (a : Ty) (us : List Ty) (k : ℕ) → IsNoHalf a → IsNotTop a
     → cells_from slot (pre ++ a ∷ us) (length pre) (suc k) ≡ record { slot = slot + length pre; ty = a } ∷ cells_from slot ((pre ++ a ∷ []) ++ us)
@@ -51,7 +51,7 @@ home-int slot pre us k =
     ∙ ap (λ (ts : List Ty). record { slot = slot + length pre; ty = IntHigh } ∷ cells_from slot ts (length (pre ++ IntHigh ∷ IntLow ∷ [])) k)
     (sym shape2)
 
-module _ (s : Source) (l : AreLaws s.world) (ready : IsReady s) (r : MethodRec) (asks : ℕ → Asked) where
+module _ (s : Source) (l : AreTypingLaws s.world) (ready : IsReady s) (r : MethodRec) (asks : ℕ → Asked) where
   abbrev Standing : List Home → Type 0
   Standing hs = Each (Stands s l.objects r (registers_of s.homes) asks) hs
 

@@ -37,13 +37,13 @@ use Rattle.law_rewritten_typing.proofs.Walks.{holding, left, Asked, nothing_aske
 use Rattle.law_rewritten_typing.proofs.Ready.{IsReady, framed, reached}
 use Rattle.law_rewritten_typing.proofs.Copies.{copies-go}
 use Rattle.law_rewritten_typing.proofs.Carried.{carries-start}
-use Rattle.law_rewritten_typing.specs.Premises.{AreLaws}
+use Rattle.law_rewritten_typing.specs.Premises.{AreTypingLaws}
 use Rattle.law_rewritten_typing.proofs.Running.{IsRecordFor}
 use Rattle.law_rewritten_typing.proofs.Leading.{Arrives, emptied_there, falls_there}
 use Rattle.law_rewritten_typing.proofs.Edges.{stub-flows, caught-flows}
 use Rattle.law_rewritten_typing.proofs.Listings.{IsReachedRun, run-of, IsBefore, Numbered, groups-flow}
 
-module _ (new : ℕ → ℕ) (apart : (a b : ℕ) → new a ≡ new b → a ≡ b) (s : Source) (l : AreLaws s.world) (ready : IsReady s) (r : MethodRec)
+module _ (new : ℕ → ℕ) (apart : (a b : ℕ) → new a ≡ new b → a ≡ b) (s : Source) (l : AreTypingLaws s.world) (ready : IsReady s) (r : MethodRec)
     (own_rec : IsRecordFor s.method.rec r) (asks : ℕ → Asked) (res : IfSome s.method.rec.sig.result (IsDeclared s.world.classes)) (code : IsCode s)
   where
     -- what the labels of the method ask

@@ -11,7 +11,7 @@ use Rattle.xf_emission.specs.Emission.{rewritten}
 use Rattle.law_laid.specs.Laid.{record_with}
 use Rattle.law_rewritten_typing.specs.Laws.{RewrittenIsTyped}
 use Rattle.law_rewritten_typing.proofs.Ready.{IsReady}
-use Rattle.law_rewritten_typing.specs.Premises.{AreLaws}
+use Rattle.law_rewritten_typing.specs.Premises.{AreTypingLaws}
 use Rattle.law_rewritten_typing.proofs.Running.{IsRecordFor}
 use Rattle.law_rewritten_typing.proofs.AskedAsNamed.{are-asked}
 use Rattle.law_rewritten_typing.proofs.Whole.{rewritten-typed}
@@ -20,9 +20,9 @@ pub record-for : (s : Source) → IsRecordFor s.method.rec (record_with s.method
 unfolding rewritten
 record-for s = record { room = refl; home = refl; sig = refl }
 
-pub rewritten-is-typed : (w : Linked) → AreLaws w → RewrittenIsTyped w
+pub rewritten-is-typed : (w : Linked) → AreTypingLaws w → RewrittenIsTyped w
 rewritten-is-typed w laws s own code has mo flow derived marks are few =
-    let l : AreLaws s.world = subst AreLaws (sym own) laws in
+    let l : AreTypingLaws s.world = subst AreTypingLaws (sym own) laws in
     let ready : IsReady s = record {
       typing = flow;
       has = has;

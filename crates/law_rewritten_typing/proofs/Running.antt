@@ -39,7 +39,7 @@ use Rattle.xf_homes.specs.Source.{Source}
 use Rattle.xf_homes.specs.Plan.{home_of, register}
 use Rattle.xf_emission.specs.Move.{load}
 use Rattle.xf_emission.specs.Group.{body, itself, loaded}
-use Rattle.law_rewritten_typing.specs.Premises.{AreLaws}
+use Rattle.law_rewritten_typing.specs.Premises.{AreTypingLaws}
 use Rattle.law_rewritten_typing.specs.Typed.{registers_of}
 use Rattle.law_rewritten_typing.proofs.Walks.{holding, left, Asked, Flows, flow_plain, flow_end}
 use Rattle.law_rewritten_typing.proofs.Moves.{IsPlainValue, cells_on, load-turn, get-reg}
@@ -170,7 +170,7 @@ module _ (new : ℕ → ℕ) (apart : (a b : ℕ) → new a ≡ new b → a ≡ 
   cells-named IntHigh h = refl
   cells-named ty h = refl
 
-module _ (new : ℕ → ℕ) (apart : (a b : ℕ) → new a ≡ new b → a ≡ b) (s : Source) (l : AreLaws s.world) (ready : IsReady s) (r : MethodRec)
+module _ (new : ℕ → ℕ) (apart : (a b : ℕ) → new a ≡ new b → a ≡ b) (s : Source) (l : AreTypingLaws s.world) (ready : IsReady s) (r : MethodRec)
     (own_rec : IsRecordFor s.method.rec r) (asks : ℕ → Asked) (res : IfSome s.method.rec.sig.result (IsDeclared s.world.classes)) where
   -- the items take a stack below that of the frame to one below that of what the operation leaves, where it falls through
   pub record IsPassed (n : ℕ) (xs : List Item) (op : Operation) (st : List Ty) (after : Frame) : Type 0 where

@@ -54,7 +54,7 @@ use Rattle.law_rewritten_typing.proofs.Renames.{named}
 use Rattle.law_rewritten_typing.proofs.Turns.{IsLesser}
 use Rattle.law_rewritten_typing.proofs.Carried.{is-short, is-high, is-low, set-other}
 use Rattle.law_rewritten_typing.proofs.Rows.{increased-at, pop-is, pop-two-is}
-use Rattle.law_rewritten_typing.specs.Premises.{AreLaws}
+use Rattle.law_rewritten_typing.specs.Premises.{AreTypingLaws}
 use Rattle.law_rewritten_typing.proofs.Running.{IsRecordFor, IsRun, IsPassed, has-room, is-reference, found-below, value-one, value-int, local-at}
 
 -- ---- the top of a stack
@@ -145,7 +145,7 @@ module _ (t : ClassTable) (types : IsOrderOfTypes t) where
       by Top at p = absurd (is.no_top (over-top b ((types.decided Top b).1 p)))
       by a at p = (a, value-one xs x a at tt tt)
 
-module _ (new : ℕ → ℕ) (apart : (a b : ℕ) → new a ≡ new b → a ≡ b) (s : Source) (l : AreLaws s.world) (ready : IsReady s) (r : MethodRec)
+module _ (new : ℕ → ℕ) (apart : (a b : ℕ) → new a ≡ new b → a ≡ b) (s : Source) (l : AreTypingLaws s.world) (ready : IsReady s) (r : MethodRec)
     (own_rec : IsRecordFor s.method.rec r) (asks : ℕ → Asked) (res : IfSome s.method.rec.sig.result (IsDeclared s.world.classes)) where
   abbrev Flowing : ℕ → List Ty → List Item → List Ty → Type 0
   Flowing n a xs b = Flows s.world r (registers_of s.homes) asks n (holding a) xs (holding b)

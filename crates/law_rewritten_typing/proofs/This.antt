@@ -56,7 +56,7 @@ use Rattle.law_rewritten_typing.proofs.Turns.{IsLesser, kept-resolves}
 use Rattle.law_rewritten_typing.proofs.Carried.{is-high, is-low}
 use Rattle.law_rewritten_typing.proofs.Rows.{read-on-stack, write-on-stack, swap-one-is, swap-two-is}
 use Rattle.law_rewritten_typing.proofs.Storing.{has-top}
-use Rattle.law_rewritten_typing.specs.Premises.{AreLaws}
+use Rattle.law_rewritten_typing.specs.Premises.{AreTypingLaws}
 use Rattle.law_rewritten_typing.proofs.Running.{IsRecordFor, IsRun, IsPassed, has-room, IsReferenceIn, is-reference, found-below, value-one, local-at}
 use Rattle.law_rewritten_typing.proofs.Running.{push-lesser}
 
@@ -100,7 +100,7 @@ value-held : (t : ClassTable) (ty : Ty) (regs others st : List Ty) (d : Demand)
 value-held t IntHigh regs others st d h f = (h.0, (h.1.0, f h.1.1))
 value-held t ty regs others st d h f = (h.0, f h.1)
 
-module _ (new : ℕ → ℕ) (apart : (a b : ℕ) → new a ≡ new b → a ≡ b) (s : Source) (l : AreLaws s.world) (ready : IsReady s) (r : MethodRec)
+module _ (new : ℕ → ℕ) (apart : (a b : ℕ) → new a ≡ new b → a ≡ b) (s : Source) (l : AreTypingLaws s.world) (ready : IsReady s) (r : MethodRec)
     (own_rec : IsRecordFor s.method.rec r) (asks : ℕ → Asked) (res : IfSome s.method.rec.sig.result (IsDeclared s.world.classes)) where
   abbrev Flowing : ℕ → List Ty → List Item → List Ty → Type 0
   Flowing n a xs b = Flows s.world r (registers_of s.homes) asks n (holding a) xs (holding b)

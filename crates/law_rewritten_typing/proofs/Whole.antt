@@ -14,7 +14,7 @@ use Rattle.law_rewritten_typing.specs.Typed.{HasTypingByHomes, registers_of}
 use Rattle.law_rewritten_typing.proofs.Walks.{count}
 use Rattle.law_rewritten_typing.proofs.Ready.{IsReady}
 use Rattle.law_rewritten_typing.proofs.Registers.{arguments-known, arguments-full, arguments-ready, registers-known, registers-ready, registers-declared}
-use Rattle.law_rewritten_typing.specs.Premises.{AreLaws}
+use Rattle.law_rewritten_typing.specs.Premises.{AreTypingLaws}
 use Rattle.law_rewritten_typing.proofs.Running.{IsRecordFor}
 use Rattle.law_rewritten_typing.proofs.Numbers.{numbered, numbered-apart, numbered-is}
 use Rattle.law_rewritten_typing.proofs.Listings.{filled}
@@ -22,7 +22,7 @@ use Rattle.law_rewritten_typing.proofs.Rewriting.{AreArguments, items-flow}
 use Rattle.law_rewritten_typing.proofs.LabelDemands.{asks_of, are-wanted}
 use Rattle.law_rewritten_typing.proofs.Typings.{AreAsked, stacks, walk-types}
 
-module _ (s : Source) (l : AreLaws s.world) (ready : IsReady s) (code : IsCode s) (mo : IsMethodOf s.world s.method)
+module _ (s : Source) (l : AreTypingLaws s.world) (ready : IsReady s) (code : IsCode s) (mo : IsMethodOf s.world s.method)
     (are : AreHomes s.world s.method s.frames s.homes) where
   pub rewritten-typed : AreAsked s.world s.method.rec s.method.code (rewritten s) (registers_of s.homes) (asks_of s)
       → HasTypingByHomes s.world s.method s.homes (rewritten s)

@@ -11,7 +11,7 @@ use Rattle.jc_rules.specs.Whole.{OperationKeepsWhole}
 use Rattle.law_rewritten_typing.specs.Whole.{DerivedAreWhole}
 
 -- the laws of worlds and of rules that a card typing of rewritten code rests on
-pub record AreLaws (w : Linked) : Type 0 where
+pub record AreTypingLaws (w : Linked) : Type 0 where
   pub objects : ClassesAreObjects w.classes
   pub rules : AreRules w
   pub alike : OperationsGoAlike w

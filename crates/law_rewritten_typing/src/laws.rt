@@ -1,6 +1,6 @@
 ghost use Rattle.law_rewritten_typing.specs.Edges.{CellsFillStack, EdgesCarry, ForksAreCut, ForksMatch, NeededHaveHomes};
 ghost use Rattle.law_rewritten_typing.specs.Laws.{RewrittenIsTyped};
-ghost use Rattle.law_rewritten_typing.specs.Premises.{AreLaws};
+ghost use Rattle.law_rewritten_typing.specs.Premises.{AreTypingLaws};
 ghost use Rattle.law_rewritten_typing.specs.Whole.{DerivedAreWhole};
 
 use jc_base::{World, subclasses_extend};
@@ -18,7 +18,7 @@ pub fn derived_are_whole(world: &World<'_>)
 
 /// What the typing of rewritten code rests on holds of each world.
 pub(crate) fn premises_hold(world: &World<'_>)
-    ensures { AreLaws world.now }
+    ensures { AreTypingLaws world.now }
 {
     subclasses_extend(world.classes());
     operations_are_sound(world);
