@@ -1,6 +1,6 @@
-ghost use Rattle.std.specs.Prelude.{◌≡◌, ◌<◌, [], IfSome, length, slice_get};
+ghost use Rattle.std.specs.Prelude.{◌≡◌, ◌<◌, [], IfSome, length};
 ghost use Rattle.jc_base.specs.Class.{IsClass};
-ghost use Rattle.jc_base.specs.Dispatch.{entry_at, package_of};
+ghost use Rattle.jc_base.specs.Dispatch.{package_of};
 ghost use Rattle.jc_resolve.specs.Numbering.{numbered_classes};
 ghost use Rattle.jc_link.specs.Sites.{all_entered};
 ghost use Rattle.jc_link.specs.Entries.{field_place, method_place};
@@ -9,7 +9,7 @@ ghost use Rattle.jc_link.specs.Members.{class_member, proper_referred, virtual_m
 use crate::sites::{Sites, Spot};
 use cap_bytes::ClassReference;
 use cap_pool::StaticReference;
-use jc_base::{Classes, Dispatch, Member, Statics};
+use jc_base::{Classes, Member, Statics};
 use jc_resolve::{Names, RecordPlace};
 
 /// The class or interface that a Classref names.
@@ -46,25 +46,6 @@ pub(crate) fn proper_referred(
     }
 }
 
-fn number_at(list: &Dispatch, n: usize) -> Option<u16>
-    ensures { result ≡ slice_get list.now n }
-{
-    list.as_slice().get(n).copied()
-}
-
-/// The entry of a class's own dispatch lists at a token.
-fn entry_at(classes: &Classes, class: u16, token: u8) -> Option<u16>
-    requires { class < length classes.now.records }
-    ensures { result ≡ entry_at classes.now class token }
-{
-    let record = classes.at(class);
-    if token < 128 {
-        number_at(&record.public, token as usize)
-    } else {
-        number_at(&record.visible, token as usize - 128)
-    }
-}
-
 /// The token of a class that a VirtualMethodref names.
 #[tactic(auto, unfolding(crate::specs::Members::virtual_member, crate::specs::Members::virtual_by))]
 pub(crate) fn virtual_member(
@@ -78,7 +59,7 @@ pub(crate) fn virtual_member(
     ensures { result ≡ virtual_member names.now.packages classes.now «package» reference token }
 {
     let class = proper_referred(names, classes, package, reference)?;
-    let _method = entry_at(classes, class, token)?;
+    let _method = classes.entry_at(class, token)?;
     Some(Member::Virtual { class, token })
 }
 
@@ -109,7 +90,7 @@ fn super_of(classes: &Classes, class: u16, token: u8) -> Option<Member>
     if !may_name(classes, class, token, parent) {
         return None;
     }
-    let method = entry_at(classes, parent, token)?;
+    let method = classes.entry_at(parent, token)?;
     Some(Member::Super { class, method })
 }
 

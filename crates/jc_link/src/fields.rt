@@ -13,7 +13,7 @@ use crate::sites::{Sites, Spot};
 use cap_bytes::ClassReference;
 use cap_package::Package;
 use jc_base::{Classes, Member};
-use jc_resolve::{Names, OwnField, width};
+use jc_resolve::{Names, OwnField};
 use std::alloc::{AllocError, Global};
 
 /// How many cells the superclass of a class has.
@@ -40,7 +40,7 @@ fn cells_before(fields: &[OwnField], token: u8) -> u32
     let mut cells: u32 = 0;
     'fields: for field in fields {
         if field.token < token {
-            cells += width(field.kind);
+            cells += u32::from(field.kind.width());
         }
     }
     cells

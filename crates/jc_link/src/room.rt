@@ -9,7 +9,7 @@ ghost use Rattle.jc_link.specs.Room.{statics_fault, arrays_fault};
 
 use cap_method::{ArrayInit, StaticPart};
 use cap_package::{Package, Packages};
-use jc_resolve::{LinkFault, kind_of, width};
+use jc_resolve::{LinkFault, kind_of};
 
 /// The type of elements that take one byte each, boolean being the other one.
 const BYTE: u8 = 3;
@@ -26,7 +26,7 @@ fn cells_of_package(package: &Package<'_, '_>) -> u32
 {
     let mut total: u32 = 0;
     'places: for place in package.static_places() {
-        total += width(kind_of(place.ty));
+        total += u32::from(kind_of(place.ty).width());
     }
     total
 }

@@ -14,7 +14,7 @@ use crate::image::words_at;
 use cap_method::StaticPart;
 use cap_package::{Package, Packages, StaticPlace};
 use jc_base::{StaticRec, Statics, Ty};
-use jc_resolve::{Names, kind_of, width};
+use jc_resolve::{Names, kind_of};
 use std::alloc::{AllocError, Global};
 
 /// A package among all: its number, and the handle of its first initial array.
@@ -91,7 +91,7 @@ fn push_statics(
         // There are as many types as places.
         if let Some((ty, others)) = types.split_first() {
             push_static(alloc, records, home, slot as u16, &statics, place, *ty)?;
-            slot += width(kind_of(place.ty));
+            slot += u32::from(kind_of(place.ty).width());
             types = others;
         }
     }
