@@ -33,4 +33,4 @@ pub use names_type::Names;
 pub use naming::names;
 pub use own_field::OwnField;
 pub use place::RecordPlace;
-pub use world_types::{kind_of, width};
+pub use world_types::kind_of;

@@ -1,6 +1,5 @@
 ghost use Rattle.std.specs.Prelude.{◌≡◌, ◌<◌, ◌∷◌, [], ◌++◌, IfOk, IfSome, OnOk, flat_map, length};
 ghost use Rattle.cap_desc.specs.TypeLists.{types_left};
-ghost use Rattle.jc_base.specs.Cell.{width};
 ghost use Rattle.jc_resolve.specs.Conditions.{reference_of_type, references_of_types_at};
 ghost use Rattle.jc_resolve.specs.Homes.{object_at, description_at, least_at, type_class_at, type_at};
 ghost use Rattle.jc_resolve.specs.Numbering.{numbered_classes};
@@ -72,16 +71,6 @@ pub fn kind_of(item: TypeItem) -> Kind
         TypeItem::SHORT => Kind::Short,
         TypeItem::INT => Kind::Int,
         _ => Kind::Ref,
-    }
-}
-
-/// The cells of a field of a kind.
-pub fn width(kind: Kind) -> u32
-    ensures { result ≡ width kind }
-{
-    match kind {
-        Kind::Int => 2,
-        _ => 1,
     }
 }
 
