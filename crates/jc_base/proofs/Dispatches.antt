@@ -2,7 +2,7 @@
 use Rattle.std.proofs.Common.{◌≡◌, ℕ, ◌+◌, ◌-◌, ◌<◌, ◌≤◌, ◌⊎◌, inl, inr, Bool, true, false, List, [], ◌∷◌, ◌++◌}
 use Rattle.std.proofs.Common.{length, reverse, Option, Some, None, refl, sym, ap, subst, ◌∙◌, arith}
 use Rattle.std.specs.Prelude.{◌==◌, nat_lt, IfSome, IsSomeAnd, slice_get, flat_map, option_and_then}
-use Rattle.std.proofs.lemmas.Bool.{eqb-true, eq-eqb, lt-ltb, le-ltb}
+use Rattle.std.proofs.lemmas.Bool.{eqb-true, eq-eqb}
 use Rattle.std.proofs.lemmas.List.{append-nil, reverse-append, length-append}
 use Rattle.std.proofs.lemmas.List.Concat.{flat_map-append, flat_map-cons}
 use Rattle.std.proofs.lemmas.Option.{slice_get_within}
@@ -118,17 +118,6 @@ nearest-here t home c e =
 nearest-next : (t : ClassTable) (home c p : ℕ) → IsNextOnChain t c p → (package_of t c == home) ≡ false → visible_in t home c ≡ visible_in t home p
 unfolding visible_in nearest_of
 nearest-next t home c p next e = rw (next.chain_is, e) refl
-
--- an entry of a class's own lists, read from its record
-pub entry-public : (t : ClassTable) (c token : ℕ) (r : ClassRec) → slice_get t.records c ≡ Some r → token < 128
-    → slice_get r.public token ≡ entry_at t c token
-unfolding entry_at public_of
-entry-public t c token r e lt = rw (lt-ltb token 128 lt, e) refl
-
-pub entry-visible : (t : ClassTable) (c token : ℕ) (r : ClassRec) → slice_get t.records c ≡ Some r → 128 ≤ token
-    → slice_get r.visible (token - 128) ≡ entry_at t c token
-unfolding entry_at visible_of
-entry-visible t c token r e ge = rw (le-ltb token 128 ge, e) refl
 
 -- ---- the methods that an object runs
 
