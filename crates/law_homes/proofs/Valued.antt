@@ -17,7 +17,6 @@ use Rattle.jc_rules.specs.Demand.{SatisfiesAll}
 use Rattle.jc_rules.specs.Flow.{CellsBelow, IsNotTop}
 use Rattle.jc_rules.specs.Rule.{demands}
 use Rattle.vm_store.specs.declared.cell.Cell.{Cell}
-use Rattle.vm_store.specs.declared.cell.Cell.TheVariants.{Empty}
 use Rattle.vm_store.specs.declared.kind.ObjectKind.{ObjectKind}
 use Rattle.vm_store.specs.Typing.{least_type}
 use Rattle.vm_store.specs.Cells.{tagged}
@@ -39,9 +38,7 @@ asked_types t sorts.Short = Short ∷ []
 asked_types t sorts.Int = IntHigh ∷ IntLow ∷ []
 
 pub asked-size : (t : ClassTable) (letter : Sort) → length (asked_types t letter) ≡ size letter
-asked-size t sorts.Reference = refl
-asked-size t sorts.Short = refl
-asked-size t sorts.Int = refl
+asked-size t y = grind (arith)
 
 -- something was stored in the cell, and its least type is below this one
 abbrev pub IsCellOf : ClassTable → List ObjectKind → Ty → Cell → Type 0
@@ -115,35 +112,38 @@ pub load-asked :
     (w : Linked) (ks : List ObjectKind) (letter : Sort) (r : ℕ) (registers : List Cell) (stack : List Ty)
     → CellsAt w.classes ks registers r (asked_types w.classes letter)
     → SatisfiesAll w.classes (record { regs = least_types w.classes Bottom ks registers; stack = stack }) (demands w (Load letter r))
-load-asked w ks sorts.Reference r registers stack h = (
-  least-count w.classes ks registers (r + 1) (value-inside w.classes ks sorts.Reference registers r h),
-  (least-at w.classes ks registers r (Class (object w.classes)) h.0, tt),
-)
-load-asked w ks sorts.Short r registers stack h = (
-  least-count w.classes ks registers (r + 1) (value-inside w.classes ks sorts.Short registers r h),
-  (least-at w.classes ks registers r Short h.0, tt),
-)
-load-asked w ks sorts.Int r registers stack h = (
-  least-count w.classes ks registers (r + 2) (value-inside w.classes ks sorts.Int registers r h),
-  (least-at w.classes ks registers r IntHigh h.0, (least-at w.classes ks registers (r + 1) IntLow h.1.0, tt)),
-)
+load-asked w ks sorts.Reference r registers stack h =
+    grind (
+      arith,
+      least-count w.classes ks registers (r + 1) (value-inside w.classes ks sorts.Reference registers r h),
+      least-at w.classes ks registers r (Class (object w.classes)) h.0,
+    )
+load-asked w ks sorts.Short r registers stack h =
+    grind (
+      arith,
+      least-count w.classes ks registers (r + 1) (value-inside w.classes ks sorts.Short registers r h),
+      least-at w.classes ks registers r Short h.0,
+    )
+load-asked w ks sorts.Int r registers stack h =
+    grind (
+      arith,
+      least-count w.classes ks registers (r + 2) (value-inside w.classes ks sorts.Int registers r h),
+      least-at w.classes ks registers r IntHigh h.0,
+      least-at w.classes ks registers (r + 1) IntLow h.1.0,
+    )
 
 pub load-filled :
     (t : ClassTable) (ks : List ObjectKind) (letter : Sort) (r : ℕ) (registers : List Cell)
     → CellsAt t ks registers r (asked_types t letter)
     → AreFilled letter r registers
-load-filled t ks sorts.Reference r registers h = (at-nth registers r (IsCellOf t ks (Class (object t))) h.0).1.0
-load-filled t ks sorts.Short r registers h = (at-nth registers r (IsCellOf t ks Short) h.0).1.0
-load-filled t ks sorts.Int r registers h =
-    ((at-nth registers r (IsCellOf t ks IntHigh) h.0).1.0, (at-nth registers (r + 1) (IsCellOf t ks IntLow) h.1.0).1.0)
+load-filled t ks z r registers h = grind (arith, at-nth)
 
 -- ---- from the types of a frame
 
 module _ (t : ClassTable) (types : IsOrderOfTypes t) (objects : ClassesAreObjects t) (ks : List ObjectKind) where
   -- an empty cell has no type but Top
   pub cell-of : (c : Cell) (ty : Ty) → Below t (least_type t Top ks c) ty → IsNotTop ty → IsCellOf t ks ty c
-  cell-of Empty ty le not = absurd (subst IsNotTop (top-only t types ty ((types.decided Top ty).1 le)) not)
-  cell-of c ty le not = (tt, le)
+  cell-of c ty le not = grind (arith, top-only)
 
   cell-at :
       (cells : List Cell) (regs : List Ty) → CellsBelow t (least_types t Top ks cells) regs → (n : ℕ) (ty : Ty)
