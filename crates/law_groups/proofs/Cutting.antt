@@ -195,14 +195,7 @@ module _
         }
 
 same-taken : (v : Linked) (op : Operation) (n : ℕ) → operands_of v (Ok op) ≡ Some n → (footprint v op).taken ≡ n
-same-taken v (ops.Branch branches.Always) n e = absurd (cc)
-same-taken v (ops.Branch (branches.Zero o)) n e = cc
-same-taken v (ops.Branch (branches.Null o)) n e = cc
-same-taken v (ops.Branch (branches.References o)) n e = cc
-same-taken v (ops.Branch (branches.Shorts o)) n e = cc
-same-taken v (ops.Switch widths.Short) n e = cc
-same-taken v (ops.Switch widths.Int) n e = cc
-same-taken v _ n e = absurd (cc)
+same-taken v y n e = grind (arith)
 
 pub forks-cut :
     (v : Linked) → IsWorld v → OperationsAreDecided v → (z : State Cell) (o : Outcome Cell) (i : Placed) (op : Operation) (n : ℕ)
