@@ -14,10 +14,11 @@ use Rattle.jc_ops.specs.Sound.{OperationsAreSound}
 use Rattle.jc_rules.specs.declared.effect.Cells.{Cells}
 use Rattle.jc_rules.specs.declared.effect.Cells.TheVariants as given
 use Rattle.jc_rules.specs.declared.effect.Mode.TheVariants.{Card, Flow}
-use Rattle.jc_rules.specs.Effect.{WritesRegister, WritesInt, WritesCells, reg, cells_rise}
+use Rattle.jc_rules.specs.Effect.{WritesRegister, WritesInt, WritesCells, reg, cells_rise, rises_at}
 use Rattle.jc_rules.specs.Rule.{effect}
 use Rattle.jc_rules.specs.Flow.{CellsBelow, no_cells, more_cells}
-use Rattle.jc_rules.specs.Laws.{OperationFallsTo, OperationFallsOnCard, OperationRaises, OperationStays, OperationRests, RuleFallsOnCard, RuleRaises, RuleRises}
+use Rattle.jc_rules.specs.Laws.{OperationFallsTo, OperationFallsOnCard, OperationRaises, OperationStays}
+use Rattle.jc_rules.specs.Laws.{OperationRests, RuleFallsOnCard, RuleRaises, RuleRises}
 use Rattle.jc_rules.specs.Laws.{RuleStays, RuleRests}
 use Rattle.jc_rules.proofs.Effects.{CellsKept, Suits, suits, sound-known}
 use Rattle.jc_rules.proofs.Raising.{RoseTo}
@@ -197,14 +198,12 @@ module _ (t : ClassTable) (are : IsOrderOfTypes t) where
   store-rises x given.Nothing regs after u = u
   store-rises x (given.One ty) regs after u = write-rises x ty regs after (is_below t ty (reg regs x)) refl u
   store-rises x given.Int regs after u =
-      grind (
-        arith,
-        write-rises x IntHigh regs u.between (is_below t IntHigh (reg regs x)) refl u.high,
-        write-rises (x + 1) IntLow u.between after (is_below t IntLow (reg u.between (x + 1))) refl u.low,
-        get_or-set_other,
-        both-rise,
-        not,
-      )
+      let next : reg u.between (x + 1) ≡ reg regs (x + 1) = ap (λ rs. reg rs (x + 1)) u.high.after_is
+      ∙ get_or-set_other regs x (x + 1) u.high.value Top (λ same. absurd (omega arith)) in
+      both-rise regs u.between after (rises_at t regs x IntHigh) (rises_at t regs (x + 1) IntLow)
+      (write-rises x IntHigh regs u.between (is_below t IntHigh (reg regs x)) refl u.high)
+      (subst (λ ty. RoseTo t u.between after (not (is_below t IntLow ty))) next
+      (write-rises (x + 1) IntLow u.between after (is_below t IntLow (reg u.between (x + 1))) refl u.low))
 
   -- where what is stored is below, none rises
   none-rises : (x : ℕ) (cells : Cells) (regs after : List Ty) → WritesCells t Flow x cells regs after → CellsBelow t after regs

@@ -10,7 +10,8 @@ use Rattle.jc_base.specs.Order.{Below, is_below}
 use Rattle.jc_rules.proofs.Types.{below-computed, below-told}
 use Rattle.jc_ops.specs.declared.want.Want.{Want}
 use Rattle.jc_rules.specs.declared.demand.Demand.{Demand}
-use Rattle.jc_rules.specs.Demand.{Frame, IsArrayOrNull, IsHalf, IsFreshOf, Meets, Satisfies, is_array_or_null, is_half, is_fresh_of, meets, is_low}
+use Rattle.jc_rules.specs.Demand.{Frame, IsArrayOrNull, IsHalf, IsFreshOf, Meets, Satisfies}
+use Rattle.jc_rules.specs.Demand.{is_array_or_null, is_half, is_fresh_of, meets, is_low}
 use Rattle.jc_rules.specs.Demand.{is_high, met_at, satisfies, AreDecided}
 
 either : (a b : Bool) (P Q : Type 0) → MatchBool a P (¬ P) → MatchBool b Q (¬ Q) → MatchBool (a || b) (P ⊎ Q) (¬ (P ⊎ Q))

@@ -17,7 +17,8 @@ use Rattle.jc_rules.specs.declared.effect.Mode.{Mode}
 use Rattle.jc_rules.specs.declared.effect.Cells.{Cells}
 use Rattle.jc_rules.specs.Effect.{IsStoredOver, WritesRegister, WritesCells}
 use Rattle.jc_rules.specs.Demand.{Frame, SatisfiesAll, IsFirstUnmet, here, later}
-use Rattle.jc_rules.specs.Apply.{OperationApplies, OperationRefuses, unmet, full, RuleApplies, RuleRefuses, unresolved, refused_by, Applies, Refuses}
+use Rattle.jc_rules.specs.Apply.{OperationApplies, OperationRefuses, unmet, full, RuleApplies}
+use Rattle.jc_rules.specs.Apply.{RuleRefuses, unresolved, refused_by, Applies, Refuses}
 use Rattle.jc_rules.specs.Laws.{OperationDecides, RuleDecides}
 
 breaks-not : (t : ClassTable) (f : Frame) {ds : List Demand} {fault : RuleFault} → IsFirstUnmet t f ds fault → SatisfiesAll t f ds → ⊥

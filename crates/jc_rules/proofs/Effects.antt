@@ -1,6 +1,7 @@
 -- What an instruction asks suffices for what it does: the cells and registers are there, and what it gives is known.
 use Rattle.std.proofs.Common.{◌≡◌, ℕ, ◌+◌, ◌-◌, ◌<◌, ◌≤◌, List, [], ◌∷◌, ◌++◌, length, take, drop, map, reverse, rules}
-use Rattle.std.proofs.Common.{get_or, Option, Some, None, IsSomeAnd, IfSome, slice_get, All, refl, sym, subst, arith, cond, Bool, true, false}
+use Rattle.std.proofs.Common.{get_or, Option, Some, None, IsSomeAnd, IfSome, slice_get, All}
+use Rattle.std.proofs.Common.{refl, sym, subst, arith, cond, Bool, true, false}
 use Rattle.std.proofs.Common.{if◌then◌else◌, length-append, length-take, length-drop}
 use Rattle.std.specs.Bool.{⊤}
 use Rattle.std.proofs.lemmas.List.{length-map, length-reverse}
@@ -48,11 +49,16 @@ use Rattle.jc_rules.specs.declared.effect.Change.TheVariants.{Replace, CopyUnder
 use Rattle.jc_rules.specs.declared.effect.Effect.{Effect}
 use Rattle.jc_rules.specs.Effect.{in_stack_order, ready, changed, cells_needed, depth_after, reg}
 use Rattle.jc_rules.specs.Demand.{Frame, Meets, SatisfiesAll, AreKnown}
-use Rattle.jc_rules.specs.Rule.{cell, number, two_numbers, size, number_given, value_given, value_wanted, value_size, on_stack, replacing, storing}
-use Rattle.jc_rules.specs.Rule.{constant_effect, load_demands, load_effect, or_null, store_demands, store_effect, increment_demands, increment_effect}
-use Rattle.jc_rules.specs.Rule.{move_demands, move_effect, arithmetic_demands, arithmetic_effect, element, array_read_demands, array_read_effect}
-use Rattle.jc_rules.specs.Rule.{array_write_demands, array_write_effect, branch_demands, branch_effect, field_read_demands, field_read_effect}
-use Rattle.jc_rules.specs.Rule.{field_write_demands, field_write_effect, cells_wanted, call_demands, call_effect, ready_with, result_given, result_at}
+use Rattle.jc_rules.specs.Rule.{cell, number, two_numbers, size, number_given, value_given}
+use Rattle.jc_rules.specs.Rule.{value_wanted, value_size, on_stack, replacing, storing}
+use Rattle.jc_rules.specs.Rule.{constant_effect, load_demands, load_effect, or_null}
+use Rattle.jc_rules.specs.Rule.{store_demands, store_effect, increment_demands, increment_effect}
+use Rattle.jc_rules.specs.Rule.{move_demands, move_effect, arithmetic_demands, arithmetic_effect}
+use Rattle.jc_rules.specs.Rule.{element, array_read_demands, array_read_effect}
+use Rattle.jc_rules.specs.Rule.{array_write_demands, array_write_effect, branch_demands}
+use Rattle.jc_rules.specs.Rule.{branch_effect, field_read_demands, field_read_effect}
+use Rattle.jc_rules.specs.Rule.{field_write_demands, field_write_effect, cells_wanted, call_demands}
+use Rattle.jc_rules.specs.Rule.{call_effect, ready_with, result_given, result_at}
 use Rattle.jc_rules.specs.Rule.{seen, type_test_effect, array_wanted, return_demands, return_effect, demands, effect}
 use Rattle.jc_rules.specs.Known.{IsValue, IsKnownCallee, IsKnownOperation}
 use Rattle.jc_rules.specs.Flow.{IsNotFresh, IsNotTop}
@@ -315,10 +321,9 @@ module _ (t : ClassTable) (f : Frame) where
         → IfSome receiver (IsKnownWant t) → SatisfiesAll t f (call_demands args receiver) → Suits t f (call_effect args result receiver f)
     suits-call args result None known w h = suits-on_stack (Replace (length args) (result_given result)) (arguments-there args [] h) (result-known result known)
     suits-call args result (Some want) known w h =
-        grind (
-          arith,
-          suits-ready (length args + 1) (result_given result) (cell f.stack (length args)) want (cell-there f.stack (length args) (Meets t want) (SatisfiesAll-rest t f (cells_wanted 0 (reverse args)) (Cell (length args) want ∷ []) h).0) (result-known result known) w,
-        )
+        suits-ready (length args + 1) (result_given result) (cell f.stack (length args)) want
+        (cell-there f.stack (length args) (Meets t want) (SatisfiesAll-rest t f (cells_wanted 0 (reverse args)) (Cell (length args) want ∷ []) h).0)
+        (result-known result known) w
 
 -- ---- the rule
 

@@ -1,5 +1,6 @@
 -- Laws of frames and of dataflow typings.
-use Rattle.std.proofs.Common.{◌≡◌, ℕ, zero, suc, List, [], ◌∷◌, ◌++◌, reverse, replicate, Option, Some, None, IsSomeAnd, refl, arith}
+use Rattle.std.proofs.Common.{◌≡◌, ℕ, zero, suc, List, [], ◌∷◌, ◌++◌, reverse}
+use Rattle.std.proofs.Common.{replicate, Option, Some, None, IsSomeAnd, refl, arith, sym, subst}
 use Rattle.std.proofs.lemmas.List.{reverse-append}
 use Rattle.jc_base.specs.declared.ty.Ty.{Ty}
 use Rattle.jc_base.specs.declared.ty.Ty.TheVariants.{Bottom, Top}
@@ -18,14 +19,9 @@ module _ (t : ClassTable) where
   cells-turned : {xs ys : List Ty} → CellsBelow t xs ys → CellsBelow t (reverse xs) (reverse ys)
   cells-turned no_cells = no_cells
   cells-turned (more_cells {a = a} {b = b} {xs = xs} {ys = ys} p ps) =
-      grind (
-        arith,
-        reverse (b ∷ ys),
-        reverse-append (a ∷ []) xs,
-        reverse xs ++ (a ∷ []),
-        reverse-append (b ∷ []) ys,
-        cells-append t (cells-turned ps) (more_cells p no_cells),
-      )
+      subst (λ us. CellsBelow t us (reverse (b ∷ ys))) (sym (reverse-append (a ∷ []) xs))
+      (subst (CellsBelow t (reverse xs ++ (a ∷ []))) (sym (reverse-append (b ∷ []) ys))
+      (cells-append t (cells-turned ps) (more_cells p no_cells)))
 
   cells-apart : IsOrderOfTypes t → {xs ys : List Ty} → CellsBelow t xs ys → CellsBelow t ys xs → xs ≡ ys
   cells-apart are no_cells no_cells = refl

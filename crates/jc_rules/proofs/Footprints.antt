@@ -21,7 +21,8 @@ use Rattle.jc_rules.specs.declared.effect.Cells.TheVariants as given
 use Rattle.jc_rules.specs.declared.effect.Change.{Change}
 use Rattle.jc_rules.specs.declared.effect.Mode.{Mode}
 use Rattle.jc_rules.specs.declared.effect.Mode.TheVariants.{Card}
-use Rattle.jc_rules.specs.Effect.{in_stack_order, changed, cells_needed, depth_after, reg, WritesRegister, WritesCells, StoresInRegisters, raises_register}
+use Rattle.jc_rules.specs.Effect.{in_stack_order, changed, cells_needed, depth_after, reg}
+use Rattle.jc_rules.specs.Effect.{WritesRegister, WritesCells, StoresInRegisters, raises_register}
 use Rattle.jc_rules.specs.Demand.{Frame, Meets, Satisfies, SatisfiesAll}
 use Rattle.jc_rules.specs.Rule.{on_stack, replacing, or_null, ready_with, call_effect, wrote, demands, effect}
 use Rattle.jc_rules.specs.Rule.{receiver_wanted}

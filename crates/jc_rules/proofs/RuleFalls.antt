@@ -25,8 +25,10 @@ use Rattle.jc_rules.specs.Laws.{IsNotBottom, OperationFalls, OperationFallsTo, R
 use Rattle.jc_rules.specs.Apply.{OperationApplies}
 use Rattle.jc_rules.proofs.CellLists.{Each, each-from_All, cells-or, cells-length}
 use Rattle.jc_rules.proofs.Demands.{SatisfiesAll-rest}
-use Rattle.jc_rules.proofs.Falls.{ReferenceDown, ReferencesDown, reference-down, references-down, all-falls, change-same, effect-same, changed-falls}
-use Rattle.jc_rules.proofs.Falls.{store-flow, or_null-falls, element-falls, ready_with-falls, GivenBelow, ChangeBelow, EffectBelow, StoresBelow}
+use Rattle.jc_rules.proofs.Falls.{ReferenceDown, ReferencesDown, reference-down, references-down}
+use Rattle.jc_rules.proofs.Falls.{all-falls, change-same, effect-same, changed-falls}
+use Rattle.jc_rules.proofs.Falls.{store-flow, or_null-falls, element-falls, ready_with-falls}
+use Rattle.jc_rules.proofs.Falls.{GivenBelow, ChangeBelow, EffectBelow, StoresBelow}
 
 -- what is read of a cell that is there
 pub some-or : (P : Ty → Type 0) (xs : List Ty) (n : ℕ) → IsSomeAnd (slice_get xs n) P → P (get_or xs n Top)

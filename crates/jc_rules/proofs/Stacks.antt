@@ -1,7 +1,8 @@
 -- Lemmas on the stack that a slice with a depth holds.
 use Rattle.std.proofs.Common.{◌≡◌, ℕ, ◌+◌, ◌-◌, ◌<◌, ◌≤◌, List, [], ◌∷◌, ◌++◌, length, take, drop, reverse, map, set, refl}
 use Rattle.std.proofs.Common.{sym, ◌∙◌, ap, subst, arith, append_assoc, length-append, length-take, length-drop}
-use Rattle.std.proofs.lemmas.List.{reverse-append, take-append-drop, take_more_set, length-reverse, drop-take, take-append-le, drop-append-le, map-append}
+use Rattle.std.proofs.lemmas.List.{reverse-append, take-append-drop, take_more_set, length-reverse}
+use Rattle.std.proofs.lemmas.List.{drop-take, take-append-le, drop-append-le, map-append}
 use Rattle.std.proofs.lemmas.List.{length-map, take-take}
 use Rattle.std.proofs.lemmas.List.Edits.{take-paste}
 use Rattle.std.proofs.lemmas.Slice.{take-put_mid}
@@ -24,14 +25,11 @@ module _ {X : Type 0} where
   turned : (m n : ℕ) (a b c : List X) → length c ≡ m → length b ≡ n →
       take n (drop m (c ++ (b ++ a))) ++ (take m (c ++ (b ++ a)) ++ drop (m + n) (c ++ (b ++ a))) ≡ b ++ (c ++ a)
   turned m n a b c ec eb =
-      grind (
-        arith,
-        drop_first m c (b ++ a) ec,
-        take_first n b a eb,
-        take_first m c (b ++ a) ec,
-        append_assoc c b a,
-        drop_first (m + n) (c ++ b) a (length-append c b ∙ cc),
-      )
+      let under : take n (drop m (c ++ (b ++ a))) ≡ b = ap (take n) (drop_first m c (b ++ a) ec) ∙ take_first n b a eb in
+      let top : take m (c ++ (b ++ a)) ≡ c = take_first m c (b ++ a) ec in
+      let rest : drop (m + n) (c ++ (b ++ a)) ≡ a =
+      ap (drop (m + n)) (sym (append_assoc c b a)) ∙ drop_first (m + n) (c ++ b) a (length-append c b ∙ cc) in
+      cc
 
   -- the top cells c change places with the cells b under them
   exchanged : (m n : ℕ) (a b c : List X) → length c ≡ m → length b ≡ n →

@@ -1,9 +1,11 @@
 -- Operations keep stacks whole.
 use Rattle.std.proofs.Common.{◌≡◌, ℕ, zero, suc, ◌+◌, ◌-◌, Bool, true, false, cond, ◌==◌, List, [], ◌∷◌, ◌++◌, length, rules}
-use Rattle.std.proofs.Common.{take, drop, map, reverse, All, Option, Some, None, IsSomeAnd, IfSome, slice_get, refl, sym, ◌∙◌, ap, subst, arith}
+use Rattle.std.proofs.Common.{take, drop, map, reverse, All, Option, Some, None, IsSomeAnd}
+use Rattle.std.proofs.Common.{IfSome, slice_get, refl, sym, ◌∙◌, ap, subst, arith}
 use Rattle.std.proofs.lemmas.List.{length-reverse, reverse-append, reverse-reverse}
 use Rattle.jc_base.specs.declared.ty.Ty.{Ty}
-use Rattle.jc_base.specs.declared.ty.Ty.TheVariants.{Bottom, Short, IntHigh, IntLow, Null, Class, ArrBool, ArrByte, ArrShort, ArrInt, ArrRef, Fresh, Top}
+use Rattle.jc_base.specs.declared.ty.Ty.TheVariants.{Bottom, Short, IntHigh, IntLow, Null, Class, ArrBool}
+use Rattle.jc_base.specs.declared.ty.Ty.TheVariants.{ArrByte, ArrShort, ArrInt, ArrRef, Fresh, Top}
 use Rattle.jc_base.specs.declared.ty.Kind.{Kind}
 use Rattle.jc_base.specs.declared.ty.Kind.TheVariants as kinds
 use Rattle.jc_base.specs.declared.record.MethodRec.{MethodRec}
@@ -42,11 +44,16 @@ use Rattle.jc_rules.specs.declared.effect.Cells.{Cells}
 use Rattle.jc_rules.specs.declared.effect.Cells.TheVariants as given
 use Rattle.jc_rules.specs.Effect.{in_stack_order, ready, changed}
 use Rattle.jc_rules.specs.Demand.{Frame, IsHalf, IsArrayOrNull, IsFreshOf, Meets, Splits, SatisfiesAll}
-use Rattle.jc_rules.specs.Rule.{constant_effect, load_demands, load_effect, store_demands, store_effect, increment_effect, move_demands, move_effect}
-use Rattle.jc_rules.specs.Rule.{arithmetic_demands, arithmetic_effect, array_read_demands, array_read_effect, array_write_demands, array_write_effect}
-use Rattle.jc_rules.specs.Rule.{branch_demands, branch_effect, field_read_demands, field_read_effect, field_write_demands, field_write_effect, type_test_effect}
-use Rattle.jc_rules.specs.Rule.{return_demands, return_effect, cell, number, two_numbers, size, number_given, value_given, value_wanted, value_size, or_null}
-use Rattle.jc_rules.specs.Rule.{element, array_wanted, a_reference, ready_with, cells_wanted, call_demands, call_effect, result_given, args_at, result_at, seen}
+use Rattle.jc_rules.specs.Rule.{constant_effect, load_demands, load_effect, store_demands}
+use Rattle.jc_rules.specs.Rule.{store_effect, increment_effect, move_demands, move_effect}
+use Rattle.jc_rules.specs.Rule.{arithmetic_demands, arithmetic_effect, array_read_demands}
+use Rattle.jc_rules.specs.Rule.{array_read_effect, array_write_demands, array_write_effect}
+use Rattle.jc_rules.specs.Rule.{branch_demands, branch_effect, field_read_demands, field_read_effect}
+use Rattle.jc_rules.specs.Rule.{field_write_demands, field_write_effect, type_test_effect}
+use Rattle.jc_rules.specs.Rule.{return_demands, return_effect, cell, number, two_numbers, size}
+use Rattle.jc_rules.specs.Rule.{number_given, value_given, value_wanted, value_size, or_null}
+use Rattle.jc_rules.specs.Rule.{element, array_wanted, a_reference, ready_with, cells_wanted, call_demands}
+use Rattle.jc_rules.specs.Rule.{call_effect, result_given, args_at, result_at, seen}
 use Rattle.jc_rules.specs.Rule.{demands, effect}
 use Rattle.jc_rules.specs.Whole.{OperationKeepsWhole}
 use Rattle.jc_rules.specs.Flow.{IsNotTop}
