@@ -30,7 +30,8 @@ use Rattle.vm_store.specs.Laws.{HasContent}
 use Rattle.vm_step.specs.declared.exception.Exception.TheVariants as exceptions
 use Rattle.vm_step.specs.Act.{Act, goes, raises}
 use Rattle.vm_step.specs.Numbers.{short_at, replaced}
-use Rattle.vm_step.specs.Fields.{elements_of, element_index, at_element, takes_element, keeps_kind, with_element, array_write_act, array_length_act}
+use Rattle.vm_step.specs.Fields.{elements_of, element_index, at_element, takes_element}
+use Rattle.vm_step.specs.Fields.{keeps_kind, with_element, array_write_act, array_length_act}
 use Rattle.vm_step.specs.Settled.{settled}
 use Rattle.law_sound.specs.Frames.{Typings, least_types, types_of_frame}
 use Rattle.law_sound.specs.State.{CanBeMade}
@@ -41,7 +42,8 @@ use Rattle.law_sound.proofs.Cells.{cell-at, one-stacked, stacked-at}
 use Rattle.law_sound.proofs.References.{reference-same}
 use Rattle.law_sound.proofs.Registers.{asked-of}
 use Rattle.law_sound.proofs.Writes.{with_heap, write-safe, write-int-safe}
-use Rattle.law_sound.proofs.Arrays.{Fits, IsArrayAt, array-there, element_type, first-at, second-at, index-within, short-element, int-element, element-ready}
+use Rattle.law_sound.proofs.Arrays.{Fits, IsArrayAt, array-there, element_type, first-at}
+use Rattle.law_sound.proofs.Arrays.{second-at, index-within, short-element, int-element, element-ready}
 use Rattle.law_sound.proofs.Instances.{made-at}
 use Rattle.law_sound.proofs.Objects.{may-cast-below}
 use Rattle.law_sound.proofs.SafeTurns.{Here, replace-safe, null-safe, some-safe, raise-safe}

@@ -112,10 +112,9 @@ module _ (w : Linked) (world : IsWorld w) (assigned : Typings) (f : Frame Cell) 
         (record { frames = f ∷ below; heap = heap; statics = statics })
         (leads_if taken (target f.place here.turn.stands.instruction.insn.x) (dropped (record { frames = f ∷ below; heap = heap; statics = statics }) width)))
     branch-by b true width is does falls =
-        grind (
-          arith,
-          leads-safe (here.turn.stands.instruction.place + here.turn.stands.instruction.insn.len) (target f.place here.turn.stands.instruction.insn.x) width (ops.Branch b) is does (led-to (ops.Branch b) is refl),
-        )
+        leads-safe (here.turn.stands.instruction.place + here.turn.stands.instruction.insn.len) (target f.place here.turn.stands.instruction.insn.x) width
+        (ops.Branch b) is does
+        (led-to (ops.Branch b) is refl)
     branch-by b false width is does falls =
         replace-safe w world assigned f below heap statics here width given.Nothing [] heap statics
         (ap (λ o. effect w o (types_of_frame w.classes (assigned.unset f.method) (kinds_of heap) f)) is ∙ does) (ap falls_from is ∙ falls)
@@ -127,10 +126,9 @@ module _ (w : Linked) (world : IsWorld w) (assigned : Typings) (f : Frame Cell) 
         (record { frames = f ∷ below; heap = heap; statics = statics })
         (branch_act tagged here.turn.stands.instruction.insn b (record { frames = f ∷ below; heap = heap; statics = statics })))
     branch-safe branches.Always is =
-        grind (
-          arith,
-          leads-safe (here.turn.stands.instruction.place + here.turn.stands.instruction.insn.len) (target f.place here.turn.stands.instruction.insn.x) 0 (ops.Branch branches.Always) is refl (led-to (ops.Branch branches.Always) is refl),
-        )
+        leads-safe (here.turn.stands.instruction.place + here.turn.stands.instruction.insn.len) (target f.place here.turn.stands.instruction.insn.x) 0
+        (ops.Branch branches.Always) is refl
+        (led-to (ops.Branch branches.Always) is refl)
     branch-safe (branches.Zero o) is = branch-by (branches.Zero o) (is_taken tagged (branches.Zero o) f.stack) 1 is refl refl
     branch-safe (branches.Null e) is = branch-by (branches.Null e) (is_taken tagged (branches.Null e) f.stack) 1 is refl refl
     branch-safe (branches.References e) is = branch-by (branches.References e) (is_taken tagged (branches.References e) f.stack) 2 is refl refl

@@ -1,7 +1,7 @@
 -- Least types of cells, where an empty register is read as of any type.
-use Rattle.std.proofs.Common.{◌≡◌, ℕ, zero, suc, List, [], ◌∷◌, ◌++◌, refl, sym, subst, arith}
+use Rattle.std.proofs.Common.{◌≡◌, ℕ, zero, suc, List, [], ◌∷◌, ◌++◌, refl, sym, subst, arith, ap, ◌∙◌}
 use Rattle.std.specs.Prelude.{Option, Some, IsSomeAnd, All, ⊤}
-use Rattle.std.proofs.lemmas.List.Elements.{All-head, All-tail, All-nil}
+use Rattle.std.proofs.lemmas.List.Elements.{All-head, All-tail, All-nil, All-cons}
 use Rattle.jc_base.specs.declared.ty.Ty.{Ty}
 use Rattle.jc_base.specs.declared.ty.Ty.TheVariants.{Bottom, Short, Fresh}
 use Rattle.jc_base.specs.declared.record.MethodRec.{MethodRec}
@@ -95,23 +95,20 @@ module _ (w : Linked) (m : MethodRec) where
   pub not_bottoms : (unset : Ty) (ks : List ObjectKind) (cs : List Cell) → All (IsStacked w m ks) cs → All IsNotBottom (least_types w.classes unset ks cs)
   not_bottoms unset ks [] h = All-nil IsNotBottom
   not_bottoms unset ks (c ∷ cs) h =
-      grind (
-        arith,
-        filled-not_bottom w.classes unset ks c (stacked-filled ks c (All-head (IsStacked w m ks) c cs h)),
-        not_bottoms unset ks cs (All-tail (IsStacked w m ks) c cs h),
-      )
+      All-cons IsNotBottom (least_type w.classes unset ks c) (least_types w.classes unset ks cs)
+      (filled-not_bottom w.classes unset ks c (stacked-filled ks c (All-head (IsStacked w m ks) c cs h)))
+      (not_bottoms unset ks cs (All-tail (IsStacked w m ks) c cs h))
 
   -- cells of a stack are of the same types, however empty ones are read
   pub stacked-alike : (a b : Ty) (ks : List ObjectKind) (cs : List Cell) → All (IsStacked w m ks) cs
       → least_types w.classes a ks cs ≡ least_types w.classes b ks cs
   stacked-alike a b ks [] h = refl
   stacked-alike a b ks (c ∷ cs) h =
-      grind (
-        arith,
-        stacked-filled ks c (All-head (IsStacked w m ks) c cs h),
-        stacked-alike a b ks cs (All-tail (IsStacked w m ks) c cs h),
-        filled-same,
-      )
+      let filled = stacked-filled ks c (All-head (IsStacked w m ks) c cs h) in
+      let first : least_type w.classes a ks c ≡ least_type w.classes b ks c = sym (filled-same w.classes a ks c filled)
+      ∙ filled-same w.classes b ks c filled in
+      ap (λ ty. ty ∷ least_types w.classes a ks cs) first
+      ∙ ap (λ ts. least_type w.classes b ks c ∷ ts) (stacked-alike a b ks cs (All-tail (IsStacked w m ks) c cs h))
 
 -- a ready cell, which is no object on which a constructor is still to be called, may lie on any stack
 abbrev pub IsReadyCell : Cell → Type 0

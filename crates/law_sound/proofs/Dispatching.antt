@@ -13,7 +13,8 @@ use Rattle.jc_base.specs.declared.record.ClassRec.{ClassRec}
 use Rattle.jc_base.specs.declared.record.MethodRec.{MethodRec}
 use Rattle.jc_base.specs.Class.{ClassTable, IsClass, is_interface, chain, list_of}
 use Rattle.jc_base.specs.Order.{Below, is_on_chain, is_below}
-use Rattle.jc_base.specs.Dispatch.{of_record, package_of, public_of, visible_of, entry_at, nearest_of, visible_in, dispatched, HasBody, IsConcrete}
+use Rattle.jc_base.specs.Dispatch.{of_record, package_of, public_of, visible_of, entry_at}
+use Rattle.jc_base.specs.Dispatch.{nearest_of, visible_in, dispatched, HasBody, IsConcrete}
 use Rattle.jc_base.specs.Dispatch.{signature_of, signature_at}
 use Rattle.jc_base.specs.Linked.{IsInherited, Dispatches, IsImplemented, IsExtended, IsLinkedClass, lacks_code}
 use Rattle.jc_base.specs.Laws.{RunsPublic}

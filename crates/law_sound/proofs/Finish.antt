@@ -34,8 +34,10 @@ use Rattle.vm_step.specs.declared.ending.Ending.TheVariants as endings
 use Rattle.vm_step.specs.declared.ending.Fault.{Fault}
 use Rattle.vm_step.specs.Methods.{of_method, code_at, max_stack_of, instruction_at}
 use Rattle.vm_step.specs.Raising.{Outcome, running, ends}
-use Rattle.vm_step.specs.Settled.{fault_next, is_there, fault_target, unless_fault, goes_to, jumps_to, with_new, made, entered_call, given_to}
-use Rattle.law_sound.specs.Frames.{Typings, least_types, types_of_frame, types_with, IsStacked, Standing, IsTypedFrame, at_next, IsWaiting, AreWaiting}
+use Rattle.vm_step.specs.Settled.{fault_next, is_there, fault_target, unless_fault, goes_to}
+use Rattle.vm_step.specs.Settled.{jumps_to, with_new, made, entered_call, given_to}
+use Rattle.law_sound.specs.Frames.{Typings, least_types, types_of_frame, types_with, IsStacked}
+use Rattle.law_sound.specs.Frames.{Standing, IsTypedFrame, at_next, IsWaiting, AreWaiting}
 use Rattle.law_sound.specs.State.{CanBeMade, static_types, IsTypedState}
 use Rattle.law_sound.specs.Soundness.{IsTypedOutcome}
 use Rattle.law_sound.proofs.CellTypes.{some-both, some-weaker, stacked-alike}

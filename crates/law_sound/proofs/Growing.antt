@@ -1,5 +1,7 @@
 -- What is typed stays typed among more objects.
-use Rattle.std.proofs.Common.{List, [], ◌∷◌, ◌++◌, arith}
+use Rattle.jc_rules.specs.Flow.{CellsBelow, FrameBelow}
+use Rattle.jc_rules.specs.Demand.{Frame as Types}
+use Rattle.std.proofs.Common.{List, [], ◌∷◌, ◌++◌}
 use Rattle.std.specs.Prelude.{Option}
 use Rattle.std.proofs.lemmas.List.Elements.{All-weaker}
 use Rattle.jc_base.specs.declared.ty.Ty.{Ty}
@@ -10,7 +12,7 @@ use Rattle.jc_rules.proofs.CellLists.{cells-same, cells-trans, cells-append}
 use Rattle.vm_store.specs.declared.cell.Cell.{Cell}
 use Rattle.vm_store.specs.declared.kind.ObjectKind.{ObjectKind}
 use Rattle.vm_store.specs.State.{Frame}
-use Rattle.law_sound.specs.Frames.{Typings, IsStacked, IsWaiting, result_of, AreWaiting}
+use Rattle.law_sound.specs.Frames.{Typings, IsStacked, IsWaiting, result_of, AreWaiting, least_types, types_with, at_next}
 use Rattle.law_sound.proofs.CellTypes.{some-weaker, types-fall, stacked-falls}
 
 module _ (w : Linked) (assigned : Typings) (ks more : List ObjectKind) where
@@ -20,16 +22,21 @@ module _ (w : Linked) (assigned : Typings) (ks more : List ObjectKind) where
       let next = waits.next in
       record {
         stands = st;
-        regs = grind (arith, types-fall w.classes (assigned.unset f.method) ks more f.registers, some-weaker, cells-trans);
+        regs = some-weaker (λ (g : Types). CellsBelow w.classes (least_types w.classes (assigned.unset f.method) ks f.registers) g.regs)
+            (λ (g : Types). CellsBelow w.classes (least_types w.classes (assigned.unset f.method) (ks ++ more) f.registers) g.regs)
+            (λ g b. cells-trans w.classes (types-fall w.classes (assigned.unset f.method) ks more f.registers) b)
+            ((assigned.frames f.method) f.place) waits.regs;
         next = next;
         below =
-            grind (
-              arith,
-              types-fall w.classes (assigned.unset f.method) ks more f.registers,
-              cells-append w.classes (cells-same w.classes (in_stack_order (result_given result))) (types-fall w.classes (assigned.unset f.method) ks more f.stack),
-              some-weaker,
-              cells-trans,
-            );
+            some-weaker (FrameBelow w.classes (types_with w.classes (assigned.unset f.method) ks result f))
+            (FrameBelow w.classes (types_with w.classes (assigned.unset f.method) (ks ++ more) result f))
+            (λ g b. record {
+              regs = cells-trans w.classes (types-fall w.classes (assigned.unset f.method) ks more f.registers) b.regs;
+              stack = cells-trans w.classes
+                  (cells-append w.classes (cells-same w.classes (in_stack_order (result_given result)))
+                  (types-fall w.classes (assigned.unset f.method) ks more f.stack)) b.stack;
+            })
+            ((assigned.frames f.method) (at_next w f).place) waits.below;
         stacked = All-weaker (IsStacked w next.rec ks) (IsStacked w next.rec (ks ++ more)) (stacked-falls w next.rec ks more) f.stack waits.stacked;
       }
 

@@ -41,7 +41,8 @@ use Rattle.vm_step.specs.declared.exception.Exception.TheVariants as exceptions
 use Rattle.vm_step.specs.Act.{Act, calls, raises, throws, lacks, unless_null, if_some}
 use Rattle.vm_step.specs.Branching.{leads_if}
 use Rattle.vm_step.specs.Numbers.{handle_at, short_at, dropped}
-use Rattle.vm_step.specs.Calls.{args_of, class_with_methods, made_at, readied, served, served_act, interface_act, call_act, chosen_act, return_act}
+use Rattle.vm_step.specs.Calls.{args_of, class_with_methods, made_at, readied, served}
+use Rattle.vm_step.specs.Calls.{served_act, interface_act, call_act, chosen_act, return_act}
 use Rattle.vm_step.specs.Methods.{of_method}
 use Rattle.vm_step.specs.Objects.{array_of_count, kind_of_type, type_test_act}
 use Rattle.vm_step.specs.Values.{arithmetic_act}
@@ -234,13 +235,10 @@ module _ (w : Linked) (world : IsWorld w) where
 
             its-object : (handle ≡ 0 → ⊥) → IsObject w.classes heap handle (Class c)
             its-object some =
-                grind (
-                  arith,
-                  receiver-at w world assigned typings f below heap statics here n receiver choice m is method (Value (Class c)) wants,
-                  kinds_of heap,
-                  handle-object,
-                  reference-handle,
-                )
+                let at = receiver-at w world assigned typings f below heap statics here n receiver choice m is method (Value (Class c)) wants in
+                handle-object w.classes world.chains heap handle (Class c) tt some
+                (reference-handle w.classes world.chains (assigned.unset f.method) (kinds_of heap) (slice_index_or f.stack few cells.Empty) (Class c) tt
+                at.holds)
 
             run-handed :
                 (k count : ℕ) (y : State Cell) (r j : ℕ) → RunsFor w r j m.sig → calls j (args_of w n + 1) now ≡ calls k count y

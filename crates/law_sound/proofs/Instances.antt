@@ -6,7 +6,8 @@ use Rattle.std.proofs.lemmas.Option.{none-some}
 use Rattle.jc_base.specs.declared.ty.Ty.{Ty}
 use Rattle.jc_base.specs.declared.ty.Ty.TheVariants.{Class, ArrBool, ArrByte, ArrShort, ArrInt, ArrRef}
 use Rattle.jc_base.specs.Class.{ClassTable, AreClasses, IsClass, is_interface, object, class_in_types}
-use Rattle.jc_base.specs.Order.{Below, same, array_object, array_array, of_booleans, of_bytes, of_shorts, of_ints, of_references, is_on_chain, is_below}
+use Rattle.jc_base.specs.Order.{Below, same, array_object, array_array, of_booleans, of_bytes}
+use Rattle.jc_base.specs.Order.{of_shorts, of_ints, of_references, is_on_chain, is_below}
 use Rattle.jc_base.specs.Interface.{is_or_extends, implements}
 use Rattle.jc_base.specs.World.{Linked}
 use Rattle.jc_base.proofs.Lists.{All-slice_get}

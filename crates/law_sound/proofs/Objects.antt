@@ -5,7 +5,8 @@ use Rattle.std.specs.Prelude.{ℤ, pos, negsuc, Option, Some, None, Ok, All, sli
 use Rattle.std.proofs.lemmas.Bool.{false≢true, eqb-true, or_cases}
 use Rattle.std.proofs.lemmas.List.Elements.{All-cons, All-drop, All-weaker}
 use Rattle.jc_base.specs.declared.ty.Ty.{Ty}
-use Rattle.jc_base.specs.declared.ty.Ty.TheVariants.{Bottom, Short, IntHigh, IntLow, Null, Class, ArrBool, ArrByte, ArrShort, ArrInt, ArrRef, Fresh, Top}
+use Rattle.jc_base.specs.declared.ty.Ty.TheVariants.{Bottom, Short, IntHigh, IntLow, Null, Class, ArrBool}
+use Rattle.jc_base.specs.declared.ty.Ty.TheVariants.{ArrByte, ArrShort, ArrInt, ArrRef, Fresh, Top}
 use Rattle.jc_base.specs.Class.{object, throwable}
 use Rattle.jc_base.specs.Order.{Below, same, null_object, null_array, of_booleans, of_bytes, of_shorts, of_ints, of_references, IsArray}
 use Rattle.jc_base.specs.Dispatch.{IsConcrete}
@@ -34,9 +35,11 @@ use Rattle.vm_step.specs.declared.exception.Exception.TheVariants as exceptions
 use Rattle.vm_step.specs.Methods.{instruction_at}
 use Rattle.vm_step.specs.Act.{goes, makes, raises, throws}
 use Rattle.vm_step.specs.Numbers.{handle_at, short_at, dropped}
-use Rattle.vm_step.specs.Objects.{kind_of_type, new_act, array_of_count, new_array_act, throw_act, kind_passes, passes, may_cast, truth, type_test_act}
+use Rattle.vm_step.specs.Objects.{kind_of_type, new_act, array_of_count, new_array_act, throw_act}
+use Rattle.vm_step.specs.Objects.{kind_passes, passes, may_cast, truth, type_test_act}
 use Rattle.vm_step.specs.Settled.{goes_to, settled}
-use Rattle.law_sound.specs.Frames.{Typings, types_of_frame, class_made, class_of_new, class_made_by, IsStacked, result_of}
+use Rattle.law_sound.specs.Frames.{Typings, types_of_frame, class_made, class_of_new, class_made_by}
+use Rattle.law_sound.specs.Frames.{IsStacked, result_of, IsTypedFrame, AreWaiting}
 use Rattle.law_sound.specs.State.{CanBeMade}
 use Rattle.law_sound.specs.Soundness.{IsTypedOutcome}
 use Rattle.law_sound.proofs.CellTypes.{stacked-filled, stacked-falls, types-fall}
@@ -96,12 +99,12 @@ module _ (w : Linked) (world : IsWorld w) (assigned : Typings) (f : Frame Cell) 
           made = store.made;
           heap = store.objects;
           statics = store.fields;
-          frames =
-              grind (
-                arith,
-                typed-after w world assigned f below heap statics here more f.registers new (ap falls_from is ∙ falls) under all,
-                all-waiting-fall w assigned ks (kind ∷ []) (result_of w f.method) below here.waits,
-              );
+          frames = (
+            subst (λ xs. IsTypedFrame w assigned xs top) same
+                (typed-after w world assigned f below heap statics here more f.registers new (ap falls_from is ∙ falls) under all),
+            subst (λ xs. AreWaiting w assigned xs (result_of w f.method) below) same
+                (all-waiting-fall w assigned ks (kind ∷ []) (result_of w f.method) below here.waits),
+          );
         })
 
     -- the class that the instruction makes is the one that its place tells

@@ -34,10 +34,9 @@ module _ (w : Linked) (chains : AreClasses w.classes) where
   hold-tests : (types : Types) (ds : List Demand) → SatisfiesAll w.classes types ds → list_all (satisfies w.classes types) ds ≡ true
   hold-tests types [] h = refl
   hold-tests types (d ∷ ds) h =
-      grind (
-        arith,
-        and_from (satisfies w.classes types d) (list_all (satisfies w.classes types) ds) (true-of (satisfies w.classes types d) (Satisfies w.classes types d) ((are-decided w.classes (order-of-types w.classes chains)).demand types d) h.0) (hold-tests types ds h.1),
-      )
+      and_from (satisfies w.classes types d) (list_all (satisfies w.classes types) ds)
+      (true-of (satisfies w.classes types d) (Satisfies w.classes types d) ((are-decided w.classes (order-of-types w.classes chains)).demand types d) h.0)
+      (hold-tests types ds h.1)
 
   pub passes-before :
       (f : Frame Cell) (below : List (Frame Cell)) (heap : List (Object Cell)) (statics : List Cell) (op : Operation)

@@ -1,10 +1,11 @@
 -- References at a frame's turn: the object of a cell whose type lies below that of a reference.
+use Rattle.vm_store.specs.declared.cell.Cell.TheVariants as cells
 use Rattle.std.proofs.Common.{◌≡◌, ℕ, zero, suc, inl, inr, true, List, [], refl, sym, ap, ◌∙◌, subst, arith}
 use Rattle.std.specs.Prelude.{Option, Some, None, slice_get, option_map}
 use Rattle.std.proofs.lemmas.Bool.{false≢true}
 use Rattle.std.proofs.lemmas.Option.{none-some, same_Some, slice_get-map}
 use Rattle.jc_base.specs.declared.ty.Ty.{Ty}
-use Rattle.jc_base.specs.declared.ty.Ty.TheVariants.{Short, IntHigh, IntLow, Null, Class, ArrBool, ArrByte, ArrShort, ArrInt, ArrRef}
+use Rattle.jc_base.specs.declared.ty.Ty.TheVariants.{Short, IntHigh, IntLow, Null, Class, ArrBool, ArrByte, ArrShort, ArrInt, ArrRef, Fresh}
 use Rattle.jc_base.specs.Class.{ClassTable, AreClasses}
 use Rattle.jc_base.specs.Order.{Below, null_object, null_array, of_booleans, of_bytes, of_shorts, of_ints, of_references, is_below}
 use Rattle.jc_base.specs.Cell.{IsReference}
@@ -53,19 +54,14 @@ module _ (t : ClassTable) (are : AreClasses t) where
   pub reference-handle :
       (unset : Ty) (ks : List ObjectKind) (c : Cell) (ty : Ty) → IsReference ty → Below t (least_type t unset ks c) ty
       → Below t (type_of_handle t ks (word_of c)) ty
-  reference-handle unset ks z ty r b =
-      grind (
-        arith,
-        null-reference,
-        over-short,
-        is_below-from_Below,
-        over-high,
-        over-low,
-        not-over-top,
-        reference-topless,
-        not-over-seen,
-        reference-ready,
-      )
+  reference-handle unset ks cells.Empty ty r b = null-reference t ty r
+  reference-handle unset ks (cells.Short n) ty r b = absurd (over-short ty r (is_below-from_Below t are b))
+  reference-handle unset ks (cells.High n) ty r b = absurd (over-high ty r (is_below-from_Below t are b))
+  reference-handle unset ks (cells.Low n) ty r b = absurd (over-low ty r (is_below-from_Below t are b))
+  reference-handle unset ks (cells.Ref n) ty r b = b
+  reference-handle unset ks (cells.Fresh zero p) ty r b = absurd (not-over-top t are ty (reference-topless ty r) b)
+  reference-handle unset ks (cells.Fresh (suc n) p) ty r b =
+      absurd (not-over-seen t are p (slice_get ks n) ty (reference-ready ty r) (reference-topless ty r) b)
 
   -- and its least type is that of the handle, where something was stored
   pub reference-same :

@@ -184,10 +184,9 @@ module _ (w : Linked) (world : IsWorld w) (assigned : Typings) (f : Frame Cell) 
         (handle : ℕ) (k : ObjectKind) → kind_of_handle (kinds_of heap) handle ≡ Some k
         → IsTypedOutcome w assigned (thrown tagged w handle (record { frames = f ∷ below; heap = heap; statics = statics }))
     throw-safe handle k e =
-        grind (
-          arith,
-          unwound-safe w assigned heap statics here.store (class_with_methods w.classes (kind_of_handle (kinds_of heap) handle)) handle (throwable (kinds_of heap) handle k e) (f ∷ below) (f ∷ below) catching-now,
-        )
+        unwound-safe w assigned heap statics here.store (class_with_methods w.classes (kind_of_handle (kinds_of heap) handle)) handle
+        (throwable (kinds_of heap) handle k e)
+        (f ∷ below) (f ∷ below) catching-now
 
     role-range : (e : Exception) → (2 ≤ role_of e) × (role_of e < 8)
     role-range x = grind (arith, lit≤, lit<)
