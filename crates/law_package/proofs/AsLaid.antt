@@ -48,13 +48,12 @@ code_at info at laid back small e =
     record {
       header = header;
       size = size;
-      code =
-          grind (
-            arith,
-            drop-drop (header_size n) at info,
-            drop_take (header_size n) (length laid.code) (drop at info),
-            drop-append_seam hs laid.code,
-          );
+      code = ap (λ k. take (length laid.code) (drop (at + k) info)) size
+          ∙ ap (take (length laid.code)) (sym (drop-drop (header_size n) at info))
+          ∙ sym (drop_take (header_size n) (length laid.code) (drop at info))
+          ∙ ap (drop (header_size n)) e
+          ∙ ap (λ k. drop k (hs ++ laid.code)) (sym long)
+          ∙ drop-append_seam hs laid.code;
     }
 
 -- ---- a header

@@ -89,20 +89,13 @@ pub record AreAlike (set : ℕ → Bool) (cs ds : List ClassDescriptor) : Type 0
   pub refs : map ref_of ds ≡ map ref_of cs
 
 pub alike : (set : ℕ → Bool) (cs ds : List ClassDescriptor) → map (bare_class set) ds ≡ map (bare_class set) cs → AreAlike set cs ds
-alike set cs ds e =
-    grind (
-      arith,
-      bare_but set ds,
-      bare_but set cs,
-      bare_in set ds,
-      bare_in set cs,
-      bare_of set ds,
-      bare_of set cs,
-      bare_fields set ds,
-      bare_fields set cs,
-      bare_refs set ds,
-      bare_refs set cs,
-    )
+alike set cs ds e = record {
+  described = sym (bare_but set ds) ∙ ap (methods_but set) e ∙ bare_but set cs;
+  interfaces = sym (bare_in set ds) ∙ ap (methods_in set) e ∙ bare_in set cs;
+  methods = sym (bare_of set ds) ∙ ap (λ xs. map bare_method (methods_of xs)) e ∙ bare_of set cs;
+  fields = sym (bare_fields set ds) ∙ ap fields_of e ∙ bare_fields set cs;
+  refs = sym (bare_refs set ds) ∙ ap (map ref_of) e ∙ bare_refs set cs;
+}
 
 -- ---- types
 

@@ -13,7 +13,8 @@ use Rattle.cap_components.specs.Descriptions.{argument_words}
 use Rattle.cap_components.specs.Parts.{Lent}
 use Rattle.cap_components.specs.PackageRecord.{PackageRecord, described_methods, names_interface}
 use Rattle.cap_package.specs.MethodChecks.{code_end, outside_fault}
-use Rattle.cap_package.specs.HeaderChecks.{header_in, is_abstract, is_static, registers_fault, registers_by, length_fault, length_by, arguments_fault}
+use Rattle.cap_package.specs.HeaderChecks.{header_in, is_abstract, is_static, registers_fault}
+use Rattle.cap_package.specs.HeaderChecks.{registers_by, length_fault, length_by, arguments_fault}
 use Rattle.cap_package.specs.HeaderChecks.{arguments_by, abstract_fault, abstract_by}
 use Rattle.cap_package.proofs.HeaderLaws.{has-header, ends-within, few_registers}
 use Rattle.jc_decode.specs.declared.symbols.Laid.{Laid}

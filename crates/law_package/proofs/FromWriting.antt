@@ -1,5 +1,5 @@
 -- What is written, component by component, is the package with the code that is laid.
-use Rattle.std.proofs.Common.{◌≡◌, ◌≤◌, ◌<◌, ◌+◌, ℕ, zero, suc, List, [], ◌∷◌, length, map, filter, sum_by, drop, All, Option}
+use Rattle.std.proofs.Common.{◌≡◌, ◌≤◌, ◌<◌, ◌+◌, ℕ, zero, suc, List, [], ◌∷◌, length, map, filter, sum_by, drop, All, Option, take}
 use Rattle.std.proofs.Common.{option_map, refl, sym, ap, subst, ◌∙◌, arith}
 use Rattle.std.specs.Prelude.{slice_index}
 use Rattle.jc_base.proofs.Eaching.{All-from_Each}
@@ -91,11 +91,11 @@ handlers_if : (p q : PackageRecord) (laid : List (Option Laid)) (ms : List Writt
     → HasRank p laid ms z
     → handlers_of q (renewed_method (places p ms) z.source.method) ≡ block_entries (places p ms) z.member
 handlers_if p q laid ms z w k r =
-    grind (
-      arith,
-      index_if p q laid ms z w k r,
-      entries_among (places p ms) (blocks (length p.methods.handlers) ms) z.member r.before r.among,
-    )
+    let m = renewed_method (places p ms) z.source.method in
+    ap (λ n. take n (drop m.handler_index q.methods.handlers)) k.told.many
+    ∙ ap (λ n. take (many_of z.member) (drop n q.methods.handlers)) (index_if p q laid ms z w k r)
+    ∙ ap (λ hs. take (many_of z.member) (drop (first_entry r.before (many_of z.member)) hs)) w.handlers
+    ∙ entries_among (places p ms) (blocks (length p.methods.handlers) ms) z.member r.before r.among
 
 written_one : (parts : List Lent) (p q : PackageRecord) (laid : List (Option Laid)) (ms : List WrittenMember) (z : Pair) → StandsFor parts p
     → IsWrittenAnew p laid ms q → Each (Known p q ms) (pairs_in p laid ms) → Has (pairs_in p laid ms) z

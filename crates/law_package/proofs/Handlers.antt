@@ -1,6 +1,7 @@
 -- Each entry of the handler table is owned by exactly one method, in whose code it lies.
 use Rattle.std.proofs.Common.{◌≡◌, ◌≤◌, ◌<◌, ◌+◌, ◌-◌, ℕ, zero, suc, List, [], ◌∷◌, ◌++◌, length, map, take, drop, sum_by}
-use Rattle.std.proofs.Common.{filter, filter_map, slice_get, max, Bool, true, false, cond, not, ◌&&◌, Option, Some, None, inl, inr, refl, sym, ap, subst}
+use Rattle.std.proofs.Common.{filter, filter_map, slice_get, max, Bool, true, false, cond, not, ◌&&◌}
+use Rattle.std.proofs.Common.{Option, Some, None, inl, inr, refl, sym, ap, subst}
 use Rattle.std.proofs.Common.{◌∙◌, arith}
 use Rattle.std.specs.Prelude.{if◌then◌else◌, nat_lt, nat_le, ◌==◌}
 use Rattle.std.proofs.lemmas.Bool.{false≢true, leb-true, le-leb, lt-ltb, le-ltb}
@@ -21,11 +22,12 @@ use Rattle.law_package.specs.Changes.{FormerMethod, Change, changes, sources_fro
 use Rattle.law_package.specs.Written.{IsAs, IsMethodWritten, handlers_in, block_of}
 use Rattle.law_package.specs.Rewritten.{IsRewritten}
 use Rattle.law_package.specs.Laying.{IsFor, AreLaidFor}
-use Rattle.law_package.proofs.Lists.{Each, Has, each_at, each_of, none_each, each_none, append_none, filter_map_in, filter_alike, has_filter}
+use Rattle.law_package.proofs.Lists.{Each, Has, each_at, each_of, none_each}
+use Rattle.law_package.proofs.Lists.{each_none, append_none, filter_map_in, filter_alike, has_filter}
 use Rattle.law_package.proofs.Sums.{sum_beside}
 use Rattle.law_package.proofs.Owners.{below, lies_in, Distinct, owned}
 use Rattle.cap_package.proofs.Agreed.{Agrees}
-use Rattle.law_package.proofs.Zipped.{old_of, source_of, from_number}
+use Rattle.law_package.proofs.Zipped.{old_of, source_of, from_number, now_of}
 use Rattle.law_package.proofs.Facts.{Fact, facts, news, olds, froms, old_each, all_written, few_by, no_faults}
 use Rattle.law_package.proofs.Standing.{distinct_map}
 use Rattle.law_package.proofs.Names.{is_told}
@@ -188,17 +190,13 @@ owners_are : (p q : PackageRecord) (laid : List (Option Laid)) (k : ℕ) (c : Ch
     → filter (lies_in handlers_in (block p) (changes p laid q) k) (changes p laid q) ≡ c ∷ [] → owners k (described_methods q) ≡ c.now ∷ []
 unfolding owners
 owners_are p q laid k c r alone =
-    grind (
-      arith,
-      all_written p q laid r,
-      filter (claims k),
-      news p q laid r,
-      filter_map_in,
-      filter_alike,
-      each_of,
-      lies_or_claims,
-      each_at,
-    )
+    let cs = changes p laid q in
+    let ws = all_written p q laid r in
+    ap (filter (claims k)) (sym (news p q laid r))
+    ∙ filter_map_in (claims k) now_of cs
+    ∙ ap (map now_of) (filter_alike (λ (x : Change). claims k x.now) (lies_in handlers_in (block p) cs k) cs
+    (each_of (λ (x : Change). claims k x.now ≡ lies_in handlers_in (block p) cs k x) cs
+    (λ x h. lies_or_claims p q cs k x (each_at (IsMethodWritten p q cs) cs x ws h))) ∙ alone)
 
 -- ---- where an entry lies
 

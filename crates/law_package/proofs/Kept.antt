@@ -13,14 +13,17 @@ use Rattle.cap_components.specs.Descriptions.{Description}
 use Rattle.cap_components.specs.Parts.{Lent}
 use Rattle.cap_components.specs.PackageRecord.{PackageRecord, interface_methods, fields, names_interface}
 use Rattle.cap_package.specs.Pairs.{pairs}
-use Rattle.cap_package.specs.StaticChecks.{place_in, place_by, share_fault, share_by, share_pair, image_fault, image_by, array_kinds, filled_fault, filled_by}
+use Rattle.cap_package.specs.StaticChecks.{place_in, place_by, share_fault, share_by, share_pair}
+use Rattle.cap_package.specs.StaticChecks.{image_fault, image_by, array_kinds, filled_fault, filled_by}
 use Rattle.cap_package.specs.StaticChecks.{kind_at, image_offset, is_static_at, no_static_fault}
 use Rattle.cap_package.specs.NameChecks.{exported_fields, undescribed_fault, undescribed_class_fault, not_own_fault}
 use Rattle.cap_package.specs.TypeChecks.{field_type_fault, field_type_by, method_type_fault, method_type_by}
 use Rattle.cap_components.specs.declared.count_kind.CountKind.{CountKind}
-use Rattle.cap_components.specs.declared.count_kind.CountKind.TheVariants.{Imports, Applets, ImageSize, InitialArrays, ArrayBytes, PoolTypes}
+use Rattle.cap_components.specs.declared.count_kind.CountKind.TheVariants.{Imports, Applets, ImageSize}
+use Rattle.cap_components.specs.declared.count_kind.CountKind.TheVariants.{InitialArrays, ArrayBytes, PoolTypes}
 use Rattle.cap_components.specs.declared.count_kind.CountKind.TheVariants.{ImageSegments}
-use Rattle.cap_package.specs.CountChecks.{array_bytes, image_bytes, instance_fault, instance_by, described_cells, described_cells_by, count_if}
+use Rattle.cap_package.specs.CountChecks.{array_bytes, image_bytes, instance_fault, instance_by}
+use Rattle.cap_package.specs.CountChecks.{described_cells, described_cells_by, count_if}
 use Rattle.cap_package.specs.HeaderChecks.{is_static}
 use Rattle.cap_package.specs.Agreement.{or_none}
 use Rattle.cap_package.specs.FirstFault.{disagreements}
@@ -177,12 +180,10 @@ exported_same f (Some cs) = by cs
 pub same_exports : (parts : List Lent) (p q : PackageRecord) (laid : List (Option Laid)) → Agrees parts p → IsRewritten p laid q
     → filter_map (no_static_fault (is_static_at (fields q))) (exported_fields (or_none q.export)) ≡ []
 same_exports parts p q laid a r =
-    grind (
-      arith,
-      same_fields p q laid r,
-      filter_map (no_static_fault (is_static_at (fields p))),
-      exported_same (now_at (changes p laid q)) p.export,
-    )
+    ap (λ fs. filter_map (no_static_fault (is_static_at fs)) (exported_fields (or_none q.export))) (same_fields p q laid r)
+    ∙ ap (λ o. filter_map (no_static_fault (is_static_at (fields p))) (exported_fields (or_none o))) r.export
+    ∙ ap (filter_map (no_static_fault (is_static_at (fields p)))) (exported_same (now_at (changes p laid q)) p.export)
+    ∙ a.exports
 
 -- ---- classes
 

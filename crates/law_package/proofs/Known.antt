@@ -33,7 +33,8 @@ use Rattle.law_package.proofs.Zipped.{method_of, sources_method, length_but}
 use Rattle.law_package.proofs.Facts.{WasWell, wells}
 use Rattle.law_package.proofs.Standing.{sizes_end}
 use Rattle.law_package.proofs.Handlers.{ClaimsInside, all_claims}
-use Rattle.law_package.proofs.Anew.{Pair, pairs_in, source_in, member_in, pair_sources, pair_members, pair_each, change_in, standing, IsToldOf, is_told_of}
+use Rattle.law_package.proofs.Anew.{Pair, pairs_in, source_in, member_in, pair_sources, pair_members}
+use Rattle.law_package.proofs.Anew.{pair_each, change_in, standing, IsToldOf, is_told_of}
 use Rattle.law_package.proofs.AsLaid.{IsCodeAt, code_at, IsLeadAt, lead_at}
 
 pub was_described : (p q : PackageRecord) (laid : List (Option Laid)) (ms : List WrittenMember) → IsWrittenAnew p laid ms q

@@ -98,15 +98,13 @@ pub last_stays : (parts : List Lent) (p q : PackageRecord) (laid : List (Option 
     → now_at (changes p laid q) 0xFFFF ≡ 0xFFFF
 unfolding now_at
 last_stays parts p q laid s r =
-    grind (
-      arith,
-      info-short 7 s.said.methods.file p.methods.info s.said.methods.framed,
-      old_each p q laid (WasWell p) r (wells parts p (agrees parts p s.agree)),
-      find_none,
-      each_of,
-      below_last,
-      each_at,
-    )
+    let cs = changes p laid q in
+    let short = info-short 7 s.said.methods.file p.methods.info s.said.methods.framed in
+    let ws = old_each p q laid (WasWell p) r (wells parts p (agrees parts p s.agree)) in
+    ap (offset_by 0xFFFF)
+    (find_none (stood_at 0xFFFF) cs
+    (each_of (λ (c : Change). stood_at 0xFFFF c ≡ false) cs
+    (λ c h. below_last p c.source.method (each_at (λ (x : Change). WasWell p x.source.method) cs c ws h) short)))
 
 -- ---- lists of names
 

@@ -1,6 +1,7 @@
 -- The order of the blocks of handlers, and where the entries of a method stand in it.
 use Rattle.std.proofs.Common.{◌≡◌, ◌≤◌, ◌<◌, ◌+◌, ℕ, zero, suc, List, [], ◌∷◌, ◌++◌, length, filter, replicate, sum_by, take}
-use Rattle.std.proofs.Common.{drop, flat_map, option_to_list, Bool, true, false, cond, Option, Some, None, is_none, inl, inr, refl, sym, ap, ◌∙◌, arith}
+use Rattle.std.proofs.Common.{drop, flat_map, option_to_list, Bool, true, false, cond, Option, Some}
+use Rattle.std.proofs.Common.{None, is_none, inl, inr, refl, sym, ap, ◌∙◌, arith}
 use Rattle.std.proofs.Common.{append_assoc}
 use Rattle.std.specs.Prelude.{if◌then◌else◌, ◌==◌, slice_set, slice_index}
 use Rattle.std.proofs.lemmas.List.Sums.{sum_by-cons}
@@ -11,7 +12,8 @@ use Rattle.cap_renewal.specs.declared.new_methods.NewMethod.{NewMethod}
 use Rattle.cap_renewal.specs.NewMethods.{to}
 use Rattle.cap_laying.specs.declared.member.WrittenMember.{WrittenMember}
 use Rattle.cap_laying.specs.Member.{handlers_of, lead_size}
-use Rattle.cap_laying.specs.Blocks.{blocks, firsts, had_none, first_entry, put_indexes, handler_indexes, block_entries, entries_of_blocks, total_handlers}
+use Rattle.cap_laying.specs.Blocks.{blocks, firsts, had_none, first_entry, put_indexes}
+use Rattle.cap_laying.specs.Blocks.{handler_indexes, block_entries, entries_of_blocks, total_handlers}
 use Rattle.cap_laying.proofs.Owned.{total_append, length_entries as length_at, length_table}
 use Rattle.law_package.proofs.Lists.{Each, Has, each_at}
 use Rattle.law_package.proofs.Slots.{slot, sum_slots, first_of}

@@ -14,7 +14,8 @@ use Rattle.cap_components.specs.declared.fault.PackFault.TheVariants.{MissingPar
 use Rattle.cap_components.specs.Parts.{Lent, held}
 use Rattle.cap_components.specs.Components.{info_in, read_directory}
 use Rattle.cap_components.specs.PackageRecord.{PackageRecord}
-use Rattle.cap_components.specs.PartChecks.{required, optional, custom_tags, absent_fault, absent_by, sized_fault, form_fault, form_by, size_fault, size_by}
+use Rattle.cap_components.specs.PartChecks.{required, optional, custom_tags, absent_fault, absent_by}
+use Rattle.cap_components.specs.PartChecks.{sized_fault, form_fault, form_by, size_fault, size_by}
 use Rattle.cap_components.specs.Saying.{AreSaid}
 use Rattle.cap_components.proofs.Saying.{part_read}
 use Rattle.cap_package.specs.FirstFault.{missing_parts}
