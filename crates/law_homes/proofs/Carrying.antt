@@ -374,11 +374,10 @@ module _
       subst (λ (c : ℕ). WentAll n registers c q x (suc many_locals)) (sym total)
       (record {
         after = rest.after;
-        runs =
-            grind (
-              arith,
-              continues-on tagged w (length (insns xs)) (length (insns ys)) (running (at (place n) registers)) (running (at (place (n + length (insns xs))) first.after)) (running (at (place (n + length (insns xs) + length (insns ys))) rest.after)) first.runs rest.runs,
-            );
+        runs = subst (λ (k : ℕ). Runs tagged w (length (insns xs) + length (insns ys)) (at (place n) registers) (running (at (place k) rest.after))) e
+            (continues-on tagged w (length (insns xs)) (length (insns ys)) (running (at (place n) registers))
+            (running (at (place (n + length (insns xs))) first.after)) (running (at (place (n + length (insns xs) + length (insns ys))) rest.after))
+            first.runs rest.runs);
         many = rest.many ∙ first.many;
         keeps = λ a has held. rest.keeps a has (first.keeps a has held);
         locals = λ y low high. by y low high (cases_lt x y) first.holds rest.keeps rest.locals;

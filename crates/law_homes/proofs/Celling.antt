@@ -26,7 +26,8 @@ use Rattle.law_rewritten_typing.specs.Edges.{AreMatched, none_matched, more_matc
 use Rattle.law_homes.specs.Edges.{insns, IsBeside, AreMoved, CellsRun, StartsHold}
 use Rattle.law_homes.specs.Held.{HoldsValue, slots}
 use Rattle.law_homes.specs.Moves.{letter_of, InstructionsStandFrom, IsAtStep}
-use Rattle.law_homes.proofs.Beside.{each-among, among-each, own, register-inside, register-small, cells-valued, held-as, get-left, placed-state}
+use Rattle.law_homes.proofs.Beside.{each-among, among-each, own, register-inside, register-small}
+use Rattle.law_homes.proofs.Beside.{cells-valued, held-as, get-left, placed-state}
 use Rattle.law_homes.specs.Premises.{AreLaws}
 use Rattle.law_homes.proofs.Carrying.{same-letter, same-or-reference, ArePairs, no_pairs, more_pairs, cells-run}
 use Rattle.law_homes.proofs.Edging.{home-same}

@@ -41,7 +41,8 @@ use Rattle.xf_homes.specs.Plan.{or_first, register}
 use Rattle.xf_emission.specs.Move.{with_byte, store_op}
 use Rattle.law_homes.specs.Held.{HoldsValue}
 use Rattle.law_homes.specs.Laws.{AreApart}
-use Rattle.law_homes.specs.Moves.{IsExecutable, size, copied, AreFilled, letter_of, InstructionsStandFrom, load_of, copy_of, IsAtStep, CanLoad, OwnRegisters}
+use Rattle.law_homes.specs.Moves.{IsExecutable, size, copied, AreFilled, letter_of, InstructionsStandFrom}
+use Rattle.law_homes.specs.Moves.{load_of, copy_of, IsAtStep, CanLoad, OwnRegisters}
 use Rattle.law_homes.specs.Moves.{HomesOwnRegisters, IsCopy, AreCopied, HomesAreCopied}
 use Rattle.jc_decode.specs.Places.{place_after}
 use Rattle.law_homes.proofs.CopiedHomes.{copied-count, copies-keep-homes}

@@ -32,7 +32,8 @@ use Rattle.law_homes.specs.Held.{HoldsValue, slots}
 use Rattle.law_homes.specs.Moves.{size, letter_of, InstructionsStandFrom, IsAtStep}
 use Rattle.law_homes.proofs.Copies.{wide}
 use Rattle.law_homes.proofs.Valued.{asked_types, CellsAt, cells-left, value-inside}
-use Rattle.law_homes.proofs.Beside.{each-among, among-each, own, register-inside, register-small, needed-valued, count-registers, held-as, placed-state}
+use Rattle.law_homes.proofs.Beside.{each-among, among-each, own, register-inside, register-small}
+use Rattle.law_homes.proofs.Beside.{needed-valued, count-registers, held-as, placed-state}
 use Rattle.law_homes.specs.Premises.{AreLaws}
 use Rattle.law_homes.proofs.Beside.{held-in-slots, held-in-registers}
 use Rattle.law_homes.proofs.Carrying.{same-letter, same-or-reference, IsFrom, LocalIs, locals-run}

@@ -82,12 +82,9 @@ module _ (t : ClassTable) (order : IsOrderOfTypes t) (ks : List ObjectKind) wher
       → map (renamed_cell e) (piled values hs []) ≡ piled values hs []
   same-pile e values [] all = refl
   same-pile e values (h ∷ hs) all =
-      grind (
-        arith,
-        map-append (renamed_cell e) (value_in_register (letter_of h.ty) h.slot values) (piled values hs []),
-        same-value e (letter_of h.ty) values h.slot all.0,
-        same-pile e values hs all.1,
-      )
+      map-append (renamed_cell e) (value_in_register (letter_of h.ty) h.slot values) (piled values hs [])
+      ∙ (ap (λ (cs : List Cell). cs ++ map (renamed_cell e) (piled values hs [])) (same-value e (letter_of h.ty) values h.slot all.0)
+      ∙ ap (λ (cs : List Cell). value_in_register (letter_of h.ty) h.slot values ++ cs) (same-pile e values hs all.1))
 
 pub kept-stacks-stay : (v w : Linked) → AreLaws v w → KeptStacksStay v w
 kept-stacks-stay v w l s q f t e is plan beside keeps =

@@ -136,11 +136,9 @@ module _ (w : Linked) (chains : AreClasses w.classes) where
         → IsSomeAnd (slice_get (least_types w.classes Bottom ks f.registers) n) (Meets w.classes (Value ty))
         → Meets w.classes (Value ty) (least_type w.classes Bottom ks (loaded_as kind (nth tagged f.registers n)))
     loaded-meets n kind ty filled h =
-        grind (
-          arith,
-          loaded-filled kind (nth tagged f.registers n) filled,
-          cell-at w.classes Bottom ks f.registers n (Meets w.classes (Value ty)) h,
-        )
+        subst (λ c. Meets w.classes (Value ty) (least_type w.classes Bottom ks c))
+        (sym (loaded-filled kind (nth tagged f.registers n) filled))
+        (cell-at w.classes Bottom ks f.registers n (Meets w.classes (Value ty)) h).holds
 
     copy-runs :
         (sort : Sort)

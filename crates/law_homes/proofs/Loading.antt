@@ -16,7 +16,8 @@ use Rattle.jc_control.specs.WellFormed.{IsPlace}
 use Rattle.jc_ops.specs.declared.operation.Operation.TheVariants as ops
 use Rattle.jc_ops.specs.declared.operation.Sort.{Sort}
 use Rattle.jc_ops.specs.declared.operation.Sort.TheVariants as sorts
-use Rattle.jc_ops.specs.Row.{table, row_at, unused, by_sort, by_width, by_kind, first_four, by_register, literals, binaries, orders_all, branching}
+use Rattle.jc_ops.specs.Row.{table, row_at, unused, by_sort, by_width, by_kind}
+use Rattle.jc_ops.specs.Row.{first_four, by_register, literals, binaries, orders_all, branching}
 use Rattle.jc_ops.specs.Resolve.{resolved, Resolves}
 use Rattle.jc_rules.specs.Demand.{SatisfiesAll}
 use Rattle.jc_rules.specs.Rule.{demands}
@@ -36,7 +37,8 @@ use Rattle.xf_emission.specs.Mnemonics.{aload, sload, iload, astore, sstore, ist
 use Rattle.xf_homes.specs.declared.home.Home.{Home}
 use Rattle.xf_homes.specs.Source.{Source}
 use Rattle.xf_homes.specs.Plan.{register}
-use Rattle.law_homes.specs.Moves.{IsExecutable, AreFilled, letter_of, InstructionsStandFrom, load_of, IsAtStep, CanLoad, value_in_register, loaded_stack}
+use Rattle.law_homes.specs.Moves.{IsExecutable, AreFilled, letter_of, InstructionsStandFrom, load_of}
+use Rattle.law_homes.specs.Moves.{IsAtStep, CanLoad, value_in_register, loaded_stack}
 use Rattle.law_homes.specs.Moves.{LoadsRun}
 use Rattle.jc_decode.specs.Places.{place_after}
 use Rattle.law_homes.proofs.Going.{loaded-filled, operations-go-on}

@@ -1,4 +1,5 @@
 -- The loads after a conditional's stack was stored: those of its operands, and those of the cells under them.
+use Rattle.law_homes.proofs.Copies.{wide}
 use Rattle.std.proofs.Common.{◌≡◌, inl, inr, ℕ, ◌+◌, ◌-◌, ◌<◌, ◌≤◌, true, List, [], ◌∷◌, ◌++◌, length, take, drop}
 use Rattle.std.proofs.Common.{reverse, refl, sym, ap, ◌∙◌, subst, arith, append_assoc, length-append}
 use Rattle.std.proofs.lemmas.List.{append_cancel_right, length-reverse, length-drop, reverse-append, reverse-reverse, take-append-drop}
@@ -60,14 +61,9 @@ module _ (s : Source) (values : List Cell) (g : Frame Cell) where
       ≡ piled values (reverse hs) stack
   loaded-piled [] stack held = refl
   loaded-piled (h ∷ hs) stack held =
-      grind (
-        arith,
-        same-value,
-        piled-append,
-        reverse,
-        turned-cons,
-        loaded-piled hs (value_in_register (letter_of h.ty) h.slot values ++ stack) held.1,
-      )
+      ap (λ (cs : List Cell). loaded_stack s g.registers hs (cs ++ stack)) (same-value (letter_of h.ty) h (wide h.ty) held.0)
+      ∙ (loaded-piled hs (value_in_register (letter_of h.ty) h.slot values ++ stack) held.1
+      ∙ (sym (piled-append values (reverse hs) (h ∷ []) stack) ∙ ap (λ (ks : List Home). piled values ks stack) (sym (turned-cons h hs))))
 
 -- ---- lists
 

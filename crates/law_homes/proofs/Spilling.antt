@@ -45,7 +45,8 @@ use Rattle.law_homes.proofs.Loading.{store-resolves, step-place}
 use Rattle.law_homes.proofs.Standing.{steps-execute}
 use Rattle.law_homes.proofs.Valued.{asked_types, CellsAt, value-inside}
 use Rattle.law_homes.proofs.StackStores.{piled, piled-stack, stored, stored-count, stored-holds, stored-apart, store-asked}
-use Rattle.law_homes.proofs.Beside.{each-among, among-each, own, register-inside, register-small, typed, count-registers, count-stack, stack-fits, placed-state}
+use Rattle.law_homes.proofs.Beside.{each-among, among-each, own, register-inside, register-small}
+use Rattle.law_homes.proofs.Beside.{typed, count-registers, count-stack, stack-fits, placed-state}
 use Rattle.law_homes.specs.Premises.{AreLaws}
 use Rattle.law_homes.proofs.Beside.{cells-valued, held-as}
 

@@ -160,18 +160,18 @@ pub store-asked :
       regs = least_types w.classes Bottom ks registers;
       stack = least_types w.classes Bottom ks (value_in_register letter slot values ++ stack);
     }) (demands w (Store letter r))
-store-asked w ks sorts.Reference values slot r registers stack h inside =
-    grind (
-      arith,
-      least-count w.classes ks registers (r + 1) inside,
-      at-nth values slot (IsCellOf w.classes ks (Class (object w.classes))) h.0,
-    )
-store-asked w ks sorts.Short values slot r registers stack h inside =
-    grind (arith, least-count w.classes ks registers (r + 1) inside, at-nth values slot (IsCellOf w.classes ks Short) h.0)
-store-asked w ks sorts.Int values slot r registers stack h inside =
-    grind (
-      arith,
-      least-count w.classes ks registers (r + 2) inside,
-      at-nth values (slot + 1) (IsCellOf w.classes ks IntLow) h.1.0,
-      at-nth values slot (IsCellOf w.classes ks IntHigh) h.0,
-    )
+store-asked w ks sorts.Reference values slot r registers stack h inside = (
+  least-count w.classes ks registers (r + 1) inside,
+  ((at-nth values slot (IsCellOf w.classes ks (Class (object w.classes))) h.0).1.1, tt),
+)
+store-asked w ks sorts.Short values slot r registers stack h inside = (
+  least-count w.classes ks registers (r + 1) inside,
+  ((at-nth values slot (IsCellOf w.classes ks Short) h.0).1.1, tt),
+)
+store-asked w ks sorts.Int values slot r registers stack h inside = (
+  least-count w.classes ks registers (r + 2) inside,
+  (
+    (at-nth values (slot + 1) (IsCellOf w.classes ks IntLow) h.1.0).1.1,
+    ((at-nth values slot (IsCellOf w.classes ks IntHigh) h.0).1.1, tt),
+  ),
+)

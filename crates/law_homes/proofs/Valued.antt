@@ -5,7 +5,8 @@ use Rattle.std.specs.Prelude.{Option, Some, None, option_map, IsSomeAnd, slice_g
 use Rattle.std.proofs.lemmas.List.{length-map}
 use Rattle.std.proofs.lemmas.Option.{slice_get-map}
 use Rattle.jc_base.specs.declared.ty.Ty.{Ty}
-use Rattle.jc_base.specs.declared.ty.Ty.TheVariants.{Bottom, Short, IntHigh, IntLow, Null, Class, ArrBool, ArrByte, ArrShort, ArrInt, ArrRef, Fresh, Top}
+use Rattle.jc_base.specs.declared.ty.Ty.TheVariants.{Bottom, Short, IntHigh, IntLow, Null, Class, ArrBool}
+use Rattle.jc_base.specs.declared.ty.Ty.TheVariants.{ArrByte, ArrShort, ArrInt, ArrRef, Fresh, Top}
 use Rattle.jc_base.specs.Class.{ClassTable, object}
 use Rattle.jc_base.specs.Laws.{ClassesAreObjects, IsOrderOfTypes}
 use Rattle.jc_base.specs.Order.{Below, joined, null_object, array_object, of_booleans, of_bytes, of_shorts, of_ints, of_references, IsKnown}
@@ -112,25 +113,18 @@ pub load-asked :
     (w : Linked) (ks : List ObjectKind) (letter : Sort) (r : ℕ) (registers : List Cell) (stack : List Ty)
     → CellsAt w.classes ks registers r (asked_types w.classes letter)
     → SatisfiesAll w.classes (record { regs = least_types w.classes Bottom ks registers; stack = stack }) (demands w (Load letter r))
-load-asked w ks sorts.Reference r registers stack h =
-    grind (
-      arith,
-      least-count w.classes ks registers (r + 1) (value-inside w.classes ks sorts.Reference registers r h),
-      least-at w.classes ks registers r (Class (object w.classes)) h.0,
-    )
-load-asked w ks sorts.Short r registers stack h =
-    grind (
-      arith,
-      least-count w.classes ks registers (r + 1) (value-inside w.classes ks sorts.Short registers r h),
-      least-at w.classes ks registers r Short h.0,
-    )
-load-asked w ks sorts.Int r registers stack h =
-    grind (
-      arith,
-      least-count w.classes ks registers (r + 2) (value-inside w.classes ks sorts.Int registers r h),
-      least-at w.classes ks registers r IntHigh h.0,
-      least-at w.classes ks registers (r + 1) IntLow h.1.0,
-    )
+load-asked w ks sorts.Reference r registers stack h = (
+  least-count w.classes ks registers (r + 1) (value-inside w.classes ks sorts.Reference registers r h),
+  (least-at w.classes ks registers r (Class (object w.classes)) h.0, tt),
+)
+load-asked w ks sorts.Short r registers stack h = (
+  least-count w.classes ks registers (r + 1) (value-inside w.classes ks sorts.Short registers r h),
+  (least-at w.classes ks registers r Short h.0, tt),
+)
+load-asked w ks sorts.Int r registers stack h = (
+  least-count w.classes ks registers (r + 2) (value-inside w.classes ks sorts.Int registers r h),
+  (least-at w.classes ks registers r IntHigh h.0, (least-at w.classes ks registers (r + 1) IntLow h.1.0, tt)),
+)
 
 pub load-filled :
     (t : ClassTable) (ks : List ObjectKind) (letter : Sort) (r : ℕ) (registers : List Cell)
