@@ -1,5 +1,5 @@
 -- A conditional branch or a switch with no cells under its operands: its step in laid code, and where that leads.
-use Rattle.std.proofs.Common.{◌≡◌, ℕ, zero, suc, ◌+◌, ◌-◌, ◌≤◌, false, List}
+use Rattle.std.proofs.Common.{◌≡◌, ℕ, zero, suc, ◌+◌, ◌-◌, ◌≤◌, false, List, ◌∙◌}
 use Rattle.std.proofs.Common.{[], ◌∷◌, ◌++◌, refl, ap, arith}
 use Rattle.std.specs.Prelude.{ℤ, Option, Some, None, Ok, nat_lt, slice_get}
 use Rattle.std.specs.List.{filter}
@@ -23,7 +23,7 @@ use Rattle.xf_homes.specs.Plan.{stack_homes, cells_from, depth, home_of, stack_o
 use Rattle.xf_emission.specs.declared.origin.Origin.TheVariants.{After}
 use Rattle.xf_emission.specs.Edge.{cell_copies, copies}
 use Rattle.xf_emission.specs.Group.{body}
-use Rattle.xf_emission.specs.Jump.{branch, has_under, jump_to, lead, leads}
+use Rattle.xf_emission.specs.Jump.{branch, has_under, jump_to, lead, leads, operands_slot}
 use Rattle.xf_emission.specs.Jump.{branch_copies, under, way_of}
 
 -- ---- the body
@@ -63,11 +63,10 @@ none-below c (h ∷ hs) all = grind (arith, nat_tests, none-below c hs all.1)
 pub under-none : (s : Source) (p n : ℕ) → has_under s p n ≡ false → under s p n ≡ []
 unfolding under stack_homes
 under-none s p n e =
-    grind (
-      arith,
-      nat_tests,
-      none-below (register_count s.method.rec) _ (cells-above (register_count s.method.rec) (stack_of (s.frames p)) 0 (depth s p)),
-    )
+    let deep : depth s p ≤ n = grind (arith, nat_tests, e) in
+    let c : operands_slot s p n ≡ register_count s.method.rec = omega (arith, deep) in
+    ap (λ k. filter (λ (h : Home). nat_lt h.slot k) (cells_from (register_count s.method.rec) (stack_of (s.frames p)) 0 (depth s p))) c
+    ∙ none-below (register_count s.method.rec) _ (cells-above (register_count s.method.rec) (stack_of (s.frames p)) 0 (depth s p))
 
 pub taken-is :
     (s : Source) (p : ℕ) (op : Operation) (n q : ℕ) → has_under s p n ≡ false → branch_copies s p op n q ≡ copies s (After p op) q

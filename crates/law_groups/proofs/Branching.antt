@@ -34,7 +34,8 @@ use Rattle.vm_step.specs.Raising.{Outcome, running}
 use Rattle.vm_step.specs.Step.{Steps}
 use Rattle.law_alike.specs.Alike.{AreAlike, StayAlike, renamed_cell, renamed_new}
 use Rattle.law_alike.specs.Likeness.{StepsAreAlike}
-use Rattle.law_alike.specs.Running.{ComeAlike, Executes, HaveKeys, call_alike, end_alike, exception_alike, keys_at, next_alike, return_alike, target_alike}
+use Rattle.law_alike.specs.Running.{ComeAlike, Executes, HaveKeys, call_alike, end_alike}
+use Rattle.law_alike.specs.Running.{exception_alike, keys_at, next_alike, return_alike, target_alike}
 use Rattle.law_alike.specs.Running.{throw_alike, top_code}
 use Rattle.law_alike.proofs.Views.{falls-new}
 use Rattle.xf_homes.specs.declared.home.Home.{Home}

@@ -28,7 +28,8 @@ use Rattle.vm_step.specs.Methods.{code_at, max_stack_of}
 use Rattle.vm_step.specs.Numbers.{dropped}
 use Rattle.vm_step.specs.Performed.{act}
 use Rattle.vm_step.specs.Raising.{Outcome, running}
-use Rattle.vm_step.specs.Settled.{fault_next, fault_target, goes_to, is_over, is_past, is_target_place, jumps_to, place_number, settled, unless_fault}
+use Rattle.vm_step.specs.Settled.{fault_next, fault_target, goes_to, is_over, is_past}
+use Rattle.vm_step.specs.Settled.{is_target_place, jumps_to, place_number, settled, unless_fault}
 use Rattle.vm_step.specs.Step.{Fetches, Steps, performed, performs}
 use Rattle.vm_step.specs.Tests.{fault_before}
 use Rattle.vm_step.proofs.Running.{steps-one}

@@ -258,11 +258,9 @@ module _
 
     held-y : Each (HoldsValue s (slots (top y)) (top x)) (under s i.place n)
     held-y =
-        grind (
-          arith,
-          under-held (top x) x (top y) equal.heap of-z refl refl,
-          each-left (HoldsValue s (slots (top z)) (top x)) (under s i.place n) (operands s i.place n) (subst (Each (HoldsValue s (slots (top z)) (top x))) cut-here.2.parts kept),
-        )
+        (under-held (top x) x (top y) equal.heap of-z refl refl).0
+        (each-left (HoldsValue s (slots (top z)) (top x)) (under s i.place n) (operands s i.place n)
+        (subst (Each (HoldsValue s (slots (top z)) (top x))) cut-here.2.parts kept))
 
     before : HoldsAfter s i.place op q' (top y) (top x)
     before = record {

@@ -31,7 +31,8 @@ use Rattle.vm_step.specs.Run.{stands}
 use Rattle.vm_step.specs.Step.{Steps}
 use Rattle.law_erasure.specs.Erasure.{IsNoFault}
 use Rattle.law_alike.specs.Alike.{AreAlike, StayAlike, renamed_cell, renamed_new}
-use Rattle.law_alike.specs.Running.{ComeAlike, HaveKeys, call_alike, end_alike, exception_alike, keys_at, next_alike, return_alike, RunAlike}
+use Rattle.law_alike.specs.Running.{ComeAlike, HaveKeys, call_alike, end_alike, exception_alike}
+use Rattle.law_alike.specs.Running.{keys_at, next_alike, return_alike, RunAlike}
 use Rattle.law_alike.specs.Running.{target_alike}
 use Rattle.law_alike.specs.Running.{throw_alike, top_code}
 use Rattle.law_alike.specs.Likeness.{StepsAreAlike}

@@ -292,23 +292,20 @@ module _
       value_w = grind (arith, classes_are, kinds_are)
 
       local_y : HasLocal w t letter x (top (y after rest))
-      local_y =
-          grind (
-            arith,
-            load-asked w (kinds t) letter x after (least_types w.classes Bottom (kinds t) rest) value_w,
-            load-filled w.classes (kinds t) letter x after value_w,
-          )
+      local_y = record {
+        asked = load-asked w (kinds t) letter x after (least_types w.classes Bottom (kinds t) rest) value_w;
+        filled = load-filled w.classes (kinds t) letter x after value_w;
+      }
 
       order_w : IsOrderOfTypes w.classes
       order_w = types v w l s laid.world laid.planned f.place f t beside_z
 
       stack_t : (top t).stack ≡ value_in_register letter x after ++ map (renamed_cell (rename s place)) rest
       stack_t =
-          grind (
-            arith,
-            map-append (renamed_cell (rename s place)) (value_in_register letter x after) rest,
-            same-value w.classes order_w (kinds t) (rename s place) letter after x value_w,
-          )
+          b.held.stack ∙ (ap (map (renamed_cell (rename s place))) put.split
+          ∙ (map-append (renamed_cell (rename s place)) (value_in_register letter x after) rest
+          ∙ ap (λ (cs : List Cell). cs ++ map (renamed_cell (rename s place)) rest)
+          (same-value w.classes order_w (kinds t) (rename s place) letter after x value_w)))
 
       items : List Item
       items = store_to_homes s letter (needed s q x)
