@@ -7,14 +7,16 @@ use Rattle.std.specs.Option.{option_map}
 use Rattle.std.proofs.lemmas.Option.{slice_get-map}
 use Rattle.std.proofs.lemmas.List.{length-map}
 use Rattle.jc_base.specs.declared.record.ClassRec.{ClassRec}
-use Rattle.jc_base.specs.Class.{ClassTable, list_of, is_interface_record, parent_in_record, is_interface as interface_in_table, IsClass as IsTableClass}
+use Rattle.jc_base.specs.Class.{ClassTable, list_of, is_interface_record}
+use Rattle.jc_base.specs.Class.{parent_in_record, is_interface as interface_in_table, IsClass as IsTableClass}
 use Rattle.jc_base.specs.Class.{parent_of as parent_in_table, chain_over as chain_over_table, chain as chain_in_table, AreClasses}
 use Rattle.jc_base.specs.Order.{is_on_chain as on_chain_in_table}
 use Rattle.jc_base.proofs.Chains.{chain_over-front as front_over_table, chain_alone as alone_over_table, chain_above as above_over_table}
 use Rattle.jc_base.proofs.Chains.{next_on_chain as next_in_table}
 use Rattle.jc_base.proofs.Climbs.{chain-length as length_in_table, parent_of-class as class_of_parent, on_chain-here as here_in_table}
 use Rattle.jc_classes.specs.declared.lineage_type.Line.{Line}
-use Rattle.jc_classes.specs.Outline.{LineTable, IsClass, AreLines, is_interface_line, is_interface, parent_in_line, parent_of, chain_over, chain}
+use Rattle.jc_classes.specs.Outline.{LineTable, IsClass, AreLines, is_interface_line, is_interface}
+use Rattle.jc_classes.specs.Outline.{parent_in_line, parent_of, chain_over, chain}
 use Rattle.jc_classes.specs.Outline.{is_on_chain}
 
 -- a line as the record of a class without cells, interfaces and dispatch lists
@@ -114,13 +116,11 @@ pub record IsNext (t : LineTable) (c p : ℕ) : Type 0 where
 
 pub next_on_chain : (t : LineTable) (c p : ℕ) → AreLines t → IsClass t c → parent_of t c ≡ Some p → IsNext t c p
 next_on_chain t c p are is e =
-    grind (
-      arith,
-      next_in_table (bare t) c p (bare-classes t are) (bare-class t c is) (bare-parent t c ∙ e),
-      bare-chain t c,
-      bare-chain t p,
-      line-class,
-    )
+    let next = next_in_table (bare t) c p (bare-classes t are) (bare-class t c is) (bare-parent t c ∙ e) in
+    record {
+      class = line-class t p next.class;
+      chain_is = sym (bare-chain t c) ∙ next.chain_is ∙ ap (λ (xs : List ℕ). c ∷ xs) (bare-chain t p);
+    }
 
 pub on_chain-here : (t : LineTable) (c : ℕ) → is_on_chain t c c ≡ true
 on_chain-here t c = sym (bare-on_chain t c c) ∙ here_in_table (bare t) c

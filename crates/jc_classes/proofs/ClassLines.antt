@@ -6,15 +6,18 @@ use Rattle.std.specs.List.{list_any}
 use Rattle.std.proofs.lemmas.Option.{slice_get-map, get_or_from_slice_get}
 use Rattle.std.proofs.lemmas.List.{length-map, take_more}
 use Rattle.jc_base.specs.declared.record.ClassRec.{ClassRec}
-use Rattle.jc_base.specs.Class.{ClassTable, IsClass, AreClasses, chain, chain_over, list_of, object, parent_of, parent_in_record, is_interface}
+use Rattle.jc_base.specs.Class.{ClassTable, IsClass, AreClasses, chain, chain_over}
+use Rattle.jc_base.specs.Class.{list_of, object, parent_of, parent_in_record, is_interface}
 use Rattle.jc_base.specs.Class.{is_interface_record}
 use Rattle.jc_base.specs.Order.{is_on_chain}
 use Rattle.jc_base.specs.Dispatch.{package_of, of_record}
 use Rattle.jc_resolve.specs.declared.named.NamedClass.{NamedClass}
 use Rattle.jc_classes.specs.declared.layout.ClassLayout.{ClassLayout}
 use Rattle.jc_classes.specs.Outline.{LineTable, AreLines, IsClass as IsLineClass, chain as line_chain}
-use Rattle.jc_classes.specs.Outline.{chain_over as line_chain_over, is_on_chain as on_line_chain, object as line_object, parent_of as line_parent}
-use Rattle.jc_classes.specs.Outline.{parent_in_line, is_interface as line_interface, is_interface_line, package_of as line_package, package_in_line, line_of}
+use Rattle.jc_classes.specs.Outline.{chain_over as line_chain_over, is_on_chain as on_line_chain}
+use Rattle.jc_classes.specs.Outline.{object as line_object, parent_of as line_parent}
+use Rattle.jc_classes.specs.Outline.{parent_in_line, is_interface as line_interface, is_interface_line}
+use Rattle.jc_classes.specs.Outline.{package_of as line_package, package_in_line, line_of}
 use Rattle.jc_classes.specs.Outline.{outline}
 use Rattle.jc_classes.specs.Layout.{class_layout}
 use Rattle.jc_classes.specs.Tables.{record_from, records_from, class_tables}

@@ -15,7 +15,8 @@ use Rattle.jc_resolve.specs.Named.{is_interface}
 use Rattle.jc_classes.specs.KnownClasses.{HasKnownLine}
 use Rattle.jc_classes.specs.Ancestor.{IsAncestor, superclass, superclass_in, is_above}
 use Rattle.jc_classes.specs.LineConditions.{is_class_number, is_class_record, fits_role}
-use Rattle.jc_classes.specs.Outline.{LineTable, IsClass, AreLines, is_interface_line, is_interface as interface_in_table, parent_of, parent_in_line, object}
+use Rattle.jc_classes.specs.Outline.{LineTable, IsClass, AreLines, is_interface_line}
+use Rattle.jc_classes.specs.Outline.{is_interface as interface_in_table, parent_of, parent_in_line, object}
 use Rattle.jc_classes.specs.Outline.{chain, chain_over, line_of, outline}
 use Rattle.jc_classes.proofs.Bare.{chain_alone, chain_above, chain_over-front}
 use Rattle.jc_classes.proofs.Above.{is_above-sound}

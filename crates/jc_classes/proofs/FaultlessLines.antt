@@ -13,7 +13,8 @@ use Rattle.first_fault.specs.First.{AllEmpty}
 use Rattle.first_fault.proofs.LeastFaults.{faultless_first}
 use Rattle.jc_resolve.proofs.Faultless.{faultless_at, flat_faultless}
 use Rattle.jc_classes.specs.Ancestor.{is_above}
-use Rattle.jc_classes.specs.LineConditions.{numbered, is_class_number, super_fault, cycle_fault, fits_role, role_fault, root_fault, named_interfaces}
+use Rattle.jc_classes.specs.LineConditions.{numbered, is_class_number, super_fault, cycle_fault}
+use Rattle.jc_classes.specs.LineConditions.{fits_role, role_fault, root_fault, named_interfaces}
 use Rattle.jc_classes.specs.LineConditions.{not_interface_fault, conditions}
 
 -- ---- lists in which nothing is at fault

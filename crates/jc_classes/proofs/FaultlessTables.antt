@@ -15,8 +15,10 @@ use Rattle.jc_resolve.specs.declared.named.NamedClass.{NamedClass}
 use Rattle.jc_resolve.proofs.Faultless.{both_faultless, flat_faultless}
 use Rattle.jc_classes.specs.Layout.{public_entries, visible_entries}
 use Rattle.jc_classes.specs.Signatures.{entry_method, entry_signature, same_signature}
-use Rattle.jc_classes.specs.TableConditions.{DispatchEntry, entries_from, entries_in, may_stand, hole_fault, holes, Replacement, replacements_from}
-use Rattle.jc_classes.specs.TableConditions.{replacements_in, override_fault, overrides, layout_above, visible_above, Implementation, implemented_by}
+use Rattle.jc_classes.specs.TableConditions.{DispatchEntry, entries_from, entries_in, may_stand}
+use Rattle.jc_classes.specs.TableConditions.{hole_fault, holes, Replacement, replacements_from}
+use Rattle.jc_classes.specs.TableConditions.{replacements_in, override_fault, overrides, layout_above}
+use Rattle.jc_classes.specs.TableConditions.{visible_above, Implementation, implemented_by}
 use Rattle.jc_classes.specs.TableConditions.{implementations_in, interface_type_fault, serves_all, unserved}
 use Rattle.jc_classes.specs.Tables.{methods_listed}
 use Rattle.jc_classes.proofs.SameTypes.{same_signature-equal}

@@ -21,7 +21,8 @@ use Rattle.first_fault.specs.Least.{least_from, least_of, lesser}
 use Rattle.jc_classes.specs.KnownLines.{HaveSuperclasses}
 use Rattle.jc_classes.specs.declared.layout.ClassLayout.{ClassLayout}
 use Rattle.jc_classes.specs.Entries.{reach, reach_from, reach_of}
-use Rattle.jc_classes.specs.Layout.{of_class, public_table, visible_table, public_entries, visible_entries, instance_cells, class_layout, layouts}
+use Rattle.jc_classes.specs.Layout.{of_class, public_table, visible_table, public_entries}
+use Rattle.jc_classes.specs.Layout.{visible_entries, instance_cells, class_layout, layouts}
 use Rattle.jc_classes.specs.Slots.{HasShortLists}
 use Rattle.jc_classes.specs.Signatures.{entry_method}
 use Rattle.jc_classes.specs.TableConditions.{DispatchEntry, entries_from, Replacement, replacements_from, long_fault}

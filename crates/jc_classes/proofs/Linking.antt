@@ -10,7 +10,8 @@ use Rattle.std.proofs.lemmas.List.Elements.{All-nil, All-cons, All-weaker}
 use Rattle.std.proofs.lemmas.List.FromFn.{length-map-range_with_len}
 use Rattle.std.proofs.lemmas.Option.{slice_get_cases, slice_get_within}
 use Rattle.jc_base.specs.declared.ty.Ty.{Ty}
-use Rattle.jc_base.specs.declared.ty.Ty.TheVariants.{Bottom, Short, IntHigh, IntLow, Null, Class, ArrBool, ArrByte, ArrShort, ArrInt, ArrRef, Fresh, Top}
+use Rattle.jc_base.specs.declared.ty.Ty.TheVariants.{Bottom, Short, IntHigh, IntLow, Null, Class, ArrBool}
+use Rattle.jc_base.specs.declared.ty.Ty.TheVariants.{ArrByte, ArrShort, ArrInt, ArrRef, Fresh, Top}
 use Rattle.jc_base.specs.declared.record.Iface.{Iface}
 use Rattle.jc_base.specs.declared.record.MethodRec.{MethodRec}
 use Rattle.jc_base.specs.declared.record.ClassRec.{ClassRec}
@@ -18,7 +19,8 @@ use Rattle.jc_base.specs.Class.{ClassTable, IsClass, AreClasses, list_of, parent
 use Rattle.jc_base.specs.Order.{Below, is_on_chain, is_below}
 use Rattle.jc_base.specs.Cell.{IsDeclared}
 use Rattle.jc_base.specs.Dispatch.{of_record, package_of, public_of, visible_of, cell_count, signature_at}
-use Rattle.jc_base.specs.Linked.{IsInherited, IsDispatch, IsExtended, IsImplemented, AreInterfaces, IsLinkedClass, AreLinkedClasses, visible_from, cells_above}
+use Rattle.jc_base.specs.Linked.{IsInherited, IsDispatch, IsExtended, IsImplemented, AreInterfaces}
+use Rattle.jc_base.specs.Linked.{IsLinkedClass, AreLinkedClasses, visible_from, cells_above}
 use Rattle.jc_classes.proofs.Bare.{next_on_chain, parent_of-class}
 use Rattle.jc_base.proofs.Subtypes.{Below-from_is_below}
 use Rattle.jc_base.proofs.Lists.{All-slice_get, IfSome-is}
@@ -29,21 +31,25 @@ use Rattle.jc_resolve.specs.Named as named
 use Rattle.first_fault.specs.First.{AllEmpty}
 use Rattle.jc_classes.specs.Lines.{HaveLines}
 use Rattle.jc_classes.specs.Outline.{LineTable, AreLines, IsClass as IsLineClass, object as line_object, parent_of as line_parent}
-use Rattle.jc_classes.specs.Outline.{is_interface as line_interface, is_interface_line, package_of as line_package, package_in_line, line_of, outline}
+use Rattle.jc_classes.specs.Outline.{is_interface as line_interface, is_interface_line, package_of as line_package}
+use Rattle.jc_classes.specs.Outline.{package_in_line, line_of, outline}
 use Rattle.jc_classes.specs.KnownLines.{HaveSuperclasses}
 use Rattle.jc_classes.specs.declared.layout.ClassLayout.{ClassLayout}
 use Rattle.jc_classes.specs.Entries.{overlaid}
 use Rattle.jc_classes.specs.Layout.{class_layout, public_entries, visible_entries, instance_cells, above_or_nothing, at_home}
 use Rattle.jc_classes.specs.Signatures.{entry_signature}
-use Rattle.jc_classes.specs.TableConditions.{may_stand, layout_above, visible_above, implemented_by, serves, holes, overrides, unserved, long_instances}
+use Rattle.jc_classes.specs.TableConditions.{may_stand, layout_above, visible_above, implemented_by, serves}
+use Rattle.jc_classes.specs.TableConditions.{holes, overrides, unserved, long_instances}
 use Rattle.jc_classes.specs.TableConditions.{conditions}
 use Rattle.jc_classes.specs.Tables.{methods_listed, record_from, class_tables, tables_of, Links}
 use Rattle.jc_classes.proofs.Climbs.{chain_step}
 use Rattle.jc_classes.proofs.Steps.{public_step, visible_step, cells_step}
 use Rattle.jc_classes.proofs.SameTypes.{same_signature-equal}
-use Rattle.jc_classes.proofs.ClassLines.{AreAlike, IsOutline, tables-alike, tables-classes, record_is, outline_at, on_chain-alike, class-alike}
+use Rattle.jc_classes.proofs.ClassLines.{AreAlike, IsOutline, tables-alike, tables-classes}
+use Rattle.jc_classes.proofs.ClassLines.{record_is, outline_at, on_chain-alike, class-alike}
 use Rattle.jc_classes.proofs.Agreed.{cells_short, due-tells}
-use Rattle.jc_classes.proofs.FaultlessTables.{AllStand, public_stand, visible_stand, IsListed, listed, listed_none, listed_all, signature_listed, Agrees}
+use Rattle.jc_classes.proofs.FaultlessTables.{AllStand, public_stand, visible_stand, IsListed, listed}
+use Rattle.jc_classes.proofs.FaultlessTables.{listed_none, listed_all, signature_listed, Agrees}
 use Rattle.jc_classes.proofs.FaultlessTables.{public_agrees, visible_agrees, AllServed, interfaces_met}
 
 -- ---- methods in dispatch lists

@@ -55,11 +55,9 @@ same_types-equal [] [] e = refl
 same_types-equal [] (y ∷ ys) e = absurd (false≢true e)
 same_types-equal (x ∷ xs) [] e = absurd (false≢true e)
 same_types-equal (x ∷ xs) (y ∷ ys) e =
-    grind (
-      arith,
-      same_type-equal x y (and_parts (same_type x y) (same_types xs ys) e).0,
-      same_types-equal xs ys (and_parts (same_type x y) (same_types xs ys) e).1,
-    )
+    let first : x ≡ y = same_type-equal x y (and_parts (same_type x y) (same_types xs ys) e).0 in
+    let rest : xs ≡ ys = same_types-equal xs ys (and_parts (same_type x y) (same_types xs ys) e).1 in
+    rw (first, rest) refl
 
 same_types-itself : (xs : List Ty) → same_types xs xs ≡ true
 same_types-itself [] = refl

@@ -1,5 +1,6 @@
 -- The lists of a class by those of its superclass.
-use Rattle.std.proofs.Common.{◌≡◌, ℕ, ◌+◌, Bool, true, false, eqb-true, List, [], ◌∷◌, length, map, sum_by, Option, Some, None, refl, sym, ap, arith}
+use Rattle.std.proofs.Common.{◌≡◌, ℕ, ◌+◌, Bool, true, false, eqb-true, List, [], ◌∷◌}
+use Rattle.std.proofs.Common.{length, map, sum_by, Option, Some, None, refl, sym, ap, arith}
 use Rattle.std.proofs.Common.{◌∙◌}
 use Rattle.std.specs.Prelude.{slice_get, ◌==◌, if◌then◌else◌}
 use Rattle.std.specs.Option.{option_map}
@@ -13,7 +14,8 @@ use Rattle.jc_resolve.specs.declared.named.NamedClass.{NamedClass}
 use Rattle.jc_resolve.specs.declared.named.DispatchTable.{DispatchTable}
 use Rattle.jc_classes.specs.declared.layout.ClassLayout.{ClassLayout}
 use Rattle.jc_classes.specs.Entries.{dispatch_list, overlaid}
-use Rattle.jc_classes.specs.Layout.{public_table, visible_table, own_of, home_run, public_entries, visible_entries, instance_cells, class_layout}
+use Rattle.jc_classes.specs.Layout.{public_table, visible_table, own_of, home_run}
+use Rattle.jc_classes.specs.Layout.{public_entries, visible_entries, instance_cells, class_layout}
 use Rattle.jc_classes.specs.Layout.{class_layout_from, above_or_nothing, at_home}
 use Rattle.jc_classes.proofs.Overlays.{overlaid-is}
 
@@ -36,11 +38,11 @@ pub public_step : (t : LineTable) (classes : List NamedClass) (c : ℕ) (above :
     → public_entries t classes c ≡ overlaid k.public (above_of t classes above).public
 unfolding public_entries public_table
 public_step t classes c above k chains e =
-    grind (
-      arith,
-      overlaid-is (public_table classes c) (map (public_table classes) (list_of (chain t) above)),
-      public_above t classes above,
-    )
+    let table : public_table classes c ≡ k.public = rw e refl in
+    ap (λ (cs : List ℕ). dispatch_list (map (public_table classes) cs)) chains
+    ∙ sym (overlaid-is (public_table classes c) (map (public_table classes) (list_of (chain t) above)))
+    ∙ ap (λ (x : DispatchTable). overlaid x (dispatch_list (map (public_table classes) (list_of (chain t) above)))) table
+    ∙ ap (overlaid k.public) (public_above t classes above)
 
 pub cells_step : (t : LineTable) (classes : List NamedClass) (c : ℕ) (above : Option ℕ) (k : NamedClass) → chain t c ≡ c ∷ list_of (chain t) above
     → slice_get classes c ≡ Some k
