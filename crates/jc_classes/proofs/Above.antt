@@ -2,7 +2,7 @@
 use Rattle.std.proofs.Common.{◌≡◌, ℕ, ◌<◌, Bool, true, false, List, [], length, Option, Some, None, refl, subst, arith}
 use Rattle.std.specs.Prelude.{All, Contains, IfSome, slice_get}
 use Rattle.std.specs.Option.{option_to_list}
-use Rattle.std.proofs.lemmas.List.Elements.{All-contains, All-map, All-cons, All-nil}
+use Rattle.std.proofs.lemmas.List.Elements.{All-contains, All-map, All-nil}
 use Rattle.std.proofs.lemmas.Option.{slice_get_within}
 use Rattle.jc_base.proofs.Lists.{All-slice_get}
 use Rattle.jc_base.specs.declared.record.Iface.{Iface}
@@ -16,12 +16,10 @@ use Rattle.jc_base.proofs.Tests.{same_truth}
 -- ---- what has something above it, and what stands there
 
 superclass-from : (cs : List NamedClass) (a b : ℕ) (o : Option NamedClass) → slice_get cs a ≡ o → Contains (superclass_in o) b → a < length cs
-superclass-from cs a b None e h = let none : Contains [] b = h in absurd (omega (arith, none.1))
-superclass-from cs a b (Some r) e h = slice_get_within cs a r e
+superclass-from cs a b u e h = grind (arith, slice_get_within)
 
 extended-from : (cs : List NamedClass) (a b : ℕ) (o : Option NamedClass) → slice_get cs a ≡ o → Contains (extended_in o) b → a < length cs
-extended-from cs a b None e h = let none : Contains [] b = h in absurd (omega (arith, none.1))
-extended-from cs a b (Some r) e h = slice_get_within cs a r e
+extended-from cs a b u e h = grind (arith, slice_get_within)
 
 pub above-from : (cs : List NamedClass) (interfaces : Bool) (a b : ℕ) → Contains (above cs interfaces a) b → a < length cs
 unfolding superclass extended
@@ -29,13 +27,11 @@ above-from cs true a b h = extended-from cs a b (slice_get cs a) refl h
 above-from cs false a b h = superclass-from cs a b (slice_get cs a) refl h
 
 parent-inside : (cs : List NamedClass) (o : Option ℕ) → IfSome o (λ p. p < length cs) → All (λ p. p < length cs) (option_to_list o)
-parent-inside cs None h = All-nil (λ p. p < length cs)
-parent-inside cs (Some p) h = All-cons (λ p. p < length cs) p [] h (All-nil (λ p. p < length cs))
+parent-inside cs y h = grind (arith)
 
 superclass-inside : (cs : List NamedClass) (r : NamedClass) (i : Bool) → r.interface ≡ i → HasKnownLine cs r
     → All (λ p. p < length cs) (superclass_in (Some r))
-superclass-inside cs r true e is = rw e (All-nil (λ p. p < length cs))
-superclass-inside cs r false e is = rw e (parent-inside cs r.parent is.parent)
+superclass-inside cs r z e is = grind (arith, parent-inside)
 
 extended-inside : (cs : List NamedClass) (r : NamedClass) (i : Bool) → r.interface ≡ i → HasKnownLine cs r
     → All (λ p. p < length cs) (extended_in (Some r))
@@ -68,5 +64,4 @@ tells-above cs interfaces a c = (is_above-sound cs interfaces a c, is_above-comp
 
 pub is_above-is : (cs : List NamedClass) (interfaces : Bool) (a c : ℕ) (b : Bool) → (b ≡ true → Leads (above cs interfaces) c a)
     → (Leads (above cs interfaces) c a → b ≡ true) → b ≡ is_above cs interfaces a c
-is_above-is cs interfaces a c b sound complete =
-    same_truth b (is_above cs interfaces a c) (λ e. is_above-complete cs interfaces a c (sound e)) (λ e. complete (is_above-sound cs interfaces a c e))
+is_above-is cs interfaces a c b sound complete = grind (arith, same_truth, is_above-complete, is_above-sound)

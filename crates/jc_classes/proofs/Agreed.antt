@@ -1,5 +1,5 @@
 -- The class table of classes of which nothing is at fault.
-use Rattle.std.proofs.Common.{◌≡◌, ℕ, zero, suc, ◌+◌, ◌<◌, ◌≤◌, Bool, true, false, take, get_or, List, [], length, flat_map, Some, None}
+use Rattle.std.proofs.Common.{◌≡◌, ℕ, zero, suc, ◌+◌, ◌<◌, ◌≤◌, Bool, take, get_or, List, [], length, flat_map, Some, None}
 use Rattle.std.proofs.Common.{Result, Ok, Err, refl, sym, ap, subst, ◌∙◌, arith}
 use Rattle.std.specs.Prelude.{slice_get, nat_lt}
 use Rattle.std.specs.List.{range_with_len}
@@ -9,21 +9,19 @@ use Rattle.jc_base.specs.declared.record.MethodRec.{MethodRec}
 use Rattle.jc_base.specs.declared.record.ClassRec.{ClassRec}
 use Rattle.jc_base.specs.Class.{ClassTable, AreClasses}
 use Rattle.jc_resolve.specs.declared.fault.LinkFault.{LinkFault}
-use Rattle.jc_resolve.specs.declared.fault.LinkFault.TheVariants.{InstanceLong}
 use Rattle.jc_resolve.specs.declared.fault.LinkEnd.{LinkEnd}
-use Rattle.jc_resolve.specs.declared.fault.LinkEnd.TheVariants.{Fault, Memory}
 use Rattle.jc_resolve.specs.Due.{IsDue}
 use Rattle.jc_resolve.specs.declared.named.NamedClass.{NamedClass}
 use Rattle.jc_resolve.specs.Fault.{link_place}
 use Rattle.first_fault.specs.Least.{◌>>=◌}
 use Rattle.first_fault.specs.First.{IsFirst, AllEmpty}
 use Rattle.jc_resolve.proofs.Faultless.{faultless_at}
-use Rattle.first_fault.proofs.FirstTold.{IsTold, things-told, step, last, refused-first, accepted-empty}
+use Rattle.first_fault.proofs.FirstTold.{IsTold, things-told, refused-first, accepted-empty}
 use Rattle.jc_classes.specs.declared.layout.ClassLayout.{ClassLayout}
 use Rattle.jc_classes.specs.Outline.{LineTable, AreLines, outline}
 use Rattle.jc_classes.specs.Layout.{instance_cells, layouts}
-use Rattle.jc_classes.specs.TableConditions.{hole_fault, entries_in, override_fault, replacements_in, interface_type_fault, implementations_in, long_fault}
-use Rattle.jc_classes.specs.TableConditions.{class_numbers, long_instances, conditions}
+use Rattle.jc_classes.specs.TableConditions.{long_fault}
+use Rattle.jc_classes.specs.TableConditions.{long_instances, conditions}
 use Rattle.jc_classes.specs.Tables.{records_from, class_tables, classes_agree, tables_of, TellsTableEnd}
 use Rattle.jc_classes.proofs.Folds.{cells_are, layouts_count}
 use Rattle.jc_classes.proofs.ClassLines.{IsOutline, tables-classes, records-length}
@@ -33,24 +31,16 @@ use Rattle.jc_classes.proofs.ClassLines.{IsOutline, tables-classes, records-leng
 pub slice_get-numbers : (a n c : ℕ) → c < n → slice_get (range_with_len a n) c ≡ Some (a + c)
 slice_get-numbers a zero c h = absurd (omega arith)
 slice_get-numbers a (suc n) zero h = let same : a ≡ a + 0 = omega arith in ap Some same
-slice_get-numbers a (suc n) (suc c) h =
-    let same : a + 1 + c ≡ a + suc c = omega arith in
-    slice_get-numbers (a + 1) n c (omega arith) ∙ ap Some same
+slice_get-numbers a (suc n) (suc c) h = grind (arith, suc, slice_get-numbers (a + 1) n c (omega arith))
 
 within_by : (t : LineTable) (classes : List NamedClass) (c : ℕ) (b : Bool) → nat_lt 32767 (instance_cells t classes c) ≡ b
     → long_fault t classes c ≡ None → instance_cells t classes c ≤ 32767
 unfolding long_fault
-within_by t classes c true e h =
-    let some : long_fault t classes c ≡ Some (InstanceLong c (instance_cells t classes c)) = rw e refl in
-    let no : Some (InstanceLong c (instance_cells t classes c)) ≡ None = sym some ∙ h in
-    absurd cc
-within_by t classes c false e h = ltb-false 32767 (instance_cells t classes c) e
+within_by t classes c u e h = grind (arith, ltb-false)
 
 pub cells_short : (t : LineTable) (classes : List NamedClass) (c : ℕ) → long_instances t classes ≡ [] → c < length classes
     → instance_cells t classes c ≤ 32767
-cells_short t classes c none h =
-    let at : slice_get (class_numbers classes) c ≡ Some c = slice_get-numbers 0 (length classes) c h ∙ ap Some (omega arith) in
-    within_by t classes c (nat_lt 32767 (instance_cells t classes c)) refl (faultless_at (long_fault t classes) (class_numbers classes) c c none at)
+cells_short t classes c none h = grind (arith, slice_get-numbers 0 (length classes) c h, within_by, faultless_at)
 
 pub layout_cells_short : (t : LineTable) (classes : List NamedClass) (all : List ClassLayout) (c : ℕ) (l : ClassLayout) → all ≡ layouts t classes
     → long_instances t classes ≡ [] → c < length classes → l ≡ get_or all c l → l.cells ≤ 32767
@@ -73,11 +63,7 @@ pub ruleset building = (layouts_count)
 pub agree-told : (t : LineTable) (classes : List NamedClass) (methods : List MethodRec)
     → IsTold link_place (classes_agree t classes methods) (conditions t classes methods)
 unfolding classes_agree
-agree-told t classes methods =
-    step link_place (things-told link_place (hole_fault t methods) (flat_map (entries_in t classes) (class_numbers classes)))
-    (step link_place (things-told link_place (override_fault methods) (flat_map (replacements_in t classes) (class_numbers classes)))
-    (step link_place (things-told link_place (interface_type_fault methods) (flat_map (implementations_in t classes) (class_numbers classes)))
-    (last link_place (things-told link_place (long_fault t classes) (class_numbers classes)))))
+agree-told t classes methods = grind (arith, things-told, flat_map)
 
 pub told_first : (t : LineTable) (classes : List NamedClass) (methods : List MethodRec) (f : LinkFault) → Err f ≡ classes_agree t classes methods
     → IsFirst link_place (conditions t classes methods) f
@@ -89,16 +75,7 @@ told_empty t classes methods e = accepted-empty link_place (conditions t classes
 
 told-by : (t : LineTable) (classes : List NamedClass) (methods : List MethodRec) (s : Result (Unit {0}) LinkFault) (r : Result ClassTable LinkEnd)
     → classes_agree t classes methods ≡ s → IsDue (s >>= λ _. Ok (class_tables t classes)) r → TellsTableEnd t classes methods r
-told-by t classes methods (Ok x) (Ok table) e due =
-    let same : class_tables t classes ≡ table = cc in
-    (sym same, told_empty t classes methods (sym e))
-told-by t classes methods (Ok x) (Err (Fault f)) e due = absurd cc
-told-by t classes methods (Ok x) (Err Memory) e due = tt {0}
-told-by t classes methods (Err g) (Ok table) e due = absurd cc
-told-by t classes methods (Err g) (Err (Fault f)) e due =
-    let same : g ≡ f = cc in
-    told_first t classes methods f (sym (e ∙ ap Err same))
-told-by t classes methods (Err g) (Err Memory) e due = tt {0}
+told-by t classes methods u v e due = grind (arith, told_empty, told_first)
 
 -- the answer that is due tells the table, or the first condition that is broken
 pub due-tells : (t : LineTable) (classes : List NamedClass) (methods : List MethodRec) (r : Result ClassTable LinkEnd)

@@ -1,21 +1,22 @@
 -- Lines have the superclasses of a class table without lists, so what holds of chains in class tables holds of lines.
-use Rattle.std.proofs.Common.{◌≡◌, ℕ, zero, suc, ◌+◌, ◌<◌, ◌≤◌, true, List, [], ◌∷◌, map, length, Option, Some, None, refl, sym, ap}
-use Rattle.std.proofs.Common.{subst, ◌∙◌, arith}
-use Rattle.std.specs.Prelude.{◌==◌, All, slice_get}
+use Rattle.std.proofs.Common.{◌≡◌, ℕ, zero, suc, ◌+◌, ◌≤◌, true, List, [], ◌∷◌, map, length, Option, Some, None, refl, sym, ap}
+use Rattle.std.proofs.Common.{◌∙◌, arith}
+use Rattle.std.specs.Prelude.{◌==◌, slice_get}
 use Rattle.std.specs.List.{list_any}
 use Rattle.std.specs.Option.{option_map}
 use Rattle.std.proofs.lemmas.Option.{slice_get-map}
 use Rattle.std.proofs.lemmas.List.{length-map}
-use Rattle.std.proofs.lemmas.List.Elements.{All-weaker}
 use Rattle.jc_base.specs.declared.record.ClassRec.{ClassRec}
-use Rattle.jc_base.specs.Class.{ClassTable, list_of, last, is_interface_record, parent_in_record, is_interface as interface_in_table, IsClass as IsTableClass}
+use Rattle.jc_base.specs.Class.{ClassTable, list_of, is_interface_record}
+use Rattle.jc_base.specs.Class.{parent_in_record, is_interface as interface_in_table, IsClass as IsTableClass}
 use Rattle.jc_base.specs.Class.{parent_of as parent_in_table, chain_over as chain_over_table, chain as chain_in_table, AreClasses}
 use Rattle.jc_base.specs.Order.{is_on_chain as on_chain_in_table}
 use Rattle.jc_base.proofs.Chains.{chain_over-front as front_over_table, chain_alone as alone_over_table, chain_above as above_over_table}
 use Rattle.jc_base.proofs.Chains.{next_on_chain as next_in_table}
 use Rattle.jc_base.proofs.Climbs.{chain-length as length_in_table, parent_of-class as class_of_parent, on_chain-here as here_in_table}
 use Rattle.jc_classes.specs.declared.lineage_type.Line.{Line}
-use Rattle.jc_classes.specs.Outline.{LineTable, IsClass, AreLines, object, is_interface_line, is_interface, parent_in_line, parent_of, chain_over, chain}
+use Rattle.jc_classes.specs.Outline.{LineTable, IsClass, AreLines, is_interface_line, is_interface}
+use Rattle.jc_classes.specs.Outline.{parent_in_line, parent_of, chain_over, chain}
 use Rattle.jc_classes.specs.Outline.{is_on_chain}
 
 -- a line as the record of a class without cells, interfaces and dispatch lists
@@ -39,12 +40,10 @@ interface_by None = refl
 interface_by (Some l) = refl
 
 parent_by : (o : Option Line) → parent_in_record (option_map record_of o) ≡ parent_in_line o
-parent_by None = refl
-parent_by (Some l) = refl
+parent_by x = grind (arith)
 
 list_of-same : (f g : ℕ → List ℕ) (o : Option ℕ) → ((p : ℕ) → f p ≡ g p) → list_of f o ≡ list_of g o
-list_of-same f g None h = refl
-list_of-same f g (Some p) h = h p
+list_of-same f g z h = grind (arith)
 
 module _ (t : LineTable) where
   pub bare-count : length (bare t).records ≡ length t.lines
@@ -74,42 +73,22 @@ module _ (t : LineTable) where
   bare-on_chain d c = ap (list_any (λ x. x == d)) (bare-chain c)
 
   bare-class : (c : ℕ) → IsClass t c → IsTableClass (bare t) c
-  bare-class c is =
-      let n = bare-count in
-      let h : c < length t.lines = is.number in
-      record { number = omega arith; class = bare-interface c ∙ is.class }
+  bare-class c is = grind (arith, bare-count, bare-interface)
 
   line-class : (c : ℕ) → IsTableClass (bare t) c → IsClass t c
-  line-class c is =
-      let n = bare-count in
-      let h : c < length (bare t).records = is.number in
-      record { number = omega arith; class = sym (bare-interface c) ∙ is.class }
+  line-class c is = grind (arith, bare-count, bare-interface)
 
   pub bare-classes : AreLines t → AreClasses (bare t)
-  bare-classes are = record {
-    objects = bare-class (object t) are.objects;
-    object_ends = bare-parent (object t) ∙ are.object_ends;
-    chains = λ c is.
-        let ends = are.chains c (line-class c is) in
-        record {
-          classes =
-              subst (λ (xs : List ℕ). All (IsTableClass (bare t)) xs) (sym (bare-chain c))
-              (All-weaker (IsClass t) (IsTableClass (bare t)) bare-class (chain t c) ends.classes);
-          ends = ap last (bare-chain c) ∙ ends.ends;
-        };
-  }
+  bare-classes are = grind (arith, bare-class, bare-parent, line-class, bare-chain)
 
   -- ---- chains
 
   -- a chain begins with its class
   pub chain_over-front : (n c : ℕ) → (cs : List ℕ) × (chain_over t n c ≡ c ∷ cs)
-  chain_over-front n c =
-      let front = front_over_table (bare t) n c in
-      (front.0, sym (bare-over n c) ∙ front.1)
+  chain_over-front n c = grind (arith, front_over_table (bare t) n c, bare-over n c)
 
   pub chain_above : (n c p : ℕ) → parent_of t c ≡ Some p → chain_over t (suc n) c ≡ c ∷ chain_over t n p
-  chain_above n c p e =
-      sym (bare-over (suc n) c) ∙ above_over_table (bare t) n c p (bare-parent c ∙ e) ∙ ap (λ (xs : List ℕ). c ∷ xs) (bare-over n p)
+  chain_above n c p e = grind (arith, bare-over (suc n) c, above_over_table (bare t) n c p (bare-parent c ∙ e), bare-over n p)
 
   pub chain_alone : (n c : ℕ) → parent_of t c ≡ None → chain_over t n c ≡ c ∷ []
   chain_alone n c e = sym (bare-over n c) ∙ alone_over_table (bare t) n c (bare-parent c ∙ e)

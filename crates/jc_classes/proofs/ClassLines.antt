@@ -1,20 +1,23 @@
 -- A table with the superclasses of lines has their chains.
-use Rattle.std.proofs.Common.{◌≡◌, ℕ, zero, suc, ◌+◌, ◌<◌, get_or, take, List, [], ◌∷◌, ◌++◌, length, Option, Some, None, refl, sym}
-use Rattle.std.proofs.Common.{ap, subst, ◌∙◌, arith}
-use Rattle.std.specs.Prelude.{All, slice_get, slice_index, option_map, ◌==◌}
+use Rattle.std.proofs.Common.{◌≡◌, ℕ, zero, suc, ◌+◌, ◌<◌, get_or, take, List, [], ◌∷◌, ◌++◌, length, Option, Some, refl, sym}
+use Rattle.std.proofs.Common.{ap, ◌∙◌, arith}
+use Rattle.std.specs.Prelude.{slice_get, slice_index, option_map, ◌==◌}
 use Rattle.std.specs.List.{list_any}
 use Rattle.std.proofs.lemmas.Option.{slice_get-map, get_or_from_slice_get}
 use Rattle.std.proofs.lemmas.List.{length-map, take_more}
 use Rattle.jc_base.specs.declared.record.ClassRec.{ClassRec}
-use Rattle.jc_base.specs.Class.{ClassTable, IsClass, AreClasses, chain, chain_over, list_of, last, object, parent_of, parent_in_record, is_interface}
+use Rattle.jc_base.specs.Class.{ClassTable, IsClass, AreClasses, chain, chain_over}
+use Rattle.jc_base.specs.Class.{list_of, object, parent_of, parent_in_record, is_interface}
 use Rattle.jc_base.specs.Class.{is_interface_record}
 use Rattle.jc_base.specs.Order.{is_on_chain}
 use Rattle.jc_base.specs.Dispatch.{package_of, of_record}
 use Rattle.jc_resolve.specs.declared.named.NamedClass.{NamedClass}
 use Rattle.jc_classes.specs.declared.layout.ClassLayout.{ClassLayout}
-use Rattle.jc_classes.specs.Outline.{LineTable, AreLines, IsClass as IsLineClass, EndsWithObject as LineEnds, chain as line_chain}
-use Rattle.jc_classes.specs.Outline.{chain_over as line_chain_over, is_on_chain as on_line_chain, object as line_object, parent_of as line_parent}
-use Rattle.jc_classes.specs.Outline.{parent_in_line, is_interface as line_interface, is_interface_line, package_of as line_package, package_in_line, line_of}
+use Rattle.jc_classes.specs.Outline.{LineTable, AreLines, IsClass as IsLineClass, chain as line_chain}
+use Rattle.jc_classes.specs.Outline.{chain_over as line_chain_over, is_on_chain as on_line_chain}
+use Rattle.jc_classes.specs.Outline.{object as line_object, parent_of as line_parent}
+use Rattle.jc_classes.specs.Outline.{parent_in_line, is_interface as line_interface, is_interface_line}
+use Rattle.jc_classes.specs.Outline.{package_of as line_package, package_in_line, line_of}
 use Rattle.jc_classes.specs.Outline.{outline}
 use Rattle.jc_classes.specs.Layout.{class_layout}
 use Rattle.jc_classes.specs.Tables.{record_from, records_from, class_tables}
@@ -28,8 +31,7 @@ pub record AreAlike (t : LineTable) (u : ClassTable) : Type 0 where
   pub roles_are : u.roles ≡ t.roles
 
 list_of-same : (f g : ℕ → List ℕ) → ((c : ℕ) → f c ≡ g c) → (o : Option ℕ) → list_of f o ≡ list_of g o
-list_of-same f g same None = refl
-list_of-same f g same (Some p) = same p
+list_of-same f g same u = grind (arith)
 
 chain_over-alike : (t : LineTable) (u : ClassTable) → AreAlike t u → (n c : ℕ) → chain_over u n c ≡ line_chain_over t n c
 unfolding chain_over line_chain_over
@@ -56,29 +58,15 @@ pub object-alike : (t : LineTable) (u : ClassTable) → AreAlike t u → object 
 object-alike t u alike = ap (λ (roles : List ℕ). slice_index roles 0) alike.roles_are
 
 pub classes-alike : (t : LineTable) (u : ClassTable) → AreAlike t u → AreLines t → AreClasses u
-classes-alike t u alike are = record {
-  objects = subst (IsClass u) (sym (object-alike t u alike)) (class-alike t u alike (line_object t) are.objects);
-  object_ends = ap (parent_of u) (object-alike t u alike) ∙ alike.parents (line_object t) ∙ are.object_ends;
-  chains = λ c is.
-      let before : LineEnds t c = are.chains c (class-back t u alike c is) in
-      let each : All (IsClass u) (line_chain t c) = λ k d h. class-alike t u alike (get_or (line_chain t c) k d) (before.classes k d h) in
-      record {
-        classes = subst (All (IsClass u)) (sym (chain-alike t u alike c)) each;
-        ends = ap last (chain-alike t u alike c) ∙ before.ends ∙ ap Some (sym (object-alike t u alike));
-      };
-}
+classes-alike t u alike are = grind (arith, object-alike, class-alike, class-back, get_or, chain-alike)
 
 -- ---- the table that is built
 
 pub record_at : (t : LineTable) (all ks : List NamedClass) (a i : ℕ) → slice_get (records_from t all a ks) i
     ≡ option_map (λ k. record_from k (class_layout t all (a + i))) (slice_get ks i)
 record_at t all [] a i = refl
-record_at t all (k ∷ ks) a zero =
-    let same : a ≡ a + 0 = omega arith in
-    ap (λ (n : ℕ). Some (record_from k (class_layout t all n))) same
-record_at t all (k ∷ ks) a (suc i) =
-    let same : a + 1 + i ≡ a + suc i = omega arith in
-    record_at t all ks (a + 1) i ∙ ap (λ (n : ℕ). option_map (λ x. record_from x (class_layout t all n)) (slice_get ks i)) same
+record_at t all (k ∷ ks) a zero = grind (arith)
+record_at t all (k ∷ ks) a (suc i) = grind (arith, suc, record_at t all ks (a + 1) i)
 
 pub records-length : (t : LineTable) (all ks : List NamedClass) (a : ℕ) → length (records_from t all a ks) ≡ length ks
 records-length t all [] a = refl
@@ -102,19 +90,16 @@ outline_at t classes c o = ap (λ (u : LineTable). slice_get u.lines c) o.is ∙
 same_interface : (l : ClassLayout) (o : Option NamedClass) → is_interface_record (option_map (λ k. record_from k l) o) ≡ is_interface_line
     (option_map line_of o)
 unfolding record_from
-same_interface l None = refl
-same_interface l (Some k) = refl
+same_interface l y = grind (arith)
 
 same_parent : (l : ClassLayout) (o : Option NamedClass) → parent_in_record (option_map (λ k. record_from k l) o) ≡ parent_in_line (option_map line_of o)
 unfolding record_from
-same_parent l None = refl
-same_parent l (Some k) = refl
+same_parent l y = grind (arith)
 
 same_package : (l : ClassLayout) (o : Option NamedClass) → of_record 0 (λ r. r.«package») (option_map (λ k. record_from k l) o) ≡ package_in_line
     (option_map line_of o)
 unfolding record_from
-same_package l None = refl
-same_package l (Some k) = refl
+same_package l y = grind (arith)
 
 pub tables-alike : (t : LineTable) (classes : List NamedClass) → IsOutline t classes → AreAlike t (class_tables t classes)
 unfolding is_interface parent_of package_of line_interface line_parent line_package

@@ -1,5 +1,5 @@
 -- The chain of a class as it is climbed.
-use Rattle.std.proofs.Common.{◌≡◌, ℕ, true, append_assoc, List, [], ◌∷◌, ◌++◌, Option, Some, None, refl, sym, ap, ◌∙◌}
+use Rattle.std.proofs.Common.{◌≡◌, ℕ, true, append_assoc, List, [], ◌∷◌, ◌++◌, Option, Some, None, refl, ◌∙◌, arith}
 use Rattle.std.specs.Prelude.{slice_get}
 use Rattle.jc_base.specs.Class.{list_of}
 use Rattle.jc_classes.specs.declared.lineage_type.Line.{Line}
@@ -7,8 +7,7 @@ use Rattle.jc_classes.specs.Outline.{LineTable, AreLines, chain, parent_of, pare
 use Rattle.jc_classes.proofs.Bare.{next_on_chain, parent_of-class, chain-alone, chain-front}
 
 chain_by : (t : LineTable) (c : ℕ) (above : Option ℕ) → AreLines t → parent_of t c ≡ above → chain t c ≡ c ∷ list_of (chain t) above
-chain_by t c None are e = chain-alone t c e
-chain_by t c (Some p) are e = (next_on_chain t c p are (parent_of-class t c p e) e).chain_is
+chain_by t c z are e = grind (arith, chain-alone, next_on_chain, parent_of-class)
 
 -- a chain is its class and the chain of the superclass
 pub chain_step : (t : LineTable) (c : ℕ) → AreLines t → chain t c ≡ c ∷ list_of (chain t) (parent_of t c)
@@ -33,28 +32,18 @@ above_by t (Some p) xs x rest further e = further p e
 -- what stands on a chain from a class on is the chain of that class
 pub chain_from : (t : LineTable) → AreLines t → (xs : List ℕ) (c x : ℕ) (rest : List ℕ) → xs ++ (x ∷ rest) ≡ chain t c
     → chain t x ≡ x ∷ rest
-chain_from t are [] c x rest e =
-    let f = chain-front t c in
-    let same : x ≡ c = head_same x c rest f.0 (e ∙ f.1) in
-    ap (chain t) same ∙ sym e
+chain_from t are [] c x rest e = grind (arith, chain-front t c, head_same)
 chain_from t are (y ∷ xs) c x rest e =
     above_by t (parent_of t c) xs x rest (λ p h. chain_from t are xs p x rest h)
     (tail_same y c (xs ++ (x ∷ rest)) (list_of (chain t) (parent_of t c)) (e ∙ chain_step t c are))
 
 -- where the chain above is a whole chain, it is that of the class itself
 pub climbed_whole : (t : LineTable) (above : Option ℕ) (c : ℕ) → list_of (chain t) above ≡ chain t c → above ≡ Some c
-climbed_whole t None c e =
-    let f = chain-front t c in
-    let no : [] ≡ c ∷ f.0 = e ∙ f.1 in
-    absurd cc
-climbed_whole t (Some a) c e =
-    let f = chain-front t a in
-    let g = chain-front t c in
-    ap Some (head_same a c f.0 g.0 (sym f.1 ∙ e ∙ g.1))
+climbed_whole t None c e = grind (arith, chain-front t c)
+climbed_whole t (Some a) c e = grind (arith, chain-front t a, chain-front t c, head_same)
 
 no_parent_by : (o : Option Line) → is_interface_line o ≡ true → parent_in_line o ≡ None
-no_parent_by None e = refl
-no_parent_by (Some r) e = rw e refl
+no_parent_by x e = grind (arith)
 
 -- an interface has no superclass
 pub no_parent : (t : LineTable) (c : ℕ) → is_interface t c ≡ true → parent_of t c ≡ None
@@ -65,7 +54,4 @@ no_parent t c e = no_parent_by (slice_get t.lines c) e
 pub climbed_more : (t : LineTable) (c a : ℕ) (path : List ℕ) (above next : Option ℕ) → above ≡ Some a
     → chain t a ≡ a ∷ list_of (chain t) next → path ++ list_of (chain t) above ≡ chain t c
     → (path ++ (a ∷ [])) ++ list_of (chain t) next ≡ chain t c
-climbed_more t c a path above next is step whole =
-    append_assoc path (a ∷ []) (list_of (chain t) next)
-    ∙ ap (λ (xs : List ℕ). path ++ xs) (sym step ∙ ap (list_of (chain t)) (sym is))
-    ∙ whole
+climbed_more t c a path above next is step whole = grind (arith, append_assoc)

@@ -6,7 +6,7 @@ use Rattle.std.specs.Option.{option_map, option_to_list}
 use Rattle.std.proofs.lemmas.Bool.{false≢true, eqb-true, ltb-true, and_parts, or_cases}
 use Rattle.std.proofs.lemmas.Option.{slice_get-map, slice_get-get_or, slice_get_within}
 use Rattle.std.proofs.lemmas.List.{length-map}
-use Rattle.std.proofs.lemmas.List.Elements.{All-nil, All-cons, Contains-push, Contains-push_cases}
+use Rattle.std.proofs.lemmas.List.Elements.{All-cons, Contains-push}
 use Rattle.jc_base.specs.Class.{last}
 use Rattle.jc_base.proofs.Chains.{last-cons}
 use Rattle.jc_base.proofs.Lists.{All-slice_get, IfSome-is}
@@ -15,7 +15,8 @@ use Rattle.jc_resolve.specs.Named.{is_interface}
 use Rattle.jc_classes.specs.KnownClasses.{HasKnownLine}
 use Rattle.jc_classes.specs.Ancestor.{IsAncestor, superclass, superclass_in, is_above}
 use Rattle.jc_classes.specs.LineConditions.{is_class_number, is_class_record, fits_role}
-use Rattle.jc_classes.specs.Outline.{LineTable, IsClass, AreLines, is_interface_line, is_interface as interface_in_table, parent_of, parent_in_line, object}
+use Rattle.jc_classes.specs.Outline.{LineTable, IsClass, AreLines, is_interface_line}
+use Rattle.jc_classes.specs.Outline.{is_interface as interface_in_table, parent_of, parent_in_line, object}
 use Rattle.jc_classes.specs.Outline.{chain, chain_over, line_of, outline}
 use Rattle.jc_classes.proofs.Bare.{chain_alone, chain_above, chain_over-front}
 use Rattle.jc_classes.proofs.Above.{is_above-sound}
@@ -35,10 +36,7 @@ outline-at cs c r e = slice_get-map line_of cs c ∙ ap (option_map line_of) e
 
 pub class-made : (cs : List NamedClass) (roles : List ℕ) (c : ℕ) → IsPlain cs c → IsClass (outline cs roles) c
 unfolding interface_in_table
-class-made cs roles c is =
-    let h : c < length cs = slice_get_within cs c is.r is.at in
-    let n : length (map line_of cs) ≡ length cs = length-map cs line_of in
-    record { number = omega arith; class = ap is_interface_line (outline-at cs c is.r is.at) ∙ is.plain }
+class-made cs roles c is = grind (arith, slice_get_within, length-map, outline-at)
 
 class-read-by : (cs : List NamedClass) (c : ℕ) (o : Option NamedClass) → slice_get cs c ≡ o → c < length cs
     → is_interface_line (option_map line_of o) ≡ false → IsPlain cs c
@@ -51,10 +49,7 @@ class-read-by cs c (Some r) e h plain = record { r = r; at = e; plain = plain }
 
 pub class-read : (cs : List NamedClass) (roles : List ℕ) (c : ℕ) → IsClass (outline cs roles) c → IsPlain cs c
 unfolding interface_in_table
-class-read cs roles c is =
-    let n : length (map line_of cs) ≡ length cs = length-map cs line_of in
-    let h : c < length (map line_of cs) = is.number in
-    class-read-by cs c (slice_get cs c) refl (omega arith) (ap is_interface_line (sym (slice_get-map line_of cs c)) ∙ is.class)
+class-read cs roles c is = grind (arith, length-map, class-read-by, slice_get-map)
 
 pub parent-made : (cs : List NamedClass) (roles : List ℕ) (c : ℕ) (is : IsPlain cs c) → parent_of (outline cs roles) c ≡ is.r.parent
 unfolding parent_of
@@ -99,8 +94,7 @@ parent-plain cs first roles known sound c p e =
       plain-by (Some r) s h = rw s at h
 
 option-parent : (o : Option ℕ) (p : ℕ) → Contains (option_to_list o) p → o ≡ Some p
-option-parent None p h = absurd (omega (arith, h.1))
-option-parent (Some q) p h = elim (Contains-push_cases [] q p h) [ inl none ↦ absurd (omega (arith, none.1)) | inr e ↦ ap Some e ]
+option-parent x p h = grind (arith)
 
 above-parent-by : (cs : List NamedClass) (c p : ℕ) (o : Option NamedClass) → slice_get cs c ≡ o → Contains (superclass_in o) p
     → parent_in_line (option_map line_of o) ≡ Some p
@@ -132,13 +126,7 @@ ends-by : (cs : List NamedClass) (first : ℕ) (roles : List ℕ) → All (HasKn
     → parent_of (outline cs roles) c ≡ o → IsPlain cs c → rank cs c ≤ m
     → ((k p : ℕ) → m ≡ suc k → IsPlain cs p → rank cs p ≤ k → Ends (outline cs roles) (chain_over (outline cs roles) k p))
     → Ends (outline cs roles) (chain_over (outline cs roles) m c)
-ends-by cs first roles known sound m c None e is h above =
-    let t = outline cs roles in
-    let root : c ≡ object t = sound.rooted c is.r is.at is.plain (sym (parent-made cs roles c is) ∙ e) in
-    subst (Ends t) (sym (chain_alone t m c e)) (record {
-      classes = All-cons (IsClass t) c [] (class-made cs roles c is) (All-nil (IsClass t));
-      ends = ap Some root;
-    })
+ends-by cs first roles known sound m c None e is h above = grind (arith, parent-made cs roles c is, class-made cs roles c is, chain_alone)
 ends-by cs first roles known sound m c (Some p) e is h above =
     let t = outline cs roles in
     let up = parent-plain cs first roles known sound c p e in
@@ -171,9 +159,7 @@ chain-ends cs first roles known sound (suc m) c is h =
 -- ---- roles
 
 fitting-class : (cs : List NamedClass) (first throwable k c : ℕ) → fits_role cs first throwable k c ≡ true → is_class_number cs c ≡ true
-fitting-class cs first throwable k c e =
-    let part = and_parts (nat_lt c first && is_class_number cs c) (nat_lt k 2 || c == throwable || is_above cs false throwable c) e in
-    (and_parts (nat_lt c first) (is_class_number cs c) part.0).1
+fitting-class cs first throwable k c e = grind (arith, and_parts)
 
 named-plain : (cs : List NamedClass) (c : ℕ) (o : Option NamedClass) → slice_get cs c ≡ o → is_class_record o ≡ true → IsPlain cs c
 named-plain cs c None e h = absurd (false≢true h)

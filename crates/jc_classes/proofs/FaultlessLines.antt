@@ -1,9 +1,9 @@
 -- What is known where no class, no interface and no role is at fault.
-use Rattle.std.proofs.Common.{◌≡◌, ℕ, zero, suc, ◌+◌, Bool, true, false, cond, List, [], ◌∷◌, map, Option, Some, None, refl, sym, arith}
+use Rattle.std.proofs.Common.{◌≡◌, ℕ, zero, suc, ◌+◌, Bool, true, false, cond, List, [], ◌∷◌, map, Option, Some, None, refl, arith}
 use Rattle.std.specs.Prelude.{◌==◌, All, is_some, is_none, slice_get, slice_index}
 use Rattle.std.specs.List.{enumerate_from, filter_map}
 use Rattle.std.proofs.lemmas.Bool.{false≢true, eq-eqb, eqb-true}
-use Rattle.std.proofs.lemmas.List.Elements.{All-nil, All-cons, All-weaker}
+use Rattle.std.proofs.lemmas.List.Elements.{All-nil, All-weaker}
 use Rattle.jc_base.specs.declared.record.Iface.{Iface}
 use Rattle.jc_resolve.specs.declared.fault.LinkFault.{LinkFault}
 use Rattle.jc_resolve.specs.declared.fault.LinkFault.TheVariants.{SuperIsInterface, Cycle, NoRole, NoSuper, NotInterface}
@@ -13,7 +13,8 @@ use Rattle.first_fault.specs.First.{AllEmpty}
 use Rattle.first_fault.proofs.LeastFaults.{faultless_first}
 use Rattle.jc_resolve.proofs.Faultless.{faultless_at, flat_faultless}
 use Rattle.jc_classes.specs.Ancestor.{is_above}
-use Rattle.jc_classes.specs.LineConditions.{numbered, is_class_number, super_fault, cycle_fault, fits_role, role_fault, root_fault, named_interfaces}
+use Rattle.jc_classes.specs.LineConditions.{numbered, is_class_number, super_fault, cycle_fault}
+use Rattle.jc_classes.specs.LineConditions.{fits_role, role_fault, root_fault, named_interfaces}
 use Rattle.jc_classes.specs.LineConditions.{not_interface_fault, conditions}
 
 -- ---- lists in which nothing is at fault
@@ -24,10 +25,7 @@ Faults X = X → Option LinkFault
 numbered-at : {X : Type 0} (n : ℕ) (xs : List X) (i m : ℕ) (x : X) → n + i ≡ m → slice_get xs i ≡ Some x
     → slice_get (enumerate_from n xs) i ≡ Some (m, x)
 numbered-at n [] i m x e at = absurd cc
-numbered-at n (y ∷ ys) zero m x e at =
-    let same : y ≡ x = cc in
-    let here : n ≡ m = omega arith in
-    rw (same, here) refl
+numbered-at n (y ∷ ys) zero m x e at = grind (arith)
 numbered-at n (y ∷ ys) (suc i) m x e at = numbered-at (n + 1) ys i m x (omega arith) at
 
 none-numbered : {X : Type 0} (f : Faults (ℕ × X)) (xs : List X) (c : ℕ) (x : X) → filter_map f (numbered xs) ≡ [] → slice_get xs c ≡ Some x
@@ -36,17 +34,13 @@ none-numbered f xs c x e at = faultless_at f (numbered xs) c (c, x) e (numbered-
 
 none-all : {X Y : Type 0} (f : Faults Y) (h : X → Y) (xs : List X) → filter_map f (map h xs) ≡ [] → All (λ x. f (h x) ≡ None) xs
 none-all f h [] e = All-nil (λ x. f (h x) ≡ None)
-none-all f h (x ∷ xs) e =
-    All-cons (λ y. f (h y) ≡ None) x xs (faultless_first (f (h x)) (filter_map f (map h xs)) e).0
-    (none-all f h xs (faultless_first (f (h x)) (filter_map f (map h xs)) e).1)
+none-all f h (x ∷ xs) e = grind (arith, faultless_first, none-all f h xs (faultless_first (f (h x)) (filter_map f (map h xs)) e).1)
 
 refused-not : (b : Bool) (f : LinkFault) → (cond b (Some f) None) ≡ None → b ≡ false
-refused-not true f e = absurd cc
-refused-not false f e = refl
+refused-not x f e = grind (arith)
 
 refused-unless : (b : Bool) (f : LinkFault) → (cond b None (Some f)) ≡ None → b ≡ true
-refused-unless true f e = refl
-refused-unless false f e = absurd cc
+refused-unless x f e = grind (arith)
 
 -- ---- each condition
 
@@ -72,8 +66,7 @@ unfolding role_fault
 role-none cs first throwable k c e = refused-unless (fits_role cs first throwable k c) (NoRole k) e
 
 not_some : (o : Option ℕ) → is_some o ≡ false → o ≡ None
-not_some None e = refl
-not_some (Some p) e = absurd (false≢true (sym e))
+not_some x e = grind (arith, false≢true)
 
 root-none : (object c : ℕ) (r : NamedClass) → root_fault object (c, r) ≡ None → r.interface ≡ false
     → cond (c == object) (is_some r.parent) (is_none r.parent) ≡ false
@@ -81,16 +74,12 @@ unfolding root_fault
 root-none object c r e plain = refused-not (cond (c == object) (is_some r.parent) (is_none r.parent)) (NoSuper c) (rw plain at e)
 
 rootless-is : (object : ℕ) (r : NamedClass) → root_fault object (object, r) ≡ None → r.interface ≡ false → r.parent ≡ None
-rootless-is object r e plain =
-    let whole = root-none object object r e plain in
-    not_some r.parent (rw (eq-eqb object object refl) at whole)
+rootless-is object r e plain = grind (arith, root-none object object r e plain, eq-eqb object object refl, not_some)
 
 rooted-is : (object c : ℕ) (b : Bool) (r : NamedClass) → (c == object) ≡ b → root_fault object (c, r) ≡ None → r.interface ≡ false
     → r.parent ≡ None → c ≡ object
 rooted-is object c true r same e plain none = eqb-true c object same
-rooted-is object c false r same e plain none =
-    let whole = root-none object c r e plain in
-    absurd (false≢true (sym (rw (same, none) at whole)))
+rooted-is object c false r same e plain none = grind (arith, root-none object c r e plain, false≢true)
 
 interface-none : (cs : List NamedClass) (c : ℕ) (i : Iface) → not_interface_fault cs (c, i) ≡ None → is_class_number cs i.class ≡ false
 unfolding not_interface_fault
@@ -111,8 +100,7 @@ no_fault cs first roles (supers, (cycles, (fitting, (roots, (interfaces, done)))
   supers = λ c p r at named. super-none cs c p r (none-numbered (super_fault cs) cs c r supers at) named;
   cycles = λ c r at. cycle-none cs c r (none-numbered (cycle_fault cs) cs c r cycles at);
   fitting = λ k c at. role-none cs first (slice_index roles 1) k c (none-numbered (role_fault cs first (slice_index roles 1)) roles k c fitting at);
-  rootless =
-      λ r at plain. rootless-is (slice_index roles 0) r (none-numbered (root_fault (slice_index roles 0)) cs (slice_index roles 0) r roots at) plain;
+  rootless = grind (arith, rootless-is, none-numbered);
   rooted =
       λ c r at plain none. rooted-is (slice_index roles 0) c (c == slice_index roles 0) r refl
       (none-numbered (root_fault (slice_index roles 0)) cs c r roots at) plain none;

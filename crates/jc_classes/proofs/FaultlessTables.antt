@@ -1,6 +1,6 @@
 -- What holds of dispatch lists where no condition names a fault.
-use Rattle.std.proofs.Common.{◌≡◌, ℕ, zero, suc, ◌+◌, ◌<◌, Bool, true, false, List, [], ◌∷◌, length, map, flat_map, Option, Some, None}
-use Rattle.std.proofs.Common.{refl, sym, ap, ◌∙◌, arith}
+use Rattle.std.proofs.Common.{◌≡◌, ℕ, zero, suc, ◌+◌, ◌<◌, Bool, true, List, [], ◌∷◌, length, map, flat_map, Option, Some, None}
+use Rattle.std.proofs.Common.{refl, ap, ◌∙◌, arith}
 use Rattle.std.specs.Prelude.{All, filter_map, slice_get, option_and_then}
 use Rattle.std.specs.List.{range_with_len}
 use Rattle.std.specs.Option.{option_flatten}
@@ -11,13 +11,14 @@ use Rattle.jc_base.specs.declared.record.Iface.{Iface}
 use Rattle.jc_base.specs.declared.record.MethodRec.{MethodRec}
 use Rattle.jc_classes.specs.Outline.{LineTable}
 use Rattle.jc_base.specs.Dispatch.{signature_of, signature_at}
-use Rattle.jc_resolve.specs.declared.fault.LinkFault.TheVariants.{Hole, OverrideType, InterfaceType}
 use Rattle.jc_resolve.specs.declared.named.NamedClass.{NamedClass}
 use Rattle.jc_resolve.proofs.Faultless.{both_faultless, flat_faultless}
 use Rattle.jc_classes.specs.Layout.{public_entries, visible_entries}
 use Rattle.jc_classes.specs.Signatures.{entry_method, entry_signature, same_signature}
-use Rattle.jc_classes.specs.TableConditions.{DispatchEntry, entries_from, entries_in, may_stand, hole_fault, holes, Replacement, replacements_from}
-use Rattle.jc_classes.specs.TableConditions.{replacements_in, override_fault, overrides, layout_above, visible_above, Implementation, implemented_by}
+use Rattle.jc_classes.specs.TableConditions.{DispatchEntry, entries_from, entries_in, may_stand}
+use Rattle.jc_classes.specs.TableConditions.{hole_fault, holes, Replacement, replacements_from}
+use Rattle.jc_classes.specs.TableConditions.{replacements_in, override_fault, overrides, layout_above}
+use Rattle.jc_classes.specs.TableConditions.{visible_above, Implementation, implemented_by}
 use Rattle.jc_classes.specs.TableConditions.{implementations_in, interface_type_fault, serves_all, unserved}
 use Rattle.jc_classes.specs.Tables.{methods_listed}
 use Rattle.jc_classes.proofs.SameTypes.{same_signature-equal}
@@ -38,11 +39,7 @@ AllStand t c methods (e ∷ es) = (may_stand t c (entry_method methods e) ≡ tr
 stands_by : (t : LineTable) (methods : List MethodRec) (e : DispatchEntry) (b : Bool) → may_stand t e.class (entry_method methods e.method) ≡ b
     → hole_fault t methods e ≡ None → b ≡ true
 unfolding hole_fault
-stands_by t methods e true at none = refl
-stands_by t methods e false at none =
-    let some : hole_fault t methods e ≡ Some (Hole e.class e.token) = rw at refl in
-    let no : Some (Hole e.class e.token) ≡ None = sym some ∙ none in
-    absurd cc
+stands_by t methods e u at none = grind (arith)
 
 pub all_stand : (t : LineTable) (methods : List MethodRec) (c token : ℕ) (list : List (Option ℕ))
     → filter_map (hole_fault t methods) (entries_from c token list) ≡ [] → AllStand t c methods list
@@ -94,25 +91,19 @@ listed_all P t c methods each (None ∷ es) stand = absurd (false≢true stand.0
 listed_all P t c methods each (Some m ∷ es) stand = All-cons P m (methods_listed es) (each m stand.0) (listed_all P t c methods each es stand.1)
 
 signature_by : (methods : List MethodRec) (o : Option ℕ) → option_and_then (signature_of methods) o ≡ entry_signature methods o
-signature_by methods None = refl
-signature_by methods (Some n) = refl
+signature_by methods y = grind (arith)
 
 -- the signature at a token of a list whose entries are all there
 pub signature_listed : (methods : List MethodRec) (entries : List (Option ℕ)) (token : ℕ) → IsListed entries
     → signature_at methods (methods_listed entries) token ≡ entry_signature methods (option_flatten (slice_get entries token))
-signature_listed methods entries token l =
-    ap (option_and_then (signature_of methods)) (l.at token) ∙ signature_by methods (option_flatten (slice_get entries token))
+signature_listed methods entries token l = grind (arith, signature_by)
 
 -- ---- entries that replace others
 
 same_by : (methods : List MethodRec) (r : Replacement) (b : Bool)
     → same_signature (entry_signature methods r.method) (entry_signature methods r.inherited) ≡ b → override_fault methods r ≡ None → b ≡ true
 unfolding override_fault
-same_by methods r true at none = refl
-same_by methods r false at none =
-    let some : override_fault methods r ≡ Some (OverrideType r.class r.token) = rw at refl in
-    let no : Some (OverrideType r.class r.token) ≡ None = sym some ∙ none in
-    absurd cc
+same_by methods r z at none = grind (arith)
 
 all_agree : (methods : List MethodRec) (c token : ℕ) (inherited list : List (Option ℕ)) (i : ℕ)
     → filter_map (override_fault methods) (replacements_from c token inherited list) ≡ [] → i < length inherited → i < length list
@@ -138,35 +129,29 @@ pub record Agrees (methods : List MethodRec) (inherited list : List (Option ℕ)
 pub public_agrees : (t : LineTable) (classes : List NamedClass) (methods : List MethodRec) (c : ℕ) → overrides t classes methods ≡ []
     → c < length classes → Agrees methods (layout_above t classes c).public (public_entries t classes c)
 public_agrees t classes methods c none h =
-    let first = replacements_from c 0 (layout_above t classes c).public (public_entries t classes c) in
-    let second = replacements_from c 128 (visible_above t classes c) (visible_entries t classes c) in
-    record {
-      at = λ i a b. all_agree methods c 0 (layout_above t classes c).public (public_entries t classes c) i
-          (both_faultless (override_fault methods) first second
-          (class_faultless (override_fault methods) (replacements_in t classes) (length classes) c none h)).0 a b;
-    }
+    grind (
+      arith,
+      class_faultless (override_fault methods) (replacements_in t classes) (length classes) c none h,
+      all_agree,
+      both_faultless,
+    )
 
 pub visible_agrees : (t : LineTable) (classes : List NamedClass) (methods : List MethodRec) (c : ℕ) → overrides t classes methods ≡ []
     → c < length classes → Agrees methods (visible_above t classes c) (visible_entries t classes c)
 visible_agrees t classes methods c none h =
-    let first = replacements_from c 0 (layout_above t classes c).public (public_entries t classes c) in
-    let second = replacements_from c 128 (visible_above t classes c) (visible_entries t classes c) in
-    record {
-      at = λ i a b. all_agree methods c 128 (visible_above t classes c) (visible_entries t classes c) i
-          (both_faultless (override_fault methods) first second
-          (class_faultless (override_fault methods) (replacements_in t classes) (length classes) c none h)).1 a b;
-    }
+    grind (
+      arith,
+      class_faultless (override_fault methods) (replacements_in t classes) (length classes) c none h,
+      all_agree,
+      both_faultless,
+    )
 
 -- ---- interfaces that are served
 
 served_by : (methods : List MethodRec) (x : Implementation) (b : Bool) → serves_all methods x.public x.iface ≡ b
     → interface_type_fault methods x ≡ None → b ≡ true
 unfolding interface_type_fault
-served_by methods x true at none = refl
-served_by methods x false at none =
-    let some : interface_type_fault methods x ≡ Some (InterfaceType x.class x.iface.class) = rw at refl in
-    let no : Some (InterfaceType x.class x.iface.class) ≡ None = sym some ∙ none in
-    absurd cc
+served_by methods x z at none = grind (arith)
 
 abbrev pub AllServed : List MethodRec → List (Option ℕ) → List Iface → Type 0
 AllServed methods public is = All (λ (i : Iface). serves_all methods public i ≡ true) is

@@ -1,6 +1,6 @@
 -- The slots of classes as they are filled.
 use Rattle.std.proofs.Common.{◌≡◌, ℕ, zero, suc, ◌+◌, ◌≤◌, ◌<◌, set, List, [], ◌∷◌, ◌++◌, length, map, length-set, get_or}
-use Rattle.std.proofs.Common.{append_assoc, append-nil, replicate, Option, Some, None, refl, sym, ap, subst, ◌∙◌, arith, inl, inr}
+use Rattle.std.proofs.Common.{append_assoc, append-nil, replicate, Option, Some, None, refl, sym, ap, ◌∙◌, arith}
 use Rattle.std.specs.List.{range_with_len}
 use Rattle.std.proofs.lemmas.List.{length-replicate}
 use Rattle.std.specs.Prelude.{All, filter_map, IfSome, IsSome, slice_get}
@@ -34,52 +34,32 @@ filled-other slots c d l ne = ap option_flatten (slice_get-set_other slots c d (
 pub slots_filled : (t : LineTable) (classes : List NamedClass) (slots : List (Option ClassLayout)) (c : ℕ) (l : ClassLayout)
     → AreLayouts t classes slots → c < length classes → l ≡ class_layout t classes c
     → AreLayouts t classes (set slots c (Some l))
-slots_filled t classes slots c l are h is = record {
-  count = length-set slots c (Some l) ∙ are.count;
-  right = λ d. elim (cases_eq c d) [
-    | inl e ↦
-        let within : c < length slots = omega (arith, are.count) in
-        let here : slot_at (set slots c (Some l)) d ≡ Some l = ap (slot_at (set slots c (Some l))) (sym e) ∙ filled-here slots c l within in
-        subst (λ (o : Option ClassLayout). IfSome o (λ m. m ≡ class_layout t classes d)) (sym here) (is ∙ ap (class_layout t classes) e)
-    | inr ne ↦ subst (λ (o : Option ClassLayout). IfSome o (λ m. m ≡ class_layout t classes d)) (sym (filled-other slots c d l ne)) (are.right d)
-  ];
-}
+slots_filled t classes slots c l are h is = grind (arith, length-set, cases_eq, filled-here, filled-other)
 
 pub slots_kept : (t : LineTable) (classes : List NamedClass) (slots : List (Option ClassLayout)) (c : ℕ) (l : ClassLayout) → AreLayouts t classes slots
     → c < length classes → l ≡ class_layout t classes c
     → KeepsFilled t classes slots (set slots c (Some l))
-slots_kept t classes slots c l are h is = record {
-  filled = λ d was. elim (cases_eq c d) [
-    | inl e ↦
-        let within : c < length slots = omega (arith, are.count) in
-        ap (slot_at (set slots c (Some l))) (sym e) ∙ filled-here slots c l within ∙ ap Some (is ∙ ap (class_layout t classes) e)
-    | inr ne ↦ filled-other slots c d l ne ∙ was
-  ];
-}
+slots_kept t classes slots c l are h is = grind (arith, cases_eq, filled-here, filled-other)
 
 -- ---- the superclass's slot
 
 made_is : (t : LineTable) (classes : List NamedClass) (p : ℕ) (o : Option ClassLayout) → IsSome o → IfSome o (λ l. l ≡ class_layout t classes p)
     → o ≡ Some (class_layout t classes p)
-made_is t classes p None is e = absurd (false≢true is)
-made_is t classes p (Some l) is e = ap Some e
+made_is t classes p u is e = grind (arith, false≢true)
 
 -- a slot that is not empty holds the layout of its class
 pub filled_from : (t : LineTable) (classes : List NamedClass) (slots : List (Option ClassLayout)) (above : Option ℕ) → AreLayouts t classes slots
     → IfSome above (λ p. IsSome (slot_at slots p)) → IfSome above (IsFilled t classes slots)
-filled_from t classes slots None are made = tt
-filled_from t classes slots (Some p) are made = made_is t classes p (slot_at slots p) made (are.right p)
+filled_from t classes slots u are made = grind (arith, made_is)
 
 pub above_filled : (t : LineTable) (classes : List NamedClass) (slots : List (Option ClassLayout)) (above : Option ℕ)
     → IfSome above (IsFilled t classes slots) → option_and_then (slot_at slots) above ≡ option_map (class_layout t classes) above
-above_filled t classes slots None made = refl
-above_filled t classes slots (Some p) made = made
+above_filled t classes slots u made = grind (arith)
 
 -- ---- how many cells an instance can have
 
 own_few_by : (o : Option NamedClass) → IfSome o IsSized → length (of_class [] (λ k. k.own) o) ≤ 131070
-own_few_by None h = omega arith
-own_few_by (Some k) h = h.own
+own_few_by x h = grind (arith)
 
 pub sized_at : (classes : List NamedClass) (c : ℕ) (o : Option NamedClass) → slice_get classes c ≡ o → All IsSized classes → IfSome o IsSized
 sized_at classes c None e all = tt
@@ -103,8 +83,7 @@ cells_few t classes c all few =
 pub above_few : (t : LineTable) (classes : List NamedClass) (above : Option ℕ) → All IsSized classes → length t.lines ≤ 4096
     → (above_or_nothing (option_map (class_layout t classes) above)).cells ≤ 536993790
 unfolding class_layout
-above_few t classes None all few = omega arith
-above_few t classes (Some p) all few = cells_few t classes p all few
+above_few t classes z all few = grind (arith, cells_few)
 
 -- ---- a class made from the one above it
 
@@ -145,24 +124,19 @@ known_by t c (Some p) are e = (next_on_chain t c p are (parent_of-class t c p e)
 above_known_by : (t : LineTable) (above : Option ℕ) (xs : List ℕ) (x : ℕ) (rest : List ℕ)
     → ((p : ℕ) → p < length t.lines → xs ++ (x ∷ rest) ≡ chain t p → x < length t.lines)
     → IfSome above (λ p. p < length t.lines) → xs ++ (x ∷ rest) ≡ list_of (chain t) above → x < length t.lines
-above_known_by t None xs x rest further known e = absurd (no_end xs rest x e)
-above_known_by t (Some p) xs x rest further known e = further p known e
+above_known_by t y xs x rest further known e = grind (arith, no_end)
 
 -- the number of each class on a chain is that of a record
 on_chain_known : (t : LineTable) → AreLines t → (xs : List ℕ) (c x : ℕ) (rest : List ℕ) → c < length t.lines
     → xs ++ (x ∷ rest) ≡ chain t c → x < length t.lines
-on_chain_known t are [] c x rest h e =
-    let f = chain-front t c in
-    let same : x ≡ c = head_same x c rest f.0 (e ∙ f.1) in
-    rw same h
+on_chain_known t are [] c x rest h e = grind (arith, chain-front t c, head_same)
 on_chain_known t are (y ∷ xs) c x rest h e =
     above_known_by t (parent_of t c) xs x rest (λ p k g. on_chain_known t are xs p x rest k g) (known_by t c (parent_of t c) are refl)
     (tail_same y c (xs ++ (x ∷ rest)) (list_of (chain t) (parent_of t c)) (e ∙ chain_step t c are))
 
 taken : (t : LineTable) (path rest : List ℕ) (x : ℕ) (above : Option ℕ) (c : ℕ) → path ≡ rest ++ (x ∷ [])
     → path ++ list_of (chain t) above ≡ chain t c → rest ++ (x ∷ list_of (chain t) above) ≡ chain t c
-taken t path rest x above c e whole =
-    sym (append_assoc rest (x ∷ []) (list_of (chain t) above)) ∙ ap (λ (xs : List ℕ). xs ++ list_of (chain t) above) (sym e) ∙ whole
+taken t path rest x above c e whole = grind (arith, append_assoc)
 
 -- the last class of the path stands below the class above it
 pub down_step : (t : LineTable) (path rest : List ℕ) (x : ℕ) (above : Option ℕ) (c : ℕ) → AreLines t → path ≡ rest ++ (x ∷ [])
@@ -194,39 +168,20 @@ pub record IsDescent (t : LineTable) (classes : List NamedClass) (first : List (
 
 above_counted : (t : LineTable) (classes : List NamedClass) (above : Option ℕ) → HaveSuperclasses t classes → IfSome above (λ p. p < length t.lines)
     → IfSome above (λ p. p < length classes)
-above_counted t classes None known h = tt
-above_counted t classes (Some p) known h = omega (arith, known.count, h)
+above_counted t classes z known h = grind (arith)
 
 pub descent_first : (t : LineTable) (classes : List NamedClass) (slots : List (Option ClassLayout)) (c : ℕ) (path : List ℕ) (above : Option ℕ)
     → HaveSuperclasses t classes → AreLayouts t classes slots → IsClimb t slots c path above → IsDescent t classes slots slots c path above
-descent_first t classes slots c path above known are climb = record {
-  whole = climb.whole;
-  right = are;
-  keeps = record { filled = λ d h. h };
-  filled = filled_from t classes slots above are climb.made;
-  known = above_counted t classes above known climb.known;
-}
+descent_first t classes slots c path above known are climb = grind (arith, filled_from, above_counted)
 
 pub descent_next : (t : LineTable) (classes : List NamedClass) (first slots next : List (Option ClassLayout)) (c : ℕ) (path rest : List ℕ) (x : ℕ)
     (above : Option ℕ) → AreLines t → HaveSuperclasses t classes → c < length classes → path ≡ rest ++ (x ∷ [])
     → IsDescent t classes first slots c path above → IsMade t classes slots next x → IsDescent t classes first next c rest (Some x)
-descent_next t classes first slots next c path rest x above are known low e d made = record {
-  whole = down_whole t path rest x above c are e d.whole;
-  right = made.slots;
-  keeps = record { filled = λ y h. made.keeps.filled y (d.keeps.filled y h) };
-  filled = made.filled;
-  known = down_known t classes path rest x above c are known low e d.whole;
-}
+descent_next t classes first slots next c path rest x above are known low e d made = grind (arith, down_whole, down_known)
 
 pub descent_last : (t : LineTable) (classes : List NamedClass) (first slots : List (Option ClassLayout)) (c : ℕ) (path : List ℕ) (above : Option ℕ)
     → path ≡ [] → IsDescent t classes first slots c path above → IsMade t classes first slots c
-descent_last t classes first slots c path above e d =
-    let top : above ≡ Some c = climbed_whole t above c (ap (λ (xs : List ℕ). xs ++ list_of (chain t) above) (sym e) ∙ d.whole) in
-    record {
-      slots = d.right;
-      keeps = d.keeps;
-      filled = subst (λ (o : Option ℕ). IfSome o (IsFilled t classes slots)) top d.filled;
-    }
+descent_last t classes first slots c path above e d = grind (arith, climbed_whole)
 
 pub ruleset fills = (descent_first, descent_last, down_step, down_known)
 
@@ -245,27 +200,11 @@ nothing_there (suc n) (suc c) = nothing_there n c
 pub none_filled : (t : LineTable) (classes : List NamedClass) (slots : List (Option ClassLayout)) (n : ℕ) → n ≡ length classes
     → slots ≡ replicate n None → AreFilledBelow t classes slots 0
 unfolding slot_at
-none_filled t classes slots n m e =
-    let f : (c : ℕ) → c < 0 → IsFilled t classes slots c = λ c h. absurd (omega arith) in
-    record {
-      right = record {
-        count = ap length e ∙ length-replicate n None ∙ m;
-        right =
-            λ c. subst (λ (o : Option ClassLayout). IfSome o (λ l. l ≡ class_layout t classes c))
-            (sym (ap (λ (xs : List (Option ClassLayout)). slot_at xs c) e ∙ nothing_there n c)) tt;
-      };
-      filled = f;
-    }
+none_filled t classes slots n m e = grind (arith, length-replicate, nothing_there)
 
 pub more_filled : (t : LineTable) (classes : List NamedClass) (old new : List (Option ClassLayout)) (n : ℕ) → AreFilledBelow t classes old n
     → IsMade t classes old new n → AreFilledBelow t classes new (n + 1)
-more_filled t classes old new n are made = record {
-  right = made.slots;
-  filled = λ c h. elim (cases_lt c n) [
-    | inl lt ↦ made.keeps.filled c (are.filled c lt)
-    | inr le ↦ let e : n ≡ c = omega arith in subst (IsFilled t classes new) e made.filled
-  ];
-}
+more_filled t classes old new n are made = grind (arith, cases_lt)
 
 there_by : {A : Type 0} (xs : List (Option A)) (o : Option A) → filter_map (λ o. o) (xs ++ (o ∷ [])) ≡ filter_map (λ o. o) xs ++ option_to_list o
 there_by [] None = refl
@@ -302,9 +241,6 @@ all_some f (o ∷ os) a h =
 pub all_filled : (t : LineTable) (classes : List NamedClass) (slots : List (Option ClassLayout)) → AreFilledBelow t classes slots (length classes)
     → filter_map (λ o. o) slots ≡ layouts t classes
 unfolding slot_at
-all_filled t classes slots are =
-    let n : length slots ≡ length classes = are.right.count in
-    all_some (class_layout t classes) slots 0 (λ c h. are.filled c (omega (arith, n)) ∙ ap (λ (k : ℕ). Some (class_layout t classes k)) (omega arith))
-    ∙ ap (λ (k : ℕ). map (class_layout t classes) (range_with_len 0 k)) n
+all_filled t classes slots are = grind (arith, all_some)
 
 pub ruleset filled_in_turn = (none_filled, more_filled, all_filled)

@@ -1,7 +1,7 @@
 -- The least fault of the things of all classes, class by class.
 use Rattle.std.proofs.Common.{◌≡◌, ℕ, suc, ◌+◌, ◌≤◌, ◌<◌, get_or, drop, drop-cons, append-nil, List, [], ◌∷◌, ◌++◌, length, map}
 use Rattle.std.proofs.Common.{flat_map, Option, Some, None, refl, sym, ap, ◌∙◌, arith}
-use Rattle.std.specs.Prelude.{All, Bool, nat_lt, if◌then◌else◌, IfSome, slice_get, option_map}
+use Rattle.std.specs.Prelude.{All, Bool, nat_lt, if◌then◌else◌, IfSome, option_map}
 use Rattle.std.specs.List.{range_with_len}
 use Rattle.std.proofs.lemmas.List.Sums.{fold-append}
 use Rattle.std.proofs.lemmas.List.{drop_all, map-id}
@@ -10,7 +10,7 @@ use Rattle.std.proofs.lemmas.List.FromFn.{map-range_with_len_more, get_or-map-ra
 use Rattle.jc_resolve.specs.NamedClasses.{no_table}
 use Rattle.jc_base.proofs.Lists.{All-slice_get}
 use Rattle.jc_base.specs.declared.record.MethodRec.{MethodRec}
-use Rattle.jc_classes.specs.Outline.{LineTable, chain}
+use Rattle.jc_classes.specs.Outline.{LineTable}
 use Rattle.jc_resolve.specs.declared.fault.LinkFault.{LinkFault}
 use Rattle.jc_resolve.specs.declared.fault.LinkFault.TheVariants.{InstanceLong}
 use Rattle.jc_resolve.specs.declared.named.DispatchTable.{DispatchTable}
@@ -21,7 +21,8 @@ use Rattle.first_fault.specs.Least.{least_from, least_of, lesser}
 use Rattle.jc_classes.specs.KnownLines.{HaveSuperclasses}
 use Rattle.jc_classes.specs.declared.layout.ClassLayout.{ClassLayout}
 use Rattle.jc_classes.specs.Entries.{reach, reach_from, reach_of}
-use Rattle.jc_classes.specs.Layout.{of_class, public_table, visible_table, home_run, public_entries, visible_entries, instance_cells, class_layout, layouts}
+use Rattle.jc_classes.specs.Layout.{of_class, public_table, visible_table, public_entries}
+use Rattle.jc_classes.specs.Layout.{visible_entries, instance_cells, class_layout, layouts}
 use Rattle.jc_classes.specs.Slots.{HasShortLists}
 use Rattle.jc_classes.specs.Signatures.{entry_method}
 use Rattle.jc_classes.specs.TableConditions.{DispatchEntry, entries_from, Replacement, replacements_from, long_fault}
@@ -41,10 +42,7 @@ pub entries_next : (fault : DispatchEntry → Option LinkFault) (c token i : ℕ
     → least_from link_place least fault (entries_from c token (drop i list)) ≡ least_from link_place
     (lesser link_place least (fault (record { class = c; token = token; method = get_or list i d }))) fault
     (entries_from c (token + 1) (drop (i + 1) list))
-entries_next fault c token i list least d h =
-    let more : suc i ≡ i + 1 = omega arith in
-    ap (λ (es : List (Option ℕ)). least_from link_place least fault (entries_from c token es))
-    (drop-cons list i d h ∙ ap (λ (k : ℕ). get_or list i d ∷ drop k list) more)
+entries_next fault c token i list least d h = grind (arith, suc, drop-cons, get_or)
 
 pub entries_end : (fault : DispatchEntry → Option LinkFault) (c token i : ℕ) (list : List (Option ℕ)) (least : Option LinkFault) → length list ≤ i
     → least_from link_place least fault (entries_from c token (drop i list)) ≡ least
@@ -61,18 +59,12 @@ range_more n =
     ∙ ap (λ (ks : List ℕ). ks ++ (n ∷ [])) (map-id (range_with_len 0 n))
 
 flat_range : {X : Type 0} (f : ℕ → List X) (n : ℕ) → flat_map f (range_with_len 0 (n + 1)) ≡ flat_map f (range_with_len 0 n) ++ f n
-flat_range f n =
-    ap (flat_map f) (range_more n)
-    ∙ flat_map-append f (range_with_len 0 n) (n ∷ [])
-    ∙ ap (λ xs. flat_map f (range_with_len 0 n) ++ xs) (append-nil (f n))
+flat_range f n = grind (arith, flat_map, range_more, flat_map-append, append-nil)
 
 pub least_next : {X : Type 0} (fault : X → Option LinkFault) (f : ℕ → List X) (n : ℕ) (least : Option LinkFault)
     → least ≡ least_of link_place fault (flat_map f (range_with_len 0 n))
     → least_from link_place least fault (f n) ≡ least_of link_place fault (flat_map f (range_with_len 0 (n + 1)))
-least_next fault f n least e =
-    ap (λ (o : Option LinkFault). least_from link_place o fault (f n)) e
-    ∙ sym (fold-append _ None (flat_map f (range_with_len 0 n)) (f n))
-    ∙ ap (least_of link_place fault) (sym (flat_range f n))
+least_next fault f n least e = grind (arith, fold-append, flat_map, flat_range)
 
 pub least_both : {X : Type 0} (fault : X → Option LinkFault) (xs ys : List X) (least : Option LinkFault)
     → least_from link_place (least_from link_place least fault xs) fault ys ≡ least_from link_place least fault (xs ++ ys)
@@ -81,8 +73,7 @@ least_both fault xs ys least = sym (fold-append _ least xs ys)
 -- ---- how long dispatch lists are
 
 reach_few_by : (base : ℕ) (entries : List (Option ℕ)) → base ≤ 255 → length entries ≤ 255 → reach_from base entries ≤ 510
-reach_few_by base [] h k = omega arith
-reach_few_by base (e ∷ es) h k = omega arith
+reach_few_by base y h k = grind (arith)
 
 reach_few : (table : DispatchTable) → IsByteTable table → reach table ≤ 510
 unfolding reach
@@ -93,20 +84,15 @@ empty_table = record { base = omega arith; count = omega arith }
 
 table_few_by : (f : NamedClass → DispatchTable) → ((k : NamedClass) → IsSized k → IsByteTable (f k)) → (o : Option NamedClass)
     → IfSome o IsSized → IsByteTable (of_class no_table f o)
-table_few_by f each None h = empty_table
-table_few_by f each (Some k) h = each k h
+table_few_by f each z h = grind (arith, empty_table)
 
 public_few : (classes : List NamedClass) (c : ℕ) → All IsSized classes → reach (public_table classes c) ≤ 510
 unfolding public_table
-public_few classes c all =
-    reach_few (public_table classes c)
-    (table_few_by (λ k. k.public) (λ k h. h.public) (slice_get classes c) (sized_at classes c (slice_get classes c) refl all))
+public_few classes c all = grind (arith, reach_few, table_few_by, sized_at)
 
 visible_few : (classes : List NamedClass) (c : ℕ) → All IsSized classes → reach (visible_table classes c) ≤ 510
 unfolding visible_table
-visible_few classes c all =
-    reach_few (visible_table classes c)
-    (table_few_by (λ k. k.visible) (λ k h. h.visible) (slice_get classes c) (sized_at classes c (slice_get classes c) refl all))
+visible_few classes c all = grind (arith, reach_few, table_few_by, sized_at)
 
 reach_of_few : (f : ℕ → DispatchTable) → ((c : ℕ) → reach (f c) ≤ 510) → (cs : List ℕ) → reach_of (map f cs) ≤ 510
 reach_of_few f each [] = omega arith
@@ -114,18 +100,12 @@ reach_of_few f each (c ∷ cs) = omega (arith, each c, reach_of_few f each cs)
 
 pub lists_short : (t : LineTable) (classes : List NamedClass) (c : ℕ) → All IsSized classes → HasShortLists (class_layout t classes c)
 unfolding class_layout public_entries visible_entries
-lists_short t classes c all = record {
-  public = rw (length-entries (map (public_table classes) (chain t c))) (reach_of_few (public_table classes) (λ k. public_few classes k all) (chain t c));
-  visible =
-      rw (length-entries (map (visible_table classes) (home_run t c)))
-      (reach_of_few (visible_table classes) (λ k. visible_few classes k all) (home_run t c));
-}
+lists_short t classes c all = grind (arith, length-entries, reach_of_few, public_few, visible_few)
 
 -- the layout of a class in the list of all
 pub layout_is : (t : LineTable) (classes : List NamedClass) (all : List ClassLayout) (c : ℕ) (d : ClassLayout) → all ≡ layouts t classes
     → c < length classes → get_or all c d ≡ class_layout t classes c
-layout_is t classes all c d e h =
-    ap (λ (ls : List ClassLayout). get_or ls c d) e ∙ get_or-map-range_with_len (class_layout t classes) 0 (length classes) c c d h (omega arith)
+layout_is t classes all c d e h = grind (arith, get_or, get_or-map-range_with_len)
 
 pub layout_short : (t : LineTable) (classes : List NamedClass) (all : List ClassLayout) (c : ℕ) (d : ClassLayout) → all ≡ layouts t classes
     → c < length classes → HaveSuperclasses t classes → HasShortLists (get_or all c d)
@@ -148,28 +128,14 @@ pub replacements_next : (fault : Replacement → Option LinkFault) (c first i : 
     ≡ least_from link_place
     (lesser link_place least (fault (record { class = c; token = first + i; inherited = get_or inherited i d; method = get_or list i e }))) fault
     (replacements_from c (first + (i + 1)) (drop (i + 1) inherited) (drop (i + 1) list))
-replacements_next fault c first i inherited list least d e h k =
-    let more : suc i ≡ i + 1 = omega arith in
-    let token : first + i + 1 ≡ first + (i + 1) = omega arith in
-    ap (λ (es : List (Option ℕ)). least_from link_place least fault (replacements_from c (first + i) es (drop i list)))
-    (drop-cons inherited i d h ∙ ap (λ (n : ℕ). get_or inherited i d ∷ drop n inherited) more)
-    ∙ ap
-    (λ (es : List (Option ℕ)). least_from link_place least fault
-    (replacements_from c (first + i) (get_or inherited i d ∷ drop (i + 1) inherited) es))
-    (drop-cons list i e k ∙ ap (λ (n : ℕ). get_or list i e ∷ drop n list) more)
-    ∙ ap
-    (λ (n : ℕ). least_from link_place
-    (lesser link_place least (fault (record { class = c; token = first + i; inherited = get_or inherited i d; method = get_or list i e }))) fault
-    (replacements_from c n (drop (i + 1) inherited) (drop (i + 1) list))) token
+replacements_next fault c first i inherited list least d e h k = grind (arith, suc, drop-cons, get_or)
 
 -- ---- the superclass among all classes
 
 pub above_at : (t : LineTable) (classes : List NamedClass) (all : List ClassLayout) (p : ℕ) (d : ClassLayout) (o : Option ℕ)
     → all ≡ layouts t classes → p < length t.lines → HaveSuperclasses t classes → Some p ≡ o → d ≡ get_or all p d
     → Some d ≡ option_map (class_layout t classes) o
-above_at t classes all p d o e h known is at =
-    let low : p < length classes = omega (arith, known.count) in
-    ap Some (layout_at t classes all p d e low at) ∙ ap (option_map (class_layout t classes)) is
+above_at t classes all p d o e h known is at = grind (arith, layout_at)
 
 pub ruleset above_in_all = (above_at, layouts_count)
 
@@ -177,10 +143,7 @@ pub ruleset above_in_all = (above_at, layouts_count)
 
 pub least_one : (fault : ℕ → Option LinkFault) (n : ℕ) (least : Option LinkFault) → least ≡ least_of link_place fault (range_with_len 0 n)
     → lesser link_place least (fault n) ≡ least_of link_place fault (range_with_len 0 (n + 1))
-least_one fault n least e =
-    ap (λ (o : Option LinkFault). lesser link_place o (fault n)) e
-    ∙ sym (fold-append _ None (range_with_len 0 n) (n ∷ []))
-    ∙ ap (least_of link_place fault) (sym (range_more n))
+least_one fault n least e = grind (arith, fold-append, range_more)
 
 long_by : (c cells : ℕ) (t : LineTable) (classes : List NamedClass) (b : Bool) → nat_lt 32767 cells ≡ b → cells ≡ instance_cells t classes c
     → (if b then Some (InstanceLong c cells) else None) ≡ long_fault t classes c

@@ -1,5 +1,5 @@
 -- Methods grouped by class.
-use Rattle.std.proofs.Common.{◌≡◌, ℕ, zero, suc, ◌+◌, ◌<◌, set, get_or, take, Bool, true, false, List, [], ◌∷◌, ◌++◌, append-nil}
+use Rattle.std.proofs.Common.{◌≡◌, ℕ, zero, suc, ◌+◌, ◌<◌, set, get_or, take, Bool, true, false, List, [], ◌∷◌, ◌++◌, append-nil, arith}
 use Rattle.std.proofs.Common.{length, replicate, Option, Some, refl, sym, ap, subst, ◌∙◌, inl, inr}
 use Rattle.std.specs.Prelude.{◌==◌, ◌||◌, ◌&&◌, not, IfSome, slice_get, if◌then◌else◌}
 use Rattle.std.specs.List.{list_all}
@@ -22,15 +22,11 @@ no_group (suc n) zero = refl
 no_group (suc n) (suc d) = no_group n d
 
 pub groups_none : (n : ℕ) (groups : List (List MethodRec)) → groups ≡ replicate n [] → AreGroups n [] groups
-groups_none n groups e = record {
-  count = ap length e ∙ length-replicate n [];
-  each = λ d. subst (λ (gs : List (List MethodRec)). IfSome (slice_get gs d) (λ g. g ≡ [])) (sym e) (no_group n d);
-}
+groups_none n groups e = grind (arith, length-replicate, no_group)
 
 keep_or_skip : (x : MethodRec) (b c : Bool) (m : MethodRec) (xs ys : List MethodRec) → ys ≡ xs ++ (if b then m ∷ [] else [])
     → (if c then x ∷ ys else ys) ≡ (if c then x ∷ xs else xs) ++ (if b then m ∷ [] else [])
-keep_or_skip x b true m xs ys e = ap (λ (zs : List MethodRec). x ∷ zs) e
-keep_or_skip x b false m xs ys e = e
+keep_or_skip x b z m xs ys e = grind (arith)
 
 methods_by : (methods : List MethodRec) (m : MethodRec) (d : ℕ) (b : Bool) → (m.class == d) ≡ b → methods_of (methods ++ (m ∷ [])) d
     ≡ methods_of methods d ++ (if b then m ∷ [] else [])
@@ -65,9 +61,7 @@ groups_more n methods m old new are is = record {
 
 pub groups_next : (n : ℕ) (methods : List MethodRec) (i : ℕ) (m : MethodRec) (old new : List (List MethodRec)) → m ≡ get_or methods i m
     → i < length methods → AreGroups n (take i methods) old → IsMethodAdded m old new → AreGroups n (take (i + 1) methods) new
-groups_next n methods i m old new at h are is =
-    subst (λ (ms : List MethodRec). AreGroups n ms new) (ap (λ (x : MethodRec). take i methods ++ (x ∷ [])) at ∙ sym (take_more methods i m h))
-    (groups_more n (take i methods) m old new are is)
+groups_next n methods i m old new at h are is = grind (arith, take_more methods i m h, groups_more n (take i methods) m old new are is)
 
 pub ruleset grouping = (groups_none, groups_next)
 
@@ -75,11 +69,9 @@ pub ruleset grouping = (groups_none, groups_next)
 
 test_or_skip : (p : MethodRec → Bool) (m : MethodRec) (ms : List MethodRec) (b whole : Bool) → list_all p ms ≡ whole
     → list_all p (if b then m ∷ ms else ms) ≡ ((not b || p m) && whole)
-test_or_skip p m ms true whole e = ap (λ (c : Bool). p m && c) e
-test_or_skip p m ms false whole e = e
+test_or_skip p m ms u whole e = grind (arith)
 
 pub all_of_class : (p : MethodRec → Bool) (methods : List MethodRec) (d : ℕ)
     → list_all p (methods_of methods d) ≡ list_all (λ (m : MethodRec). not (m.class == d) || p m) methods
 all_of_class p [] d = refl
-all_of_class p (m ∷ ms) d =
-    test_or_skip p m (methods_of ms d) (m.class == d) (list_all (λ (x : MethodRec). not (x.class == d) || p x) ms) (all_of_class p ms d)
+all_of_class p (m ∷ ms) d = grind (arith, test_or_skip, all_of_class p ms d)

@@ -1,7 +1,7 @@
 -- A class that adds methods of its own to lists without open entries makes lists without open entries.
 use Rattle.std.proofs.Common.{◌≡◌, ℕ, zero, suc, ◌+◌, ◌≤◌, ◌<◌, min, get_or, Bool, true, false, not, List, [], ◌∷◌, length}
-use Rattle.std.proofs.Common.{flat_map, Option, Some, None, ◌⊎◌, refl, sym, ap, ◌∙◌, arith, inl, inr, eqb-true}
-use Rattle.std.specs.Prelude.{All, IfSome, is_some, ◌==◌, ◌&&◌, ◌||◌, if◌then◌else◌, filter_map, slice_get, option_map}
+use Rattle.std.proofs.Common.{flat_map, Option, Some, None, ◌⊎◌, refl, sym, ap, ◌∙◌, arith, inl, eqb-true}
+use Rattle.std.specs.Prelude.{All, IfSome, is_some, ◌==◌, ◌||◌, if◌then◌else◌, filter_map, slice_get, option_map}
 use Rattle.std.specs.List.{range_with_len, list_any}
 use Rattle.std.proofs.lemmas.Bool.{cases_lt, false≢true, and_parts}
 use Rattle.std.proofs.Math.Bool.{or-true}
@@ -34,15 +34,12 @@ use Rattle.jc_classes.proofs.Steps.{public_step, visible_step}
 pub public_made : (t : LineTable) (classes : List NamedClass) (c : ℕ) (above : Option ℕ) (k : NamedClass) (up : Option ClassLayout)
     → chain t c ≡ c ∷ list_of (chain t) above → slice_get classes c ≡ Some k → up ≡ option_map (class_layout t classes) above
     → public_entries t classes c ≡ overlaid k.public (above_or_nothing up).public
-public_made t classes c above k up step at is =
-    public_step t classes c above k step at ∙ ap (λ (o : Option ClassLayout). overlaid k.public (above_or_nothing o).public) (sym is)
+public_made t classes c above k up step at is = grind (arith, public_step)
 
 pub visible_made : (t : LineTable) (classes : List NamedClass) (c : ℕ) (above : Option ℕ) (k : NamedClass) (up : Option ClassLayout)
     → chain t c ≡ c ∷ list_of (chain t) above → slice_get classes c ≡ Some k → up ≡ option_map (class_layout t classes) above
     → visible_entries t classes c ≡ overlaid k.visible (if at_home t above c then (above_or_nothing up).visible else [])
-visible_made t classes c above k up step at is =
-    visible_step t classes c above k step at
-    ∙ ap (λ (o : Option ClassLayout). overlaid k.visible (if at_home t above c then (above_or_nothing o).visible else [])) (sym is)
+visible_made t classes c above k up step at is = grind (arith, visible_step)
 
 pub class_sized : (classes : List NamedClass) (c : ℕ) (k : NamedClass) → All IsSized classes → slice_get classes c ≡ Some k → IsSized k
 class_sized classes c k all at = All-slice_get IsSized classes c k all at
@@ -65,38 +62,20 @@ pub adds_all : (methods : List MethodRec) (c first to : ℕ) (table : DispatchTa
     → list ≡ overlaid table inherited → first ≡ min table.base (length inherited) → min (reach table) (length list) ≤ to
     → AddsUpTo methods c first to inherited list → AddsOwn methods c inherited list
 adds_all methods c first to table inherited list e is past before = record {
-  each = λ k h. elim (cases_lt k first) [
-    | inl lt ↦ kept_entry methods c table inherited list k e (inl (omega (arith, lt, is))) (omega (arith, lt, is))
-    | inr ge ↦ elim (cases_lt k to) [
-      | inl lt ↦ before.each k ge lt h
-      | inr le ↦
-          let count : length list ≡ length (overlaid table inherited) = ap length e in
-          kept_entry methods c table inherited list k e (inr (omega (arith, past, le, h))) (omega (arith, past, le, h, count, length-overlaid table inherited))
-    ]
-  ];
+  each = grind (arith, cases_lt, kept_entry, length-overlaid);
 }
 
 -- ---- entries that may stand in a list
 
 own_stands : (t : LineTable) (c : ℕ) (o : Option MethodRec) → own_by c o ≡ true → may_stand t c o ≡ true
-own_stands t c None e = absurd (false≢true e)
-own_stands t c (Some m) e =
-    let plain : Bool = not m.is_static && not m.is_init in
-    let same : m.class ≡ c = eqb-true m.class c (and_parts (m.class == c) plain e).0 in
-    ap (λ (d : ℕ). is_on_chain t d c && plain) same
-    ∙ ap (λ (b : Bool). b && plain) (on_chain-here t c)
-    ∙ (and_parts (m.class == c) plain e).1
+own_stands t c z e = grind (arith, false≢true, not, eqb-true, and_parts, on_chain-here)
 
 on_above : (t : LineTable) (d c p : ℕ) → chain t c ≡ c ∷ chain t p → is_on_chain t d p ≡ true → is_on_chain t d c ≡ true
 unfolding is_on_chain
 on_above t d c p step on = ap (list_any (λ x. x == d)) step ∙ ap (λ (b : Bool). (c == d) || b) on ∙ or-true (c == d)
 
 above_stands : (t : LineTable) (c p : ℕ) (o : Option MethodRec) → chain t c ≡ c ∷ chain t p → may_stand t p o ≡ true → may_stand t c o ≡ true
-above_stands t c p None step e = absurd (false≢true e)
-above_stands t c p (Some m) step e =
-    let plain : Bool = not m.is_static && not m.is_init in
-    ap (λ (b : Bool). b && plain) (on_above t m.class c p step (and_parts (is_on_chain t m.class p) plain e).0)
-    ∙ (and_parts (is_on_chain t m.class p) plain e).1
+above_stands t c p u step e = grind (arith, false≢true, not, on_above, and_parts)
 
 -- each entry of a list, by its token
 pub record Stand (t : LineTable) (c : ℕ) (methods : List MethodRec) (list : List (Option ℕ)) : Type 0 where
@@ -111,21 +90,14 @@ stand_at t c methods (e ∷ es) (suc k) all h = stand_at t c methods es k all.1 
 -- those of a class by those of its superclass
 grown_stand : (t : LineTable) (c : ℕ) (methods : List MethodRec) (inherited list : List (Option ℕ)) → Stand t c methods inherited
     → AddsOwn methods c inherited list → Stand t c methods list
-grown_stand t c methods inherited list up adds = record {
-  each = λ k h. elim (adds.each k h) [
-    | inl same ↦ ap (λ (e : Option ℕ). may_stand t c (entry_method methods e)) same.1 ∙ up.each k same.0
-    | inr own ↦ own_stands t c (entry_method methods (get_or list k None)) own
-  ];
-}
+grown_stand t c methods inherited list up adds = grind (arith, own_stands, get_or)
 
 none_stand : (t : LineTable) (c : ℕ) (methods : List MethodRec) → Stand t c methods []
 none_stand t c methods = record { each = λ k h. absurd (omega arith) }
 
 seen_stand : (t : LineTable) (c p : ℕ) (methods : List MethodRec) (token : ℕ) (list : List (Option ℕ)) → chain t c ≡ c ∷ chain t p
     → filter_map (hole_fault t methods) (entries_from p token list) ≡ [] → Stand t c methods list
-seen_stand t c p methods token list step none = record {
-  each = λ k h. above_stands t c p (entry_method methods (get_or list k None)) step (stand_at t p methods list k (all_stand t methods p token list none) h);
-}
+seen_stand t c p methods token list step none = grind (arith, above_stands, get_or, stand_at, all_stand)
 
 -- ---- the lists of the superclass
 
@@ -143,24 +115,17 @@ public_above_stand : (t : LineTable) (classes : List NamedClass) (methods : List
     → IfSome above (λ p. filter_map (hole_fault t methods) (entries_in t classes p) ≡ []) → chain t c ≡ c ∷ list_of (chain t) above
     → Stand t c methods (above_or_nothing (option_map (class_layout t classes) above)).public
 unfolding class_layout
-public_above_stand t classes methods c None none step = none_stand t c methods
-public_above_stand t classes methods c (Some p) none step =
-    seen_stand t c p methods 0 (public_entries t classes p) step
-    (both_faultless (hole_fault t methods) (entries_from p 0 (public_entries t classes p)) (entries_from p 128 (visible_entries t classes p)) none).0
+public_above_stand t classes methods c v none step = grind (arith, none_stand, seen_stand, both_faultless)
 
 visible_by : (t : LineTable) (c : ℕ) (methods : List MethodRec) (list : List (Option ℕ)) (home : Bool) → Stand t c methods list
     → Stand t c methods (if home then list else [])
-visible_by t c methods list true all = all
-visible_by t c methods list false all = none_stand t c methods
+visible_by t c methods list v all = grind (arith, none_stand)
 
 visible_above_stand : (t : LineTable) (classes : List NamedClass) (methods : List MethodRec) (c : ℕ) (above : Option ℕ)
     → IfSome above (λ p. filter_map (hole_fault t methods) (entries_in t classes p) ≡ []) → chain t c ≡ c ∷ list_of (chain t) above
     → Stand t c methods (above_or_nothing (option_map (class_layout t classes) above)).visible
 unfolding class_layout
-visible_above_stand t classes methods c None none step = none_stand t c methods
-visible_above_stand t classes methods c (Some p) none step =
-    seen_stand t c p methods 128 (visible_entries t classes p) step
-    (both_faultless (hole_fault t methods) (entries_from p 0 (public_entries t classes p)) (entries_from p 128 (visible_entries t classes p)) none).1
+visible_above_stand t classes methods c v none step = grind (arith, none_stand, seen_stand, both_faultless)
 
 -- ---- no entry is open
 
@@ -181,12 +146,10 @@ no_holes t methods c token (m ∷ ms) each =
 seen_by : (t : LineTable) (classes : List NamedClass) (methods : List MethodRec) (c : ℕ) (above : Option ℕ)
     → ((p : ℕ) → p < c → filter_map (hole_fault t methods) (entries_in t classes p) ≡ []) → IfSome above (λ p. p < c)
     → IfSome above (λ p. filter_map (hole_fault t methods) (entries_in t classes p) ≡ [])
-seen_by t classes methods c None each h = tt
-seen_by t classes methods c (Some p) each h = each p h
+seen_by t classes methods c v each h = grind (arith)
 
 none_if : (least : Option LinkFault) → is_some least ≡ false → least ≡ None
-none_if None e = refl
-none_if (Some fault) e = absurd (false≢true (sym e))
+none_if x e = grind (arith, false≢true)
 
 -- nothing is at fault in the lists of a class that grows
 pub none_open : (t : LineTable) (classes : List NamedClass) (methods : List MethodRec) (c : ℕ) (least : Option LinkFault)

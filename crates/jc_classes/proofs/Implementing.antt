@@ -1,11 +1,10 @@
 -- The interfaces of classes, one by one.
-use Rattle.std.proofs.Common.{◌≡◌, ℕ, suc, ◌+◌, ◌<◌, ◌≤◌, drop, drop-cons, get_or, Bool, true, false, List, ◌∷◌, length, map}
-use Rattle.std.proofs.Common.{Option, Some, None, sym, ap, ◌∙◌, arith}
+use Rattle.std.proofs.Common.{◌≡◌, ℕ, suc, ◌+◌, ◌<◌, ◌≤◌, drop, drop-cons, get_or, Bool, true, false, List, length, map}
+use Rattle.std.proofs.Common.{Option, Some, None, ap, arith}
 use Rattle.std.specs.Prelude.{slice_get, if◌then◌else◌}
 use Rattle.std.specs.List.{list_all}
 use Rattle.std.proofs.lemmas.List.{drop_all}
 use Rattle.std.proofs.lemmas.Option.{slice_get-get_or}
-use Rattle.jc_base.proofs.Lists.{IfSome-is}
 use Rattle.jc_base.specs.declared.record.Iface.{Iface}
 use Rattle.jc_base.specs.declared.record.MethodRec.{MethodRec}
 use Rattle.jc_classes.specs.Outline.{LineTable}
@@ -21,8 +20,7 @@ use Rattle.jc_classes.proofs.Grouping.{all_of_class}
 
 group_is : (n : ℕ) (methods : List MethodRec) (groups : List (List MethodRec)) (d : ℕ) (g : List MethodRec) → AreGroups n methods groups
     → d < length groups → g ≡ get_or groups d g → g ≡ methods_of methods d
-group_is n methods groups d g are h at =
-    IfSome-is (λ x. x ≡ methods_of methods d) (slice_get groups d) g (are.each d) (slice_get-get_or groups d g h ∙ ap Some (sym at))
+group_is n methods groups d g are h at = grind (arith, slice_get-get_or)
 
 fault_by : (methods : List MethodRec) (x : Implementation) (b : Bool) → b ≡ serves_all methods x.public x.iface
     → (if b then None else Some (InterfaceType x.class x.iface.class)) ≡ interface_type_fault methods x
@@ -33,8 +31,7 @@ tested : (n : ℕ) (methods : List MethodRec) (groups : List (List MethodRec)) (
     → AreGroups n methods groups → x.iface.class < length groups → g ≡ get_or groups x.iface.class g
     → b ≡ list_all (serves methods x.public x.iface) g → b ≡ serves_all methods x.public x.iface
 tested n methods groups x g b are h at is =
-    is ∙ ap (list_all (serves methods x.public x.iface)) (group_is n methods groups x.iface.class g are h at)
-    ∙ all_of_class (serves methods x.public x.iface) methods x.iface.class
+    grind (arith, group_is n methods groups x.iface.class g are h at, all_of_class (serves methods x.public x.iface) methods x.iface.class)
 
 -- an interface whose methods are all served, and one of which some method is not
 pub fault_none : (n : ℕ) (methods : List MethodRec) (groups : List (List MethodRec)) (x : Implementation) (g : List MethodRec)
@@ -59,22 +56,16 @@ pub implementations_next : (methods : List MethodRec) (c : ℕ) (public : List (
     → least_from link_place least (interface_type_fault methods) (map (implementation c public) (drop i interfaces))
     ≡ least_from link_place (lesser link_place least (interface_type_fault methods (implementation c public x))) (interface_type_fault methods)
     (map (implementation c public) (drop (i + 1) interfaces))
-implementations_next methods c public interfaces i x least h at =
-    let more : suc i ≡ i + 1 = omega arith in
-    ap (λ (xs : List Iface). least_from link_place least (interface_type_fault methods) (map (implementation c public) xs))
-    (drop-cons interfaces i x h ∙ ap (λ (y : Iface). y ∷ drop (suc i) interfaces) (sym at) ∙ ap (λ (k : ℕ). x ∷ drop k interfaces) more)
+implementations_next methods c public interfaces i x least h at = grind (arith, suc, drop-cons)
 
 pub implementations_end : (methods : List MethodRec) (c : ℕ) (public : List (Option ℕ)) (interfaces : List Iface) (i : ℕ) (least : Option LinkFault)
     → length interfaces ≤ i
     → least_from link_place least (interface_type_fault methods) (map (implementation c public) (drop i interfaces)) ≡ least
-implementations_end methods c public interfaces i least h =
-    ap (λ (xs : List Iface). least_from link_place least (interface_type_fault methods) (map (implementation c public) xs)) (drop_all i interfaces h)
+implementations_end methods c public interfaces i least h = grind (arith, drop_all)
 
 pub ruleset implementation_folds = (implementations_next, implementations_end)
 
 pub implementations_are : (t : LineTable) (classes : List NamedClass) (c : ℕ) (public : List (Option ℕ)) (k : NamedClass)
     → public ≡ public_entries t classes c → slice_get classes c ≡ Some k
     → map (implementation c public) (implemented_by (Some k)) ≡ implementations_in t classes c
-implementations_are t classes c public k e at =
-    ap (λ (p : List (Option ℕ)). map (implementation c p) (implemented_by (Some k))) e
-    ∙ ap (λ (o : Option NamedClass). map (implementation c (public_entries t classes c)) (implemented_by o)) (sym at)
+implementations_are t classes c public k e at = grind (arith)

@@ -25,8 +25,7 @@ unfolding named_by
 unnamed_before table k h = rw (lt-ltb k table.base h) refl
 
 unnamed : (table : DispatchTable) (k : ℕ) → IsOutside table k → named_by table k ≡ None
-unnamed table k (inl h) = unnamed_before table k h
-unnamed table k (inr h) = named_past table k h
+unnamed table k z = grind (arith, unnamed_before, named_past)
 
 kept_entry : (table : DispatchTable) (inherited : List (Option ℕ)) (k : ℕ) (d : Option ℕ) → IsOutside table k → k < length inherited
     → overlaid_at table inherited k ≡ get_or inherited k d
@@ -93,30 +92,19 @@ whole_by : (table : DispatchTable) (inherited entries : List (Option ℕ)) (n m 
     → entries ≡ map (overlaid_at table inherited) (range_with_len 0 n) → length inherited ≤ n → n ≡ max (length inherited) (reach table)
     → m ≡ length inherited
     → entries ++ drop m inherited ≡ overlaid table inherited
-whole_by table inherited entries n m e past is at =
-    ap (λ (xs : List (Option ℕ)). entries ++ xs) (drop_all m inherited (omega (arith, at)))
-    ∙ append-nil entries ∙ e ∙ ap (λ (k : ℕ). map (overlaid_at table inherited) (range_with_len 0 k)) is
+whole_by table inherited entries n m e past is at = grind (arith, drop_all, append-nil)
 
 after_by : (table : DispatchTable) (inherited entries : List (Option ℕ)) (n m : ℕ)
     → entries ≡ map (overlaid_at table inherited) (range_with_len 0 n) → reach table ≤ n → n ≤ max (length inherited) (reach table)
     → m ≡ min (length entries) (length inherited)
     → entries ++ drop m inherited ≡ overlaid table inherited
-after_by table inherited entries n m e past few at =
-    let count : length entries ≡ n = ap length e ∙ length-map-range_with_len (overlaid_at table inherited) 0 n in
-    elim (cases_lt n (length inherited)) [
-      | inl lt ↦
-          let same : m ≡ n = omega (arith, at, count, lt) in
-          rw (same, e) (copied_rest table inherited n past (omega (arith, lt)))
-      | inr le ↦ whole_by table inherited entries n m e le (omega (arith, past, few, le)) (omega (arith, at, count, le))
-    ]
+after_by table inherited entries n m e past few at = grind (arith, length-map-range_with_len, cases_lt, copied_rest, whole_by)
 
 pub copied_after : (table : DispatchTable) (inherited entries : List (Option ℕ)) (n m : ℕ)
     → entries ≡ map (overlaid_at table inherited) (range_with_len 0 n) → reach table ≤ n → n ≤ max (length inherited) (reach table)
     → m ≡ min (length entries) (length inherited)
     → entries ++ take (length inherited - m) (drop m inherited) ≡ overlaid table inherited
-copied_after table inherited entries n m e past few at =
-    ap (λ (xs : List (Option ℕ)). entries ++ xs) (take_all (length inherited - m) (drop m inherited) (omega (arith, length-drop m inherited)))
-    ∙ after_by table inherited entries n m e past few at
+copied_after table inherited entries n m e past few at = grind (arith, take_all, length-drop, after_by)
 
 pub ruleset copies = (copied_before, copied_after)
 
@@ -145,9 +133,7 @@ same_before : (methods : List MethodRec) (c token n : ℕ) (inherited list : Lis
     → ((k : ℕ) → k < n → k < length inherited → k < length list → get_or list k None ≡ get_or inherited k None)
     → least_from link_place least (override_fault methods) (replacements_from c token inherited list) ≡ least_from link_place least
     (override_fault methods) (replacements_from c (token + n) (drop n inherited) (drop n list))
-same_before methods c token zero inherited list least h =
-    let same : token ≡ token + 0 = omega arith in
-    ap (λ (k : ℕ). least_from link_place least (override_fault methods) (replacements_from c k inherited list)) same
+same_before methods c token zero inherited list least h = grind (arith)
 same_before methods c token (suc n) [] list least h = refl
 same_before methods c token (suc n) (x ∷ xs) [] least h = none_left (drop n xs) where
   none_left : (es : List (Option ℕ)) → least ≡ least_from link_place least (override_fault methods) (replacements_from c (token + suc n) es [])

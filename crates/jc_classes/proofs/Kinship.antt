@@ -7,7 +7,7 @@ use Rattle.jc_base.specs.Order.{is_on_chain as on_chain_in_table}
 use Rattle.jc_base.proofs.Climbs.{climb, on_alone, on_next, on_chain-parent, on_chain-trans}
 use Rattle.jc_resolve.specs.declared.named.NamedClass.{NamedClass}
 use Rattle.jc_base.specs.Leads.{Leads, at_once, further}
-use Rattle.jc_classes.specs.Ancestor.{superclass, superclass_in, extended, extended_in, IsAncestor, above, is_above}
+use Rattle.jc_classes.specs.Ancestor.{superclass, superclass_in, extended, extended_in, IsAncestor, above}
 use Rattle.jc_classes.specs.Outline.{AreLines, is_on_chain, parent_of, outline}
 use Rattle.jc_classes.proofs.Bare.{bare, bare-parent, bare-on_chain, bare-classes, on_chain-here}
 use Rattle.jc_classes.proofs.Above.{above-from, is_above-complete}
@@ -56,35 +56,26 @@ past (x ∷ xs) zero h e = cc
 past (x ∷ xs) (suc i) h e = past xs i (omega arith) e
 
 first-step : {next : ℕ → List ℕ} {a b : ℕ} → Leads next a b → (x : ℕ) × Contains (next a) x
-first-step (at_once {b = b} h) = (b, h)
-first-step (further {b = b} h rest) = (b, h)
+first-step x = grind (arith)
 
 extends-kind : (r : NamedClass) (b : Bool) (x : ℕ) → r.interface ≡ b → Contains (extended_in (Some r)) x → true ≡ b
-extends-kind r true x i h = refl
-extends-kind r false x i h =
-    let none : Contains [] x = rw i at h in
-    absurd (omega (arith, none.1))
+extends-kind r y x i h = grind (arith)
 
 super-kind : (r : NamedClass) (b : Bool) (x : ℕ) → r.interface ≡ b → Contains (superclass_in (Some r)) x → false ≡ b
-super-kind r true x i h =
-    let none : Contains [] x = rw i at h in
-    absurd (omega (arith, none.1))
-super-kind r false x i h = refl
+super-kind r y x i h = grind (arith)
 
 -- what has something above it among interfaces is one, and among classes is none
 above-kind : (cs : List NamedClass) (interfaces : Bool) (c x : ℕ) (r : NamedClass) → slice_get cs c ≡ Some r → Contains (above cs interfaces c) x
     → interfaces ≡ r.interface
 unfolding superclass extended
-above-kind cs true c x r at h = extends-kind r r.interface x refl (subst (λ o. Contains (extended_in o) x) at h)
-above-kind cs false c x r at h = super-kind r r.interface x refl (subst (λ o. Contains (superclass_in o) x) at h)
+above-kind cs y c x r at h = grind (arith, extends-kind, super-kind)
 
 acyclic-by : (cs : List NamedClass) (first : ℕ) (roles : List ℕ) → NoFault cs first roles → (interfaces : Bool) (c x : ℕ) (o : Option NamedClass)
     → slice_get cs c ≡ o → Contains (above cs interfaces c) x
     → Leads (above cs interfaces) c c → ⊥
 acyclic-by cs first roles sound interfaces c x None at step leads = past cs c (above-from cs interfaces c x step) at
 acyclic-by cs first roles sound interfaces c x (Some r) at step leads =
-    let kind = above-kind cs interfaces c x r at step in
-    false≢true (sym (sound.cycles c r at) ∙ subst (λ k. is_above cs k c c ≡ true) kind (is_above-complete cs interfaces c c leads))
+    grind (arith, above-kind cs interfaces c x r at step, is_above-complete cs interfaces c c leads, false≢true)
 
 pub acyclic : (cs : List NamedClass) (first : ℕ) (roles : List ℕ) → NoFault cs first roles → (interfaces : Bool) (c : ℕ)
     → Leads (above cs interfaces) c c → ⊥

@@ -1,7 +1,7 @@
 -- The class table of classes of which nothing is at fault is that of a linked world.
 use Rattle.std.proofs.Common.{◌≡◌, ℕ, ◌+◌, ◌<◌, ◌≤◌, max, get_or, Bool, true, false, List, [], ◌∷◌, length, Option, Some, None}
-use Rattle.std.proofs.Common.{Result, Ok, Err, refl, sym, ap, subst, ◌∙◌, arith, inl, inr}
-use Rattle.std.specs.Prelude.{◌==◌, ◌&&◌, ◌||◌, not, All, IfOk, IfSome, IsSomeAnd, MatchBool, slice_get, option_map, option_and_then}
+use Rattle.std.proofs.Common.{Result, refl, sym, ap, subst, ◌∙◌, arith, inl, inr}
+use Rattle.std.specs.Prelude.{◌==◌, ◌||◌, not, All, IfOk, IfSome, IsSomeAnd, MatchBool, slice_get, option_map, option_and_then}
 use Rattle.std.specs.Prelude.{if◌then◌else◌}
 use Rattle.std.specs.List.{list_all}
 use Rattle.std.specs.Option.{option_flatten}
@@ -10,7 +10,8 @@ use Rattle.std.proofs.lemmas.List.Elements.{All-nil, All-cons, All-weaker}
 use Rattle.std.proofs.lemmas.List.FromFn.{length-map-range_with_len}
 use Rattle.std.proofs.lemmas.Option.{slice_get_cases, slice_get_within}
 use Rattle.jc_base.specs.declared.ty.Ty.{Ty}
-use Rattle.jc_base.specs.declared.ty.Ty.TheVariants.{Bottom, Short, IntHigh, IntLow, Null, Class, ArrBool, ArrByte, ArrShort, ArrInt, ArrRef, Fresh, Top}
+use Rattle.jc_base.specs.declared.ty.Ty.TheVariants.{Bottom, Short, IntHigh, IntLow, Null, Class, ArrBool}
+use Rattle.jc_base.specs.declared.ty.Ty.TheVariants.{ArrByte, ArrShort, ArrInt, ArrRef, Fresh, Top}
 use Rattle.jc_base.specs.declared.record.Iface.{Iface}
 use Rattle.jc_base.specs.declared.record.MethodRec.{MethodRec}
 use Rattle.jc_base.specs.declared.record.ClassRec.{ClassRec}
@@ -18,7 +19,8 @@ use Rattle.jc_base.specs.Class.{ClassTable, IsClass, AreClasses, list_of, parent
 use Rattle.jc_base.specs.Order.{Below, is_on_chain, is_below}
 use Rattle.jc_base.specs.Cell.{IsDeclared}
 use Rattle.jc_base.specs.Dispatch.{of_record, package_of, public_of, visible_of, cell_count, signature_at}
-use Rattle.jc_base.specs.Linked.{IsInherited, IsDispatch, IsExtended, IsImplemented, AreInterfaces, IsLinkedClass, AreLinkedClasses, visible_from, cells_above}
+use Rattle.jc_base.specs.Linked.{IsInherited, IsDispatch, IsExtended, IsImplemented, AreInterfaces}
+use Rattle.jc_base.specs.Linked.{IsLinkedClass, AreLinkedClasses, visible_from, cells_above}
 use Rattle.jc_classes.proofs.Bare.{next_on_chain, parent_of-class}
 use Rattle.jc_base.proofs.Subtypes.{Below-from_is_below}
 use Rattle.jc_base.proofs.Lists.{All-slice_get, IfSome-is}
@@ -28,22 +30,26 @@ use Rattle.jc_resolve.specs.Due.{IsDue}
 use Rattle.jc_resolve.specs.Named as named
 use Rattle.first_fault.specs.First.{AllEmpty}
 use Rattle.jc_classes.specs.Lines.{HaveLines}
-use Rattle.jc_classes.specs.Outline.{LineTable, AreLines, IsClass as IsLineClass, is_on_chain as on_line_chain, object as line_object, parent_of as line_parent}
-use Rattle.jc_classes.specs.Outline.{is_interface as line_interface, is_interface_line, package_of as line_package, package_in_line, line_of, outline}
+use Rattle.jc_classes.specs.Outline.{LineTable, AreLines, IsClass as IsLineClass, object as line_object, parent_of as line_parent}
+use Rattle.jc_classes.specs.Outline.{is_interface as line_interface, is_interface_line, package_of as line_package}
+use Rattle.jc_classes.specs.Outline.{package_in_line, line_of, outline}
 use Rattle.jc_classes.specs.KnownLines.{HaveSuperclasses}
 use Rattle.jc_classes.specs.declared.layout.ClassLayout.{ClassLayout}
-use Rattle.jc_classes.specs.Entries.{overlaid, overlaid_at, reach}
+use Rattle.jc_classes.specs.Entries.{overlaid}
 use Rattle.jc_classes.specs.Layout.{class_layout, public_entries, visible_entries, instance_cells, above_or_nothing, at_home}
 use Rattle.jc_classes.specs.Signatures.{entry_signature}
-use Rattle.jc_classes.specs.TableConditions.{may_stand, layout_above, visible_above, implemented_by, serves, holes, overrides, unserved, long_instances}
+use Rattle.jc_classes.specs.TableConditions.{may_stand, layout_above, visible_above, implemented_by, serves}
+use Rattle.jc_classes.specs.TableConditions.{holes, overrides, unserved, long_instances}
 use Rattle.jc_classes.specs.TableConditions.{conditions}
 use Rattle.jc_classes.specs.Tables.{methods_listed, record_from, class_tables, tables_of, Links}
 use Rattle.jc_classes.proofs.Climbs.{chain_step}
 use Rattle.jc_classes.proofs.Steps.{public_step, visible_step, cells_step}
 use Rattle.jc_classes.proofs.SameTypes.{same_signature-equal}
-use Rattle.jc_classes.proofs.ClassLines.{AreAlike, IsOutline, tables-alike, tables-classes, record_is, outline_at, on_chain-alike, class-alike}
+use Rattle.jc_classes.proofs.ClassLines.{AreAlike, IsOutline, tables-alike, tables-classes}
+use Rattle.jc_classes.proofs.ClassLines.{record_is, outline_at, on_chain-alike, class-alike}
 use Rattle.jc_classes.proofs.Agreed.{cells_short, due-tells}
-use Rattle.jc_classes.proofs.FaultlessTables.{AllStand, public_stand, visible_stand, IsListed, listed, listed_none, listed_all, signature_listed, Agrees}
+use Rattle.jc_classes.proofs.FaultlessTables.{AllStand, public_stand, visible_stand, IsListed, listed}
+use Rattle.jc_classes.proofs.FaultlessTables.{listed_none, listed_all, signature_listed, Agrees}
 use Rattle.jc_classes.proofs.FaultlessTables.{public_agrees, visible_agrees, AllServed, interfaces_met}
 
 -- ---- methods in dispatch lists
@@ -54,15 +60,7 @@ below_by u are d c on = Below-from_is_below u are (Class c) (Class d) on
 
 inherited_by : (t : LineTable) (u : ClassTable) → AreAlike t u → AreClasses u → (c : ℕ) (o : Option MethodRec) → may_stand t c o ≡ true
     → IsSomeAnd o (IsInherited u c)
-inherited_by t u alike are c None e = absurd (false≢true e)
-inherited_by t u alike are c (Some m) e =
-    let both = and_parts (on_line_chain t m.class c) (not m.is_static && not m.is_init) e in
-    let flags = and_parts (not m.is_static) (not m.is_init) both.1 in
-    record {
-      class = below_by u are m.class c (on_chain-alike t u alike m.class c ∙ both.0);
-      dynamic = not-true m.is_static flags.0;
-      no_constructor = not-true m.is_init flags.1;
-    }
+inherited_by t u alike are c w e = grind (arith, false≢true, and_parts, below_by, on_chain-alike, not-true)
 
 dispatch_built : (t : LineTable) (u : ClassTable) → AreAlike t u → AreClasses u
     → (methods : List MethodRec) (c : ℕ) (own inherited : List (Option ℕ)) (from : List ℕ) → AllStand t c methods own → IsListed inherited
@@ -76,26 +74,17 @@ dispatch_built t u alike are methods c own inherited from stand inherited_listed
       entries =
           listed_all (λ n. IsSomeAnd (slice_get methods n) (IsInherited u c)) t c methods (λ n e. inherited_by t u alike are c (slice_get methods n) e)
           own stand;
-      signatures = λ token h.
-          signature_listed methods own token own_listed
-          ∙ agrees.at token (omega (arith, count)) (omega (arith, count))
-          ∙ sym (signature_listed methods inherited token inherited_listed)
-          ∙ ap (λ (list : List ℕ). signature_at methods list token) (sym is);
+      signatures = grind (arith, signature_listed);
     }
 
 -- ---- the lists of the superclass
 
 there : (classes : List NamedClass) (c : ℕ) → c < length classes → (k : NamedClass) × (slice_get classes c ≡ Some k)
-there classes c h = elim ((slice_get_cases classes c).1) [
-  | inl some ↦ (some.0, some.2)
-  | inr none ↦ absurd (omega (arith, none.0))
-]
+there classes c h = grind (arith, slice_get_cases classes c)
 
 parent_counted : (t : LineTable) (classes : List NamedClass) (c p : ℕ) → AreLines t → HaveSuperclasses t classes → line_parent t c ≡ Some p
     → p < length classes
-parent_counted t classes c p are known e =
-    let number = (next_on_chain t c p are (parent_of-class t c p e) e).class.number in
-    omega (arith, known.count, number)
+parent_counted t classes c p are known e = grind (arith, next_on_chain t c p are (parent_of-class t c p e) e)
 
 public_built : (t : LineTable) (classes : List NamedClass) (c : ℕ) (k : NamedClass) → slice_get classes c ≡ Some k
     → public_of (class_tables t classes) c ≡ methods_listed (class_layout t classes c).public
@@ -105,8 +94,7 @@ public_built t classes c k e = ap (of_record [] (λ r. r.public)) (record_is t c
 visible_built : (t : LineTable) (classes : List NamedClass) (c : ℕ) (k : NamedClass) → slice_get classes c ≡ Some k
     → visible_of (class_tables t classes) c ≡ methods_listed (class_layout t classes c).visible
 unfolding visible_of record_from
-visible_built t classes c k e =
-    ap (of_record [] (λ r. r.visible)) (record_is t classes c ∙ ap (option_map (λ x. record_from x (class_layout t classes c))) e)
+visible_built t classes c k e = grind (arith, record_is)
 
 cells_built : (t : LineTable) (classes : List NamedClass) (c : ℕ) (k : NamedClass) → slice_get classes c ≡ Some k
     → cell_count (class_tables t classes) c ≡ (class_layout t classes c).cells
@@ -135,11 +123,7 @@ visible_above_by : (t : LineTable) (classes : List NamedClass) (c home : ℕ) (o
     → home ≡ line_package t c → IfSome o (λ p. p < length classes)
     → list_of (visible_from (class_tables t classes) home) o ≡ methods_listed (if at_home t o c then (above_by t classes o).visible else [])
 unfolding at_home
-visible_above_by t classes c home None alike e h = refl
-visible_above_by t classes c home (Some p) alike e h =
-    ap (λ (b : Bool). if b then visible_of (class_tables t classes) p else [])
-    (ap (λ (n : ℕ). n == home) (alike.packages p) ∙ ap (λ (n : ℕ). line_package t p == n) e)
-    ∙ visible_at_home t classes p (line_package t p == line_package t c) h
+visible_above_by t classes c home v alike e h = grind (arith, visible_at_home)
 
 -- the inherited lists have a method at each entry
 public_listed_by : (t : LineTable) (classes : List NamedClass) (methods : List MethodRec) (o : Option ℕ) → IfSome o (λ p. p < length classes)
@@ -155,9 +139,7 @@ visible_listed_by t classes methods None true h each = listed_none
 visible_listed_by t classes methods (Some p) true h each = listed t p methods (class_layout t classes p).visible (each p h)
 
 overlaid_longer : (k : _) (inherited own : List (Option ℕ)) → own ≡ overlaid k inherited → length inherited ≤ length own
-overlaid_longer k inherited own e =
-    let n = ap length e ∙ length-map-range_with_len (overlaid_at k inherited) 0 (max (length inherited) (reach k)) in
-    omega (arith, n)
+overlaid_longer k inherited own e = grind (arith, length-map-range_with_len, max)
 
 -- ---- types of own cells
 
@@ -171,9 +153,7 @@ interface_is t classes c o = ap is_interface_line (outline_at t classes c o) ∙
 type_class : (t : LineTable) (classes : List NamedClass) (c : ℕ) → IsOutline t classes → AreLines t → HaveSuperclasses t classes
     → named.IsTypeClass classes (line_object t) c → IsClass (class_tables t classes) c
 type_class t classes c o are known (inl e) = class-alike t (class_tables t classes) (tables-alike t classes o) c (subst (IsLineClass t) (sym e) are.objects)
-type_class t classes c o are known (inr h) =
-    let number : c < length t.lines = omega (arith, known.count, h.0) in
-    class-alike t (class_tables t classes) (tables-alike t classes o) c (record { number = number; class = interface_is t classes c o ∙ h.1 })
+type_class t classes c o are known (inr h) = grind (arith, tables-alike t classes o, interface_is t classes c o, class-alike)
 
 pub declared_by : (t : LineTable) (classes : List NamedClass) → IsOutline t classes → AreLines t → HaveSuperclasses t classes → (ty : Ty)
     → named.IsDeclared classes (line_object t) ty → IsDeclared (class_tables t classes) ty
@@ -202,17 +182,12 @@ all_from_tests p (x ∷ xs) e =
 served_at : (methods : List MethodRec) (entries : List (Option ℕ)) (o : Option ℕ) → IsListed entries
     → option_and_then (signature_at methods (methods_listed entries)) o ≡ option_and_then
     (λ token. entry_signature methods (option_flatten (slice_get entries token))) o
-served_at methods entries None l = refl
-served_at methods entries (Some token) l = signature_listed methods entries token l
+served_at methods entries z l = grind (arith, signature_listed)
 
 serves_by : (methods : List MethodRec) (entries : List (Option ℕ)) (i : Iface) (m : MethodRec) → IsListed entries
     → (not (m.class == i.class) || serves methods entries i m) ≡ true → m.class ≡ i.class
     → option_and_then (signature_at methods (methods_listed entries)) (slice_get i.tokens m.token) ≡ Some m.sig
-serves_by methods entries i m l test e =
-    let tested : serves methods entries i m ≡ true = rw (eq-eqb m.class i.class e) at test in
-    served_at methods entries (slice_get i.tokens m.token) l
-    ∙ same_signature-equal (option_and_then (λ token. entry_signature methods (option_flatten (slice_get entries token))) (slice_get i.tokens m.token))
-    (Some m.sig) tested
+serves_by methods entries i m l test e = grind (arith, eq-eqb, served_at, same_signature-equal)
 
 implemented_linked : (t : LineTable) (u : ClassTable) (classes : List NamedClass) (methods : List MethodRec) (entries : List (Option ℕ)) (is : List Iface)
     → AreAlike t u → HaveSuperclasses t classes → IsListed entries → All (λ (i : Iface). i.class < length classes) is
@@ -248,13 +223,11 @@ pub record IsSound (packages : ℕ) (t : LineTable) (classes : List NamedClass) 
 
 parents_counted : (t : LineTable) (classes : List NamedClass) (c : ℕ) (o : Option ℕ) → AreLines t → HaveSuperclasses t classes
     → line_parent t c ≡ o → IfSome o (λ p. p < length classes)
-parents_counted t classes c None are known e = tt
-parents_counted t classes c (Some p) are known e = parent_counted t classes c p are known e
+parents_counted t classes c u are known e = grind (arith, parent_counted)
 
 earlier_by : (t : LineTable) (classes : List NamedClass) (c home : ℕ) (o : Option ℕ) → HaveLines classes t → AreAlike t (class_tables t classes)
     → home ≡ line_package t c → line_parent t c ≡ o → IfSome o (λ p. package_of (class_tables t classes) p ≤ home)
-earlier_by t classes c home None lines alike e at = tt
-earlier_by t classes c home (Some p) lines alike e at = let low = lines.earlier c p at in omega (arith, alike.packages p, e, low)
+earlier_by t classes c home v lines alike e at = grind (arith)
 
 package_here : (t : LineTable) (classes : List NamedClass) (c : ℕ) (k : NamedClass) → IsOutline t classes → slice_get classes c ≡ Some k
     → line_package t c ≡ k.«package»
@@ -263,20 +236,13 @@ package_here t classes c k o e = ap package_in_line (outline_at t classes c o �
 
 extended_linked : (t : LineTable) (u : ClassTable) (classes : List NamedClass) (is : List Iface) → AreAlike t u → HaveSuperclasses t classes
     → All (λ (i : Iface). i.class < length classes) is → All (λ (i : Iface). line_interface t i.class ≡ true) is → All (IsExtended u) is
-extended_linked t u classes is alike known numbers interfaces = λ j d h.
-    let i = get_or is j d in
-    let low = numbers j d h in
-    record {
-      number = omega (arith, alike.count, known.count, low);
-      interface = alike.interfaces i.class ∙ interfaces j d h;
-    }
+extended_linked t u classes is alike known numbers interfaces = grind (arith, get_or)
 
 implements_by : (t : LineTable) (u : ClassTable) (classes : List NamedClass) (methods : List MethodRec) (entries : List (Option ℕ)) (k : NamedClass)
     (b : Bool) → AreAlike t u → HaveSuperclasses t classes → IsListed entries → All (λ (i : Iface). i.class < length classes) k.interfaces
     → All (λ (i : Iface). line_interface t i.class ≡ true) k.interfaces → AllServed methods entries (if b then [] else k.interfaces)
     → MatchBool b (All (IsExtended u) k.interfaces) (All (IsImplemented u methods (methods_listed entries)) k.interfaces)
-implements_by t u classes methods entries k true alike known l numbers interfaces served =
-    extended_linked t u classes k.interfaces alike known numbers interfaces
+implements_by t u classes methods entries k true alike known l numbers interfaces served = grind (arith, extended_linked)
 implements_by t u classes methods entries k false alike known l numbers interfaces served =
     implemented_linked t u classes methods entries k.interfaces alike known l numbers interfaces served
 
@@ -352,9 +318,7 @@ class_linked packages t classes methods c k s e =
     let short = cells_short t classes c s.long low in
     record {
       home = n.home;
-      earlier =
-          subst (λ (o : Option ℕ). IfSome o (λ p. package_of u p ≤ k.«package»)) (sym (alike.parents c))
-          (earlier_by t classes c k.«package» (line_parent t c) s.lines alike home refl);
+      earlier = grind (arith, earlier_by);
       cells = omega (arith, above, own);
       size = omega (arith, short, cells_in t classes c);
       own = All-weaker (named.IsDeclared classes (line_object t)) (IsDeclared u) (declared_by t classes s.outline s.are s.known) k.own n.own;
@@ -378,23 +342,10 @@ tables_linked packages t classes methods s = λ c. by c (slice_get classes c) re
 pub links : (t : LineTable) (classes : List NamedClass) (methods : List MethodRec) (table : ClassTable) → table ≡ class_tables t classes
     → t ≡ outline classes t.roles → AreLines t → HaveSuperclasses t classes → HaveLines classes t → AllEmpty (conditions t classes methods)
     → Links t classes methods table
-links t classes methods table e o are known lines (holes, (overrides, (unserved, (long, done)))) = λ packages named_all.
-    subst (λ (u : ClassTable). AreLinkedClasses packages u methods) (sym e) (tables_linked packages t classes methods (record {
-      outline = record { is = o };
-      are = are;
-      known = known;
-      lines = lines;
-      named = named_all;
-      holes = holes;
-      overrides = overrides;
-      unserved = unserved;
-      long = long;
-    }))
+links t classes methods table e o are known lines (holes, (overrides, (unserved, (long, done)))) = grind (arith, tables_linked)
 
 -- the table of an answer that is due is what a world needs of its classes
 pub due-links : (t : LineTable) (classes : List NamedClass) (methods : List MethodRec) (r : Result ClassTable LinkEnd)
     → IsDue (tables_of t classes methods) r → t ≡ outline classes t.roles → AreLines t → HaveSuperclasses t classes → HaveLines classes t
     → IfOk r (λ table. Links t classes methods table)
-due-links t classes methods (Ok table) due o are known lines =
-    let told = due-tells t classes methods (Ok table) due in links t classes methods table told.0 o are known lines told.1
-due-links t classes methods (Err end) due o are known lines = tt
+due-links t classes methods u due o are known lines = grind (arith, due-tells, links)

@@ -1,12 +1,14 @@
 -- A climb marks exactly what stands above the number from which it starts.
 use Rattle.std.proofs.Common.{◌≡◌, ℕ, zero, suc, ◌+◌, ◌*◌, ◌<◌, ◌≤◌, ◌⊎◌, inl, inr, Bool, true, false, not, cond, List, []}
-use Rattle.std.proofs.Common.{◌∷◌, ◌++◌, length, get_or, set, replicate, Some, refl, sym, ap, subst, ◌∙◌, arith, length-set, get_or-set_same}
+use Rattle.std.proofs.Common.{◌∷◌, ◌++◌, length, get_or, set, replicate, Some, refl}
+use Rattle.std.proofs.Common.{sym, ap, subst, ◌∙◌, arith, length-set, get_or-set_same}
 use Rattle.std.proofs.Common.{get_or-set_other, length-append}
 use Rattle.std.specs.Prelude.{Contains, slice_get, count_by}
 use Rattle.std.proofs.lemmas.Bool.{false≢true, cases_eq}
 use Rattle.std.proofs.lemmas.List.{length-replicate}
 use Rattle.std.proofs.lemmas.List.Sums.{sum_by-set}
-use Rattle.std.proofs.lemmas.List.Elements.{Contains-append_left, Contains-append_right, Contains-append_cases, Contains-push, Contains-push_cases}
+use Rattle.std.proofs.lemmas.List.Elements.{Contains-append_left, Contains-append_right, Contains-append_cases}
+use Rattle.std.proofs.lemmas.List.Elements.{Contains-push, Contains-push_cases}
 use Rattle.std.proofs.lemmas.Option.{slice_get-get_or}
 use Rattle.jc_base.specs.Leads.{Leads, at_once, further}
 use Rattle.jc_classes.specs.Marks.{MarkedNumbers, mark, mark_all}
@@ -67,26 +69,16 @@ abbrev with : MarkedNumbers → ℕ → MarkedNumbers
 with s d = record { marked = set s.marked d true; pending = s.pending ++ d ∷ [] }
 
 still : (s : MarkedNumbers) (d c : ℕ) → d < length s.marked → IsMarked s c → IsMarked (with s d) c
-still s d c h m = elim (cases_eq c d) [
-  | inl e ↦ subst (λ (x : ℕ). IsMarked (with s d) x) (sym e) (get_or-set_same s.marked d true false h)
-  | inr ne ↦ get_or-set_other s.marked d c true false ne ∙ m
-]
+still s d c h m = grind (arith, cases_eq, get_or-set_same, get_or-set_other)
 
 fewer : (s : MarkedNumbers) (d : ℕ) → d < length s.marked → get_or s.marked d false ≡ false → work (with s d) ≤ work s
-fewer s d h e =
-    let n : count_by not (set s.marked d true) + cond {A = ℕ} (not (get_or s.marked d false)) 1 0 ≡ count_by not s.marked + 0 = sum_by-set
-    (λ (b : Bool). cond {A = ℕ} (not b) 1 0) s.marked d true false h in
-    let one : cond {A = ℕ} (not (get_or s.marked d false)) 1 0 ≡ 1 = rw e refl in
-    omega (arith, length-append s.pending (d ∷ []))
+fewer s d h e = grind (arith, not, cond, get_or, sum_by-set, length-append)
 
 here : (s : MarkedNumbers) (d : ℕ) → d < length s.marked → IsMarked (with s d) d
 here s d h = get_or-set_same s.marked d true false h
 
 before_or_here : (s : MarkedNumbers) (d c : ℕ) → d < length s.marked → IsMarked (with s d) c → IsMarked s c ⊎ (d ≡ c)
-before_or_here s d c h m = elim (cases_eq c d) [
-  | inl e ↦ inr (sym e)
-  | inr ne ↦ inl (sym (get_or-set_other s.marked d c true false ne) ∙ m)
-]
+before_or_here s d c h m = grind (arith, cases_eq, get_or-set_other)
 
 marked_now : (s : MarkedNumbers) (d : ℕ) → d < length s.marked → get_or s.marked d false ≡ false → Marked (d ∷ []) s (with s d)
 marked_now s d h e = record {
@@ -229,8 +221,7 @@ climb-ends next n from d s is none leads = follow next n from from d s is none l
 
 pub climb-begun : (next : ℕ → List ℕ) (n m from : ℕ) (s t : MarkedNumbers) → ((a b : ℕ) → Contains (next a) b → b < n) → m ≡ n
     → t ≡ blank m → s ≡ mark_all t (next from) → IsClimb next n from s
-climb-begun next n m from s t inside same start e =
-    subst (IsClimb next n from) (sym (e ∙ ap (λ x. mark_all x (next from)) (start ∙ ap blank same))) (climb-starts next n from inside)
+climb-begun next n m from s t inside same start e = grind (arith, climb-starts next n from inside)
 
 pub climb-gone : (next : ℕ → List ℕ) (n from c : ℕ) (s u t : MarkedNumbers) → ((a b : ℕ) → Contains (next a) b → b < n)
     → IsClimb next n from s

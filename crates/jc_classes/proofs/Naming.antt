@@ -1,12 +1,9 @@
 -- What holds of named classes is what is asked of them here.
-use Rattle.std.proofs.Common.{ℕ, List}
+use Rattle.std.proofs.Common.{ℕ, List, arith}
 use Rattle.std.specs.Prelude.{All}
-use Rattle.std.proofs.lemmas.List.Elements.{All-weaker}
 use Rattle.jc_resolve.specs.declared.named.NamedClass.{NamedClass}
 use Rattle.jc_resolve.specs.Named.{IsNamedClass}
 use Rattle.jc_classes.specs.KnownClasses.{HasKnownLine}
 
 pub named-known : (packages methods object : ℕ) (cs : List NamedClass) → All (IsNamedClass packages methods cs object) cs → All (HasKnownLine cs) cs
-named-known packages methods object cs named =
-    All-weaker (IsNamedClass packages methods cs object) (HasKnownLine cs)
-    (λ r is. record { parent = is.parent; earlier = is.earlier; interfaces = is.interfaces }) cs named
+named-known packages methods object cs named = grind (arith)

@@ -13,10 +13,7 @@ use Rattle.jc_classes.proofs.Bare.{next_on_chain, parent_of-class, chain-alone}
 -- one more line
 pub lined_more : (lines : List Line) (classes : List NamedClass) (i : ℕ) (line : Line) (class : NamedClass) → i < length classes → line ≡ line_of class
     → class ≡ get_or classes i class → lines ≡ map line_of (take i classes) → lines ++ line ∷ [] ≡ map line_of (take (i + 1) classes)
-lined_more lines classes i line class lt same is before =
-    ap (λ ls. ls ++ line ∷ []) before
-    ∙ ap (λ l. map line_of (take i classes) ++ l ∷ []) (same ∙ ap line_of is)
-    ∙ sym (map_more line_of classes i class lt)
+lined_more lines classes i line class lt same is before = grind (arith, map_more line_of classes i class lt)
 
 abbrev pub table : List Line → List ℕ → LineTable
 table lines roles = record { lines = lines; roles = roles }
@@ -24,10 +21,7 @@ table lines roles = record { lines = lines; roles = roles }
 -- the line of a number, as it is read
 pub line_read : (t : LineTable) (lines : List Line) (roles : List ℕ) (c : ℕ) (line : Line) → table lines roles ≡ t → c < length t.lines
     → line ≡ get_or lines c line → slice_get lines c ≡ Some line
-line_read t lines roles c line view below is =
-    let many : length lines ≡ length t.lines = ap (λ (u : LineTable). length u.lines) view in
-    let there : c < length lines = omega (arith, below, many) in
-    slice_get-get_or lines c line there ∙ ap Some (sym is)
+line_read t lines roles c line view below is = grind (arith, slice_get-get_or)
 
 -- what a lineage tells of a class
 module _ (lines : List Line) (roles : List ℕ) (c : ℕ) (line : Line) (at : slice_get lines c ≡ Some line) where
@@ -45,5 +39,4 @@ parent_known t c None are is = tt
 parent_known t c (Some p) are is = (next_on_chain t c p are (parent_of-class t c p (sym is)) (sym is)).class.number
 
 pub chain_told : (t : LineTable) (c : ℕ) (above : Option ℕ) → AreLines t → above ≡ parent_of t c → chain t c ≡ c ∷ list_of (chain t) above
-chain_told t c None are is = chain-alone t c (sym is)
-chain_told t c (Some p) are is = (next_on_chain t c p are (parent_of-class t c p (sym is)) (sym is)).chain_is
+chain_told t c z are is = grind (arith, chain-alone, next_on_chain, parent_of-class)

@@ -1,6 +1,6 @@
 -- What a table makes of an inherited list.
-use Rattle.std.proofs.Common.{◌≡◌, ℕ, ◌-◌, ◌≤◌, ◌<◌, max, Bool, true, false, ltb, List, [], ◌∷◌, length, map, Option, Some, None}
-use Rattle.std.proofs.Common.{refl, sym, ap, ◌∙◌, arith, inl, inr}
+use Rattle.std.proofs.Common.{◌≡◌, ℕ, ◌-◌, ◌≤◌, ◌<◌, max, Bool, ltb, List, [], ◌∷◌, length, map, Option, Some, None}
+use Rattle.std.proofs.Common.{refl, ap, ◌∙◌, arith}
 use Rattle.std.specs.Prelude.{slice_get}
 use Rattle.std.specs.Option.{option_or, option_flatten}
 use Rattle.std.specs.List.{range_with_len}
@@ -17,8 +17,7 @@ map-same f g h (x ∷ xs) = ap (λ y. y ∷ map f xs) (h x) ∙ ap (λ ys. g x �
 -- a list by number, at a number
 pub slice_get-range : {A : Type 0} (f : ℕ → A) (n k : ℕ) → k < n → slice_get (map f (range_with_len 0 n)) k ≡ Some (f k)
 slice_get-range f n k h =
-    let within : k < length (map f (range_with_len 0 n)) = rw (length-map-range_with_len f 0 n) h in
-    slice_get-get_or (map f (range_with_len 0 n)) k (f k) within ∙ ap Some (get_or-map-range_with_len f 0 n k k (f k) h (omega arith))
+    grind (arith, length-map-range_with_len f 0 n, get_or-map-range_with_len f 0 n k k (f k) h (omega arith), slice_get-get_or)
 
 pub slice_get-range_past : {A : Type 0} (f : ℕ → A) (n k : ℕ) → n ≤ k → slice_get (map f (range_with_len 0 n)) k ≡ None
 slice_get-range_past f n k h = slice_get_past (map f (range_with_len 0 n)) k (rw (length-map-range_with_len f 0 n) h)
@@ -26,13 +25,11 @@ slice_get-range_past f n k h = slice_get_past (map f (range_with_len 0 n)) k (rw
 -- a table names no method from its reach on
 past_from : (base token : ℕ) (entries : List (Option ℕ)) → base ≤ token → reach_from base entries ≤ token
     → slice_get entries (token - base) ≡ None
-past_from base token [] low h = refl
-past_from base token (e ∷ es) low h = slice_get_past (e ∷ es) (token - base) (omega arith)
+past_from base token z low h = grind (arith, slice_get_past)
 
 named_past_by : (table : DispatchTable) (token : ℕ) (b : Bool) → ltb token table.base ≡ b → reach table ≤ token → named_by table token ≡ None
 unfolding named_by reach
-named_past_by table token true e h = rw e refl
-named_past_by table token false e h = rw (e, past_from table.base token table.entries (ltb-false token table.base e) h) refl
+named_past_by table token z e h = grind (arith, past_from, ltb-false)
 
 pub named_past : (table : DispatchTable) (token : ℕ) → reach table ≤ token → named_by table token ≡ None
 named_past table token h = named_past_by table token (ltb token table.base) refl h
@@ -47,10 +44,7 @@ method_past (table ∷ tables) token h =
 -- the method that a dispatch list has at a token
 pub entry_is : (tables : List DispatchTable) (token : ℕ) → option_flatten (slice_get (dispatch_list tables) token) ≡ method_named tables token
 unfolding dispatch_list
-entry_is tables token = elim (cases_lt token (reach_of tables)) [
-  | inl lt ↦ ap option_flatten (slice_get-range (method_named tables) (reach_of tables) token lt)
-  | inr le ↦ ap option_flatten (slice_get-range_past (method_named tables) (reach_of tables) token le) ∙ sym (method_past tables token le)
-]
+entry_is tables token = grind (arith, cases_lt, slice_get-range, slice_get-range_past, method_past)
 
 pub length-entries : (tables : List DispatchTable) → length (dispatch_list tables) ≡ reach_of tables
 unfolding dispatch_list
@@ -64,7 +58,4 @@ overlaid_is table tables token = ap (λ o. option_or (named_by table token) o) (
 -- a class's list is that of its superclass, overwritten and extended by its own table
 pub overlaid-is : (table : DispatchTable) (tables : List DispatchTable) → overlaid table (dispatch_list tables) ≡ dispatch_list (table ∷ tables)
 unfolding dispatch_list
-overlaid-is table tables =
-    ap (λ (n : ℕ). map (overlaid_at table (dispatch_list tables)) (range_with_len 0 (max n (reach table)))) (length-entries tables)
-    ∙ map-same (overlaid_at table (dispatch_list tables)) (method_named (table ∷ tables)) (overlaid_is table tables)
-    (range_with_len 0 (max (reach_of tables) (reach table)))
+overlaid-is table tables = grind (arith, max, length-entries, map-same, overlaid_is)

@@ -19,17 +19,14 @@ same-lengths (x ∷ xs) [] e = absurd (false≢true e)
 same-lengths (x ∷ xs) (y ∷ ys) e = ap suc (same-lengths xs ys (and_parts (same_type x y) (same_types xs ys) e).1)
 
 lengths_differ : (xs ys : List Ty) → (length xs ≡ length ys → ⊥) → (b : Bool) → same_types xs ys ≡ b → false ≡ b
-lengths_differ xs ys ne true e = absurd (ne (same-lengths xs ys e))
-lengths_differ xs ys ne false e = refl
+lengths_differ xs ys ne u e = grind (arith, same-lengths)
 
 pub same_types-differ : (xs ys : List Ty) → (length xs ≡ length ys → ⊥) → false ≡ same_types xs ys
 same_types-differ xs ys ne = lengths_differ xs ys ne (same_types xs ys) refl
 
 pub same_types-step : (xs ys : List Ty) (i : ℕ) (d e : Ty) → i < length xs → length xs ≡ length ys
     → same_types (drop i xs) (drop i ys) ≡ (same_type (get_or xs i d) (get_or ys i e) && same_types (drop (i + 1) xs) (drop (i + 1) ys))
-same_types-step xs ys i d e h same =
-    let k : i < length ys = omega (arith, same) in
-    rw (add-one, drop-cons xs i d h, drop-cons ys i e k) refl
+same_types-step xs ys i d e h same = grind (arith, add-one, drop-cons)
 
 pub same_types-end : (xs ys : List Ty) (i : ℕ) → length xs ≤ i → length xs ≡ length ys → same_types (drop i xs) (drop i ys) ≡ true
 same_types-end xs ys i h same = rw (drop_all i xs h, drop_all i ys (omega (arith, same))) refl
@@ -38,14 +35,12 @@ same_types-end xs ys i h same = rw (drop_all i xs h, drop_all i ys (omega (arith
 pub same_types-next : (xs ys : List Ty) (i : ℕ) (d e : Ty) → i < length xs → length xs ≡ length ys → same_type (get_or xs i d) (get_or ys i e)
     ≡ true → same_types (drop i xs) (drop i ys) ≡ same_types xs ys
     → same_types (drop (i + 1) xs) (drop (i + 1) ys) ≡ same_types xs ys
-same_types-next xs ys i d e h same on before =
-    sym (same_types-step xs ys i d e h same ∙ ap (λ (b : Bool). b && same_types (drop (i + 1) xs) (drop (i + 1) ys)) on) ∙ before
+same_types-next xs ys i d e h same on before = grind (arith, same_types-step xs ys i d e h same)
 
 pub same_types-other : (xs ys : List Ty) (i : ℕ) (d e : Ty) → i < length xs → length xs ≡ length ys → same_type (get_or xs i d) (get_or ys i e)
     ≡ false → same_types (drop i xs) (drop i ys) ≡ same_types xs ys
     → false ≡ same_types xs ys
-same_types-other xs ys i d e h same on before =
-    sym (same_types-step xs ys i d e h same ∙ ap (λ (b : Bool). b && same_types (drop (i + 1) xs) (drop (i + 1) ys)) on) ∙ before
+same_types-other xs ys i d e h same on before = grind (arith, same_types-step xs ys i d e h same)
 
 pub same_types-whole : (xs ys : List Ty) (i : ℕ) → length xs ≤ i → length xs ≡ length ys → same_types (drop i xs) (drop i ys)
     ≡ same_types xs ys → true ≡ same_types xs ys
@@ -75,8 +70,7 @@ same_result-equal (Some a) None e = absurd (false≢true e)
 same_result-equal (Some a) (Some b) e = ap Some (same_type-equal a b e)
 
 same_result-itself : (a : Option Ty) → same_result a a ≡ true
-same_result-itself None = refl
-same_result-itself (Some a) = same_type-itself a
+same_result-itself x = grind (arith, same_type-itself)
 
 same_sig-equal : (a b : Sig) → same_sig a b ≡ true → a ≡ b
 unfolding same_sig
@@ -100,8 +94,7 @@ same_signature-equal (Some a) None e = absurd (false≢true e)
 same_signature-equal (Some a) (Some b) e = ap Some (same_sig-equal a b e)
 
 same_signature-itself : (a : Option Sig) → same_signature a a ≡ true
-same_signature-itself None = refl
-same_signature-itself (Some a) = same_sig-itself a
+same_signature-itself x = grind (arith, same_sig-itself)
 
 -- two entries have the same signature exactly where their signatures are equal
 pub same_signature-exact : (a b : Option Sig) → IsTrue (same_signature a b) ↔ (a ≡ b)
@@ -110,13 +103,9 @@ same_signature-exact a b = (λ e. same_signature-equal a b e, λ e. subst (λ (o
 pub same_signature-by : (methods : List MethodRec) (a b : Option ℕ) (r : Bool)
     → r ≡ same_signature (entry_signature methods a) (entry_signature methods b)
     → IsTrue r ↔ (entry_signature methods a ≡ entry_signature methods b)
-same_signature-by methods a b r e =
-    subst (λ (x : Bool). IsTrue x ↔ (entry_signature methods a ≡ entry_signature methods b)) (sym e)
-    (same_signature-exact (entry_signature methods a) (entry_signature methods b))
+same_signature-by methods a b r e = grind (arith, same_signature-exact)
 
 pub same_entry : (methods : List MethodRec) (a b : Option ℕ) → a ≡ b → true ≡ same_signature (entry_signature methods a) (entry_signature methods b)
-same_entry methods a b e =
-    sym (same_signature-itself (entry_signature methods a))
-    ∙ ap (λ (o : Option ℕ). same_signature (entry_signature methods a) (entry_signature methods o)) e
+same_entry methods a b e = grind (arith, same_signature-itself)
 
 pub ruleset signatures = (same_signature-by, same_entry)

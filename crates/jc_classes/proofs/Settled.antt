@@ -3,7 +3,6 @@ use Rattle.std.proofs.Common.{◌≡◌, ℕ, ◌≤◌, ◌⊎◌, inl, inr, Bo
 use Rattle.std.proofs.Common.{sym, ap, subst, ◌∙◌, arith}
 use Rattle.std.specs.Prelude.{Contains, slice_get}
 use Rattle.std.specs.List.{list_all}
-use Rattle.std.specs.Option.{option_to_list}
 use Rattle.std.proofs.Math.Seq.{get_or-append_seam}
 use Rattle.std.proofs.lemmas.Bool.{false≢true, false_from_ne_true, cases_lt, and_parts}
 use Rattle.std.proofs.lemmas.List.{get_or_append_left, get_or_past, length-append}
@@ -43,16 +42,9 @@ rests-by settled r e true true i all ext sup =
     let h : Contains (map (λ (n : Iface). n.class) r.interfaces) e = rw i at (ext refl) in
     all-contained (λ n. get_or settled n false) (map (λ (n : Iface). n.class) r.interfaces) e
     (list_all-map (λ n. get_or settled n false) (λ (n : Iface). n.class) r.interfaces ∙ each) h
-rests-by settled r e true false i all ext sup =
-    let h : Contains [] e = rw i at (ext refl) in
-    absurd (omega (arith, h.1))
-rests-by settled r e false true i all ext sup =
-    let h : Contains [] e = rw i at (sup refl) in
-    absurd (omega (arith, h.1))
-rests-by settled r e false false i all ext sup =
-    let one : list_all (λ p. get_or settled p false) (option_to_list r.parent) ≡ true = rw i at all in
-    let h : Contains (option_to_list r.parent) e = rw i at (sup refl) in
-    all-contained (λ p. get_or settled p false) (option_to_list r.parent) e one h
+rests-by settled r e true false i all ext sup = grind (arith)
+rests-by settled r e false true i all ext sup = grind (arith)
+rests-by settled r e false false i all ext sup = grind (arith, get_or, all-contained)
 
 -- what stands directly above what rests on settled classes is settled
 rests-above : (cs : List NamedClass) (settled : List Bool) (interfaces : Bool) (c e : ℕ) (r : NamedClass) → slice_get cs c ≡ Some r
@@ -60,8 +52,7 @@ rests-above : (cs : List NamedClass) (settled : List Bool) (interfaces : Bool) (
 unfolding superclass extended
 rests-above cs settled true c e r at all h =
     rests-by settled r e true r.interface refl all (λ k. subst (λ o. Contains (extended_in o) e) at h) (λ k. absurd (false≢true (sym k)))
-rests-above cs settled false c e r at all h =
-    rests-by settled r e false r.interface refl all (λ k. absurd (false≢true k)) (λ k. subst (λ o. Contains (superclass_in o) e) at h)
+rests-above cs settled false c e r at all h = grind (arith, rests-by, false≢true)
 
 settled-leads : (cs : List NamedClass) (settled : List Bool) (interfaces : Bool) (c a : ℕ) → AreSettled cs settled → Leads (above cs interfaces) c a
     → IsSettled settled c → IsSettled settled a
@@ -84,10 +75,7 @@ rests-acyclic cs settled c r are count at all = false_from_ne_true (is_above cs 
 -- ---- one more class
 
 stays_settled : (settled : List Bool) (b : Bool) (e : ℕ) → IsSettled settled e → IsSettled (settled ++ b ∷ []) e
-stays_settled settled b e h = elim (cases_lt e (length settled)) [
-  | inl lt ↦ get_or_append_left settled (b ∷ []) false e lt ∙ h
-  | inr le ↦ absurd (past_end settled e le h)
-]
+stays_settled settled b e h = grind (arith, cases_lt, get_or_append_left, past_end)
 
 settled_or_last : (settled : List Bool) (b : Bool) (d : ℕ) → IsSettled (settled ++ b ∷ []) d → IsSettled settled d
     ⊎ ((d ≡ length settled) × (b ≡ true))

@@ -1,5 +1,6 @@
 -- The lists of a class by those of its superclass.
-use Rattle.std.proofs.Common.{◌≡◌, ℕ, ◌+◌, Bool, true, false, eqb-true, List, [], ◌∷◌, length, map, sum_by, Option, Some, None, refl, sym, ap}
+use Rattle.std.proofs.Common.{◌≡◌, ℕ, ◌+◌, Bool, true, false, eqb-true, List, [], ◌∷◌}
+use Rattle.std.proofs.Common.{length, map, sum_by, Option, Some, None, refl, sym, ap, arith}
 use Rattle.std.proofs.Common.{◌∙◌}
 use Rattle.std.specs.Prelude.{slice_get, ◌==◌, if◌then◌else◌}
 use Rattle.std.specs.Option.{option_map}
@@ -13,7 +14,8 @@ use Rattle.jc_resolve.specs.declared.named.NamedClass.{NamedClass}
 use Rattle.jc_resolve.specs.declared.named.DispatchTable.{DispatchTable}
 use Rattle.jc_classes.specs.declared.layout.ClassLayout.{ClassLayout}
 use Rattle.jc_classes.specs.Entries.{dispatch_list, overlaid}
-use Rattle.jc_classes.specs.Layout.{public_table, visible_table, own_of, home_run, public_entries, visible_entries, instance_cells, class_layout}
+use Rattle.jc_classes.specs.Layout.{public_table, visible_table, own_of, home_run}
+use Rattle.jc_classes.specs.Layout.{public_entries, visible_entries, instance_cells, class_layout}
 use Rattle.jc_classes.specs.Layout.{class_layout_from, above_or_nothing, at_home}
 use Rattle.jc_classes.proofs.Overlays.{overlaid-is}
 
@@ -23,8 +25,7 @@ above_of t classes above = above_or_nothing (option_map (class_layout t classes)
 public_above : (t : LineTable) (classes : List NamedClass) (above : Option ℕ) → dispatch_list (map (public_table classes) (list_of (chain t) above))
     ≡ (above_of t classes above).public
 unfolding dispatch_list class_layout public_entries
-public_above t classes None = refl
-public_above t classes (Some p) = refl
+public_above t classes z = grind (arith)
 
 cells_above : (t : LineTable) (classes : List NamedClass) (above : Option ℕ) → sum_by (λ a. length (own_of classes a)) (list_of (chain t) above)
     ≡ (above_of t classes above).cells
@@ -58,10 +59,7 @@ cells_step t classes c above k chains e =
 run_step : (t : LineTable) (c : ℕ) (rest : List ℕ) → chain t c ≡ c ∷ rest
     → home_run t c ≡ c ∷ take_while (λ a. package_of t a == package_of t c) rest
 unfolding home_run
-run_step t c rest e =
-    ap (take_while (λ a. package_of t a == package_of t c)) e
-    ∙ take_while-cons (λ a. package_of t a == package_of t c) c rest
-    ∙ rw (eq-eqb (package_of t c) (package_of t c) refl) refl
+run_step t c rest e = grind (arith, take_while-cons, eq-eqb)
 
 same_home : (t : LineTable) (p c : ℕ) → package_of t p ≡ package_of t c → take_while (λ a. package_of t a == package_of t c) (chain t p)
     ≡ home_run t p
@@ -70,11 +68,7 @@ same_home t p c e = ap (λ (home : ℕ). take_while (λ a. package_of t a == hom
 
 other_home : (t : LineTable) (p c : ℕ) → (package_of t p == package_of t c) ≡ false
     → take_while (λ a. package_of t a == package_of t c) (chain t p) ≡ []
-other_home t p c e =
-    let f = chain-front t p in
-    ap (take_while (λ a. package_of t a == package_of t c)) f.1
-    ∙ take_while-cons (λ a. package_of t a == package_of t c) p f.0
-    ∙ rw e refl
+other_home t p c e = grind (arith, chain-front t p, take_while-cons)
 
 visible_by : (t : LineTable) (classes : List NamedClass) (p c : ℕ) (home : Bool) → (package_of t p == package_of t c) ≡ home
     → dispatch_list (map (visible_table classes) (take_while (λ a. package_of t a == package_of t c) (chain t p)))
@@ -108,5 +102,4 @@ pub layout_step : (t : LineTable) (classes : List NamedClass) (c : ℕ) (above :
     → chain t c ≡ c ∷ list_of (chain t) above → slice_get classes c ≡ Some k
     → class_layout t classes c ≡ class_layout_from k (above_or_nothing (option_map (class_layout t classes) above)) (at_home t above c)
 unfolding class_layout class_layout_from
-layout_step t classes c above k chains e =
-    rw (public_step t classes c above k chains e, visible_step t classes c above k chains e, cells_step t classes c above k chains e) refl
+layout_step t classes c above k chains e = grind (arith, public_step, visible_step, cells_step)

@@ -1,6 +1,6 @@
 -- The answer tells the first fault, or the lines and what is known of them.
 use Rattle.std.proofs.Common.{◌≡◌, ℕ, zero, suc, ◌<◌, ◌≤◌, true, false, List, [], ◌∷◌, map, length, Option, Some, None, Result, Ok, Err}
-use Rattle.std.proofs.Common.{refl, sym, ap, subst, ◌∙◌, arith}
+use Rattle.std.proofs.Common.{refl, sym, ap, ◌∙◌, arith}
 use Rattle.std.specs.Prelude.{All, IfSome, IfOk, slice_get, slice_index}
 use Rattle.std.specs.Option.{option_map}
 use Rattle.std.proofs.lemmas.Option.{slice_get-map}
@@ -16,11 +16,11 @@ use Rattle.jc_resolve.specs.Fault.{link_place}
 use Rattle.first_fault.specs.Least.{◌>>=◌}
 use Rattle.first_fault.specs.First.{AllEmpty}
 use Rattle.jc_resolve.specs.Named.{package_of, package_by}
-use Rattle.first_fault.proofs.FirstTold.{IsTold, things-told, step, last, refused-first, accepted-empty}
+use Rattle.first_fault.proofs.FirstTold.{IsTold, things-told, refused-first, accepted-empty}
 use Rattle.jc_resolve.specs.Due.{IsDue}
 use Rattle.jc_classes.specs.KnownClasses.{HasKnownLine}
-use Rattle.jc_classes.specs.LineConditions.{numbered, is_class_number, is_class_record, super_fault, cycle_fault, role_fault, root_fault, named_interfaces}
-use Rattle.jc_classes.specs.LineConditions.{not_interface_fault, conditions}
+use Rattle.jc_classes.specs.LineConditions.{is_class_number, is_class_record}
+use Rattle.jc_classes.specs.LineConditions.{conditions}
 use Rattle.jc_classes.specs.declared.lineage_type.Line.{Line}
 use Rattle.jc_classes.specs.Outline.{LineTable, AreLines, is_interface_line, is_interface as interface_in_table, package_in_line}
 use Rattle.jc_classes.specs.Outline.{package_of as package_in_table, parent_of, line_of, outline}
@@ -31,12 +31,7 @@ use Rattle.jc_classes.proofs.Descent.{class-made, parent-class, parent-made, par
 
 lines-told : (cs : List NamedClass) (first : ℕ) (roles : List ℕ) → IsTold link_place (lines_agree cs first roles) (conditions cs first roles)
 unfolding lines_agree
-lines-told cs first roles =
-    step link_place (things-told link_place (super_fault cs) (numbered cs))
-    (step link_place (things-told link_place (cycle_fault cs) (numbered cs))
-    (step link_place (things-told link_place (role_fault cs first (slice_index roles 1)) (numbered roles))
-    (step link_place (things-told link_place (root_fault (slice_index roles 0)) (numbered cs))
-    (last link_place (things-told link_place (not_interface_fault cs) (named_interfaces cs))))))
+lines-told cs first roles = grind (arith, things-told)
 
 pub agreed-empty : (cs : List NamedClass) (first : ℕ) (roles : List ℕ) → lines_agree cs first roles ≡ Ok (tt {0})
     → AllEmpty (conditions cs first roles)
@@ -44,9 +39,7 @@ agreed-empty cs first roles e = accepted-empty link_place (conditions cs first r
 
 told-by : (cs : List NamedClass) (first : ℕ) (roles : List ℕ) (s : Result (Unit {0}) LinkFault) (r : Result LineTable LinkEnd)
     → lines_agree cs first roles ≡ s → IsDue (s >>= λ _. Ok (outline cs roles)) r → TellsLines cs first roles r
-told-by cs first roles (Ok x) (Ok t) e due =
-    let same : outline cs roles ≡ t = cc in
-    (sym same, agreed-empty cs first roles e)
+told-by cs first roles (Ok x) (Ok t) e due = grind (arith, agreed-empty cs first roles e)
 told-by cs first roles (Ok x) (Err (Fault f)) e due = absurd cc
 told-by cs first roles (Ok x) (Err Memory) e due = tt {0}
 told-by cs first roles (Err g) (Ok t) e due = absurd cc
@@ -118,9 +111,7 @@ have-lines cs first roles known sound are = record {
 lines-by : (cs : List NamedClass) (first : ℕ) (roles : List ℕ) (s : Result (Unit {0}) LinkFault) (r : Result LineTable LinkEnd)
     → All (HasKnownLine cs) cs → lines_agree cs first roles ≡ s
     → IsDue (s >>= λ _. Ok (outline cs roles)) r → IfOk r AreLines → IfOk r (HaveLines cs)
-lines-by cs first roles (Ok x) (Ok t) known e due are =
-    let same : outline cs roles ≡ t = cc in
-    subst (HaveLines cs) same (have-lines cs first roles known (no_fault cs first roles (agreed-empty cs first roles e)) (subst AreLines (sym same) are))
+lines-by cs first roles (Ok x) (Ok t) known e due are = grind (arith, no_fault cs first roles (agreed-empty cs first roles e), have-lines)
 lines-by cs first roles (Err g) (Ok t) known e due are = absurd cc
 lines-by cs first roles s (Err f) known e due are = tt
 

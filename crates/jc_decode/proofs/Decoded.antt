@@ -1,12 +1,10 @@
 -- What holds where an instruction is decoded.
-use Rattle.std.proofs.Common.{◌≡◌, ◌≤◌, ◌+◌, ◌-◌, ◌*◌, ℕ, Bool, true, false, cond, Option, Some, None, Result, Ok, Err, List, length}
+use Rattle.std.proofs.Common.{◌≡◌, ◌≤◌, ◌+◌, ◌-◌, ◌*◌, ℕ, Bool, true, false, cond, Option, Some, Result, Ok, Err, List, length}
 use Rattle.std.proofs.Common.{refl, sym, ap, ◌∙◌, subst, arith}
-use Rattle.std.specs.Prelude.{ℤ, int_lt, unsigned_abs}
+use Rattle.std.specs.Prelude.{ℤ, int_lt}
 use Rattle.cap_bytes.specs.Number.{number_at}
 use Rattle.jc_decode.specs.declared.layout.Operand.{Operand}
 use Rattle.jc_decode.specs.declared.layout.Cases.{Cases}
-use Rattle.jc_decode.specs.declared.layout.Cases.TheVariants.{Range, Pairs}
-use Rattle.jc_decode.specs.declared.layout.Cases.TheVariants.{Absent as NoCases}
 use Rattle.jc_decode.specs.declared.layout.Layout.{Layout}
 use Rattle.jc_decode.specs.declared.insn.CodeEnd.{CodeEnd}
 use Rattle.jc_decode.specs.declared.insn.Insn.{Insn}
@@ -17,12 +15,10 @@ use Rattle.jc_decode.specs.Decoding.{table_end, end_of_cases, decoded, Begins, I
 -- a step that succeeds, and what comes of it
 pub bind-ok : {A B : Type 0} (r : Result A CodeEnd) (f : A → Result B CodeEnd) (y : B)
     → (r >>= f) ≡ Ok y → (x : A) × (r ≡ Ok x) × (f x ≡ Ok y)
-bind-ok (Ok x) f y h = (x, refl, h)
-bind-ok (Err e) f y h = absurd (cc)
+bind-ok x f y h = grind (arith)
 
 pub or_cut-ok : {A : Type 0} (o : Option A) (x : A) → or_cut o ≡ Ok x → o ≡ Some x
-or_cut-ok None x h = absurd (cc)
-or_cut-ok (Some y) x h = cc
+or_cut-ok x x2 h = grind (arith)
 
 -- what is reached is the place, and lies within the bytes
 pub reached-ok : (xs : List ℕ) (end e : ℕ) → within_bytes xs end ≡ Ok e → (e ≡ end) × (e ≤ length xs)
@@ -33,16 +29,11 @@ reached-within xs end h = grind arith
 
 -- a table ends after its beginning, and within the bytes
 pub keys_rise-ok : (key : Operand) (xs : List ℕ) (table end : ℕ) (o : Option ℕ) (e : ℕ) → keys_rise key xs table end o ≡ Ok e → e ≡ end
-keys_rise-ok key xs table end None e h = cc
-keys_rise-ok key xs table end (Some n) e h = absurd (cc)
+keys_rise-ok key xs table end v e h = grind (arith)
 
 pub pairs_end-ok : (key : Operand) (xs : List ℕ) (table count e : ℕ) → pairs_end key xs table count ≡ Ok e
     → (e ≡ table + pair_width key * count) × (e ≤ length xs)
-pairs_end-ok key xs table count e h =
-    let parts = bind-ok (within_bytes xs (table + pair_width key * count)) _ e h in
-    let same = keys_rise-ok key xs table parts.0 _ e parts.2 in
-    let place = reached-ok xs (table + pair_width key * count) parts.0 parts.1 in
-    (same ∙ place.0, omega (arith, same, place.1))
+pairs_end-ok key xs table count e h = grind (arith, bind-ok, keys_rise-ok, reached-ok)
 
 pub range_end-ok : (bound : Operand) (xs : List ℕ) (table : ℕ) (low high : ℤ) (e : ℕ) → range_end bound xs table low high ≡ Ok e
     → (e ≡ table + 2 * range_count low high) × (e ≤ length xs)
@@ -55,15 +46,12 @@ range_end-ok bound xs table low high e h = by_test (int_lt high low) h
 
 pub table_end-ok : (l : Layout) (c : Cases) (xs : List ℕ) (table : ℕ) (y z : ℤ) (e : ℕ) → end_of_cases c l.z xs table y z ≡ Ok e
     → table ≤ length xs → (table ≤ e) × (e ≤ length xs)
-table_end-ok l NoCases xs table y z e h inside = let same : table ≡ e = cc in (omega arith, omega arith)
-table_end-ok l Range xs table y z e h inside = let k = range_end-ok l.z xs table y z e h in (omega (arith, k.0), k.1)
-table_end-ok l (Pairs key) xs table y z e h inside = let k = pairs_end-ok key xs table (unsigned_abs y) e h in (omega (arith, k.0), k.1)
+table_end-ok l y xs table y2 z e h inside = grind (arith, range_end-ok, pairs_end-ok)
 
 -- the same for a chain of steps
 pub from_bind : {A B C : Type 0} (r : Result A CodeEnd) (f : A → Result B CodeEnd) (y : B)
     → (r >>= f) ≡ Ok y → ((x : A) → r ≡ Ok x → f x ≡ Ok y → C) → C
-from_bind (Ok x) f y h k = k x refl h
-from_bind (Err e) f y h k = absurd (cc)
+from_bind x f y h k = grind (arith)
 
 pub ok-same : {A : Type 0} (x y : A) (r : Result A CodeEnd) → r ≡ Ok x → r ≡ Ok y → x ≡ y
 ok-same x y r h k = cc
@@ -97,10 +85,7 @@ Begins-decoded xs at i h =
 -- and what begins there is decoded
 pub decoded-Begins : (xs : List ℕ) (at : ℕ) (i : Insn) → Begins xs at i → decoded xs at ≡ Ok i
 unfolding decoded
-decoded-Begins xs at i b =
-    let reach : within_bytes xs (at + 1 + total_width b.layout) ≡ Ok (at + 1 + total_width b.layout) = reached-within xs _ b.reaches in
-    let len : at + i.len - at ≡ i.len = omega arith in
-    rw (b.opcode, b.is_layout, reach, b.x, b.y, b.z, b.ends, len) refl
+decoded-Begins xs at i b = grind (arith, reached-within)
 
 -- an instruction takes a byte at least, and only bytes that are there
 pub IsWithin-decoded : (xs : List ℕ) (at : ℕ) (i : Insn) → decoded xs at ≡ Ok i → IsWithin xs at i

@@ -1,6 +1,5 @@
 -- A switch with another default.
 use Rattle.std.proofs.Common.{◌≡◌, ◌∙◌, ◌≤◌, ◌+◌, ℕ, Bool, true, false, Result, Ok, Err, List, [], length, refl, ap, subst, arith}
-use Rattle.std.proofs.Common.{rules}
 use Rattle.std.specs.Prelude.{ℤ, unsigned_abs, FitsSigned, not, ◌||◌, map, replicate}
 use Rattle.std.specs.Int.{w16}
 use Rattle.std.specs.List.{range_with_len}
@@ -15,7 +14,6 @@ use Rattle.jc_decode.specs.declared.layout.Layout.{Layout}
 use Rattle.jc_decode.specs.declared.insn.Insn.{Insn}
 use Rattle.jc_decode.specs.declared.insn.CodeEnd.{CodeEnd}
 use Rattle.jc_decode.specs.Layout.{layout_of, opcode, operand_width, total_width}
-use Rattle.jc_decode.specs.Listing.{jumps, is_branch}
 use Rattle.cap_bytes.specs.Bytes.{AreBytes}
 use Rattle.jc_decode.specs.Decoding.{decoded, range_count}
 use Rattle.jc_decode.specs.Cases.{cases, cases_by, cases_in, range_case, pair_case, is_switch, with_default, HasTable}
@@ -51,29 +49,16 @@ unfolding layout_of opcode
 leads-all = refl
 
 two-allows : (o : Operand) (d : ℤ) → is_two o ≡ true → FitsSigned w16 d → Allows o d
-two-allows S2 d h fits = (fits, search rules)
-two-allows S1 d h fits = absurd (cc)
-two-allows Absent d h fits = absurd (cc)
-two-allows U1 d h fits = absurd (cc)
-two-allows U2 d h fits = absurd (cc)
-two-allows S4 d h fits = absurd (cc)
-two-allows DupWords d h fits = absurd (cc)
-two-allows SwapWords d h fits = absurd (cc)
-two-allows ArrayType d h fits = absurd (cc)
-two-allows TestedType d h fits = absurd (cc)
+two-allows x d h fits = grind (arith)
 
 either : (a : Bool) → (a || true) ≡ true
-either true = refl
-either false = refl
+either x = grind (arith)
 
 pub default-same : (i : Insn) (d : ℤ) → is_switch i.op ≡ true → essence (record i { x = d }) ≡ essence i
-default-same i d h =
-    let j : jumps i.op ≡ true = ap (λ (b : Bool). is_branch i.op || b) h ∙ either (is_branch i.op) in
-    rw j refl
+default-same i d h = grind (arith)
 
 moved : (r : Result Insn CodeEnd) (i : Insn) (d : ℤ) → with_default i.x r ≡ Ok i → with_default d r ≡ Ok (record i { x = d })
-moved (Err e) i d h = absurd (cc)
-moved (Ok k) i d h = ap (λ (m : Insn). Ok (record m { x = d })) (ok-same (record k { x = i.x }) i _ refl h)
+moved x i d h = grind (arith, ok-same)
 
 pub default-table : (xs : List ℕ) (at : ℕ) (i : Insn) (d : ℤ) → HasTable xs at i → HasTable xs at (record i { x = d })
 default-table xs at i d h switch = moved (decoded xs at) i d (h switch)
@@ -108,8 +93,7 @@ default-cases xs at i d = by_layout (layout_of i.op)
     by_cases (Pairs key) t = refl
 
     by_layout : (r : Result Layout CodeEnd) → cases_by r xs at (record i { x = d }) ≡ cases_by r xs at i
-    by_layout (Err e) = refl
-    by_layout (Ok l) = by_cases l.cases (at + 1 + total_width l)
+    by_layout x = grind (arith)
 
 pub no_cases : (xs : List ℕ) (at : ℕ) (i : Insn) (e : CodeEnd) → layout_of i.op ≡ Err e → cases xs at i ≡ []
 unfolding cases

@@ -1,7 +1,7 @@
 -- A load or store of one of the first four registers in its short form is the same instruction, and allowed.
 use Rattle.std.proofs.Common.{◌≡◌, ◌∙◌, ◌<◌, ◌≤◌, ◌+◌, ◌-◌, ◌/◌, ◌%◌, ℕ, zero, suc, Bool, true, false, cond, Result, Ok}
-use Rattle.std.proofs.Common.{Err, refl, sym, ap, arith, rules}
-use Rattle.std.specs.Prelude.{ℤ, pos, negsuc, unsigned_abs, not, ◌&&◌, ◌||◌, ◌==◌, nat_le, map, replicate}
+use Rattle.std.proofs.Common.{Err, refl, sym, ap, arith}
+use Rattle.std.specs.Prelude.{ℤ, pos, unsigned_abs, not, ◌&&◌, ◌||◌, ◌==◌, nat_le, map, replicate}
 use Rattle.std.specs.List.{range_with_len}
 use Rattle.std.proofs.lemmas.Bool.{eqb-true, not-true, or_parts, and_parts}
 use Rattle.std.proofs.lemmas.Bool.Decides.{nat_tests}
@@ -64,41 +64,13 @@ unfolding layout_of opcode
 is_named-all = refl
 
 absent-is : (o : Operand) (v : ℤ) → is_absent o ≡ true → Allows o v → v ≡ pos 0
-absent-is Absent v h a = a.0
-absent-is U1 v h a = absurd (cc)
-absent-is U2 v h a = absurd (cc)
-absent-is S1 v h a = absurd (cc)
-absent-is S2 v h a = absurd (cc)
-absent-is S4 v h a = absurd (cc)
-absent-is DupWords v h a = absurd (cc)
-absent-is SwapWords v h a = absurd (cc)
-absent-is ArrayType v h a = absurd (cc)
-absent-is TestedType v h a = absurd (cc)
+absent-is x v h a = grind (arith)
 
 pub absent-allows : (o : Operand) → is_absent o ≡ true → Allows o (pos 0)
-absent-allows Absent h = (refl, search rules)
-absent-allows U1 h = absurd (cc)
-absent-allows U2 h = absurd (cc)
-absent-allows S1 h = absurd (cc)
-absent-allows S2 h = absurd (cc)
-absent-allows S4 h = absurd (cc)
-absent-allows DupWords h = absurd (cc)
-absent-allows SwapWords h = absurd (cc)
-absent-allows ArrayType h = absurd (cc)
-absent-allows TestedType h = absurd (cc)
+absent-allows x h = grind (arith)
 
 byte-is : (o : Operand) (v : ℤ) → is_byte o ≡ true → Allows o v → pos (unsigned_abs v) ≡ v
-byte-is U1 (pos n) h a = refl
-byte-is U1 (negsuc n) h a = absurd a.0
-byte-is Absent v h a = absurd (cc)
-byte-is U2 v h a = absurd (cc)
-byte-is S1 v h a = absurd (cc)
-byte-is S2 v h a = absurd (cc)
-byte-is S4 v h a = absurd (cc)
-byte-is DupWords v h a = absurd (cc)
-byte-is SwapWords v h a = absurd (cc)
-byte-is ArrayType v h a = absurd (cc)
-byte-is TestedType v h a = absurd (cc)
+byte-is x v h a = grind (arith)
 
 -- the operands of a load or store of a register
 record IsNamed (i : Insn) : Type 0 where
@@ -107,18 +79,10 @@ record IsNamed (i : Insn) : Type 0 where
   pub z : i.z ≡ pos 0
 
 IsNamed-allowed : (i : Insn) (r : Result Layout CodeEnd) → has_byte r ≡ true → AllowsBy i r → IsNamed i
-IsNamed-allowed i (Err e) h a = absurd a
-IsNamed-allowed i (Ok l) h a =
-    let p = and_parts _ _ h in
-    let q = and_parts _ _ p.1 in
-    record { x = byte-is l.x i.x p.0 a.0; y = absent-is l.y i.y q.0 a.1; z = absent-is l.z i.z q.1 a.2 }
+IsNamed-allowed i y h a = grind (arith, and_parts, byte-is, absent-is)
 
 AllowsBy-none : (i : Insn) (r : Result Layout CodeEnd) → has_none r ≡ true → i.x ≡ pos 0 → i.y ≡ pos 0 → i.z ≡ pos 0 → AllowsBy i r
-AllowsBy-none i (Err e) h x y z = absurd (cc)
-AllowsBy-none i (Ok l) h x y z =
-    let p = and_parts _ _ h in
-    let q = and_parts _ _ p.1 in
-    (rw x (absent-allows l.x p.0), rw y (absent-allows l.y q.0), rw z (absent-allows l.z q.1))
+AllowsBy-none i y h x y2 z = grind (arith, and_parts, absent-allows)
 
 -- the short opcode is that of a load or store with the register in it, and gives back the long one and the register
 record IsShort (op n short : ℕ) : Type 0 where

@@ -1,7 +1,7 @@
 -- Instructions that are found one after another, each where the one before it ends, as those of a method's code are by
 -- decoding.
 use Rattle.std.proofs.Common.{◌≡◌, ◌<◌, ◌≤◌, ◌+◌, ◌⊎◌, inl, inr, ⊎_elim, ℕ, zero, suc, Some, Result, Ok, Err, List, [], ◌∷◌}
-use Rattle.std.proofs.Common.{◌++◌, refl, sym, ap, ◌∙◌, subst, arith, rules, Contains}
+use Rattle.std.proofs.Common.{◌++◌, refl, sym, ap, ◌∙◌, subst, arith, Contains}
 use Rattle.std.specs.Prelude.{slice_get, IsErr}
 use Rattle.jc_decode.specs.declared.insn.Insn.{Insn}
 use Rattle.jc_decode.specs.declared.insn.Placed.{Placed}
@@ -16,8 +16,7 @@ use Rattle.jc_decode.proofs.Elements.{nothing-in, Contains-either, Contains-firs
 
 -- why none is found
 pub err-of : (r : Result Insn CodeEnd) → IsErr r → (end : CodeEnd) × (r ≡ Err end)
-err-of (Ok i) h = absurd (search rules)
-err-of (Err end) h = (end, refl)
+err-of x h = grind (arith)
 
 -- ---- where a list ends
 
@@ -54,11 +53,7 @@ module _ (found : ℕ → Result Insn CodeEnd) where
       → Contains ps j
       → i.place ≡ j.place
       → i ≡ j
-  one-in at ps i j l c d same =
-      let there = ap found same ∙ (found-in at ps j l d).is in
-      let insn : i.insn ≡ j.insn = ok-same i.insn j.insn (found i.place) (found-in at ps i l c).is there in
-      ap (λ (p : ℕ). record { place = p; insn = i.insn }) same
-      ∙ ap (λ (n : Insn). record { place = j.place; insn = n }) insn
+  one-in at ps i j l c d same = grind (arith, found-in at ps j l d, found-in at ps i l c, ok-same)
 
   -- each begins after those before it
   pub after-in : (at : ℕ) (ps : List Placed) (i j : Placed)
@@ -146,12 +141,7 @@ module _ (found : ℕ → Result Insn CodeEnd) (long : (at : ℕ) (i : Insn) →
       → i.place < j.place
   rising-in at [] a b i j l h k lt = absurd (cc)
   rising-in at (p ∷ ps) a zero i j l h k lt = absurd (omega arith)
-  rising-in at (p ∷ ps) zero (suc b) i j l h k lt =
-      let later = found-in found (at + p.insn.len) ps j l.2 (Contains-slice_get ps b j k) in
-      let w = long at p.insn l.1 in
-      let same : p ≡ i = cc in
-      let place : i.place ≡ at = ap (λ (q : Placed). q.place) (sym same) ∙ l.0 in
-      omega (arith, later.from, w)
+  rising-in at (p ∷ ps) zero (suc b) i j l h k lt = grind (arith, found-in found (at + p.insn.len) ps j l.2 (Contains-slice_get ps b j k))
   rising-in at (p ∷ ps) (suc a) (suc b) i j l h k lt = rising-in (at + p.insn.len) ps a b i j l.2 h k (omega arith)
 
   -- and each is before the place where they end
@@ -159,9 +149,7 @@ module _ (found : ℕ → Result Insn CodeEnd) (long : (at : ℕ) (i : Insn) →
       → ListsFound found at ps
       → Contains ps i
       → i.place < end_from at ps
-  before-in at ps i l c =
-      let w = long i.place i.insn (found-in found at ps i l c).is in
-      let le = within-in found at ps i l c in omega (arith, w, le)
+  before-in at ps i l c = grind (arith, found-in found at ps i l c, within-in found at ps i l c)
 
 -- ---- those that are decoded from a code
 

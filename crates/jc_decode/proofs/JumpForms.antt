@@ -1,5 +1,5 @@
 -- Jumps in their forms, and switches with another default.
-use Rattle.std.proofs.Common.{◌≡◌, ◌∙◌, ◌<◌, ◌+◌, ◌-◌, ℕ, Bool, true, false, cond, Result, Ok, Err, refl, sym, arith, rules}
+use Rattle.std.proofs.Common.{◌≡◌, ◌∙◌, ◌<◌, ◌+◌, ◌-◌, ℕ, Bool, true, false, cond, Result, Ok, Err, refl, sym, arith}
 use Rattle.std.specs.Prelude.{ℤ, pos, FitsSigned, not, ◌&&◌, ◌||◌, ◌==◌, map, replicate}
 use Rattle.std.specs.Int.{w8, w16}
 use Rattle.std.specs.List.{range_with_len}
@@ -70,28 +70,13 @@ record IsJump (two : Bool) (op form : ℕ) : Type 0 where
 
 IsJump-form : (two : Bool) (op : ℕ) → is_wide_jump op ≡ true → IsJump two op (cond two op (op - 56))
 IsJump-form two op h =
-    let all = or-rest (is_wide_jump op) _ (is_jump-at two op h) h in
-    let p = and_parts (has_offset two (layout_of (cond two op (op - 56)))) _ all in
-    let q = and_parts (is_branch (cond two op (op - 56))) _ p.1 in
-    let r = and_parts (not (is_switch (cond two op (op - 56)))) _ q.1 in
-    record { layout = p.0; branch = q.0; only = not-true (is_switch (cond two op (op - 56))) r.0; wide_is = eqb-true (wide (cond two op (op - 56))) op r.1 }
+    grind (arith, or-rest (is_wide_jump op) _ (is_jump-at two op h) h, cond two op (op - 56), and_parts, not-true, eqb-true)
 
 near-fits : (d : ℤ) → is_near d ≡ true → FitsSigned w8 d
 near-fits d h = grind (arith, ints)
 
 offset-allows : (two : Bool) (o : Operand) (d : ℤ) → is_offset two o ≡ true → (two ≡ false → is_near d ≡ true) → FitsSigned w16 d → Allows o d
-offset-allows true S1 d h near fits = absurd (cc)
-offset-allows false S1 d h near fits = (near-fits d (near refl), search rules)
-offset-allows true S2 d h near fits = (fits, search rules)
-offset-allows false S2 d h near fits = absurd (cc)
-offset-allows two Absent d h near fits = absurd (cc)
-offset-allows two U1 d h near fits = absurd (cc)
-offset-allows two U2 d h near fits = absurd (cc)
-offset-allows two S4 d h near fits = absurd (cc)
-offset-allows two DupWords d h near fits = absurd (cc)
-offset-allows two SwapWords d h near fits = absurd (cc)
-offset-allows two ArrayType d h near fits = absurd (cc)
-offset-allows two TestedType d h near fits = absurd (cc)
+offset-allows two y d h near fits = grind (arith, near-fits)
 
 pub jump-allowed : (op : ℕ) (two : Bool) (d : ℤ) → is_wide_jump op ≡ true → (two ≡ false → is_near d ≡ true) → FitsSigned w16 d
     → IsAllowed (jump_to op two d)
@@ -126,18 +111,7 @@ offset-width two l h =
     absent-bytes TestedType h = absurd (cc)
 
     offset-bytes : (two : Bool) (o : Operand) → is_offset two o ≡ true → 1 + operand_width o ≡ cond two 3 2
-    offset-bytes true S1 h = absurd (cc)
-    offset-bytes false S1 h = refl
-    offset-bytes true S2 h = refl
-    offset-bytes false S2 h = absurd (cc)
-    offset-bytes two Absent h = absurd (cc)
-    offset-bytes two U1 h = absurd (cc)
-    offset-bytes two U2 h = absurd (cc)
-    offset-bytes two S4 h = absurd (cc)
-    offset-bytes two DupWords h = absurd (cc)
-    offset-bytes two SwapWords h = absurd (cc)
-    offset-bytes two ArrayType h = absurd (cc)
-    offset-bytes two TestedType h = absurd (cc)
+    offset-bytes two y h = grind (arith)
 
 pub jump-long : (op : ℕ) (two : Bool) (d : ℤ) → is_wide_jump op ≡ true → length_of (jump_to op two d) ≡ cond two 3 2
 jump-long op two d h =

@@ -1,7 +1,7 @@
 -- The case of a switch that has a key: its keys rise, so one that is found is the only one.
 use Rattle.std.proofs.Common.{inl, inr, subst, ◌≡◌, ◌<◌, ◌≤◌, ◌+◌, ◌*◌, ◌-◌, ◌/◌, ℕ, zero, suc, Bool, true, false, Option, Some}
 use Rattle.std.proofs.Common.{None, Result, Ok, Err, List, refl, sym, ap, ◌∙◌, arith}
-use Rattle.std.specs.Prelude.{ℤ, pos, negsuc, ◌+ℤ◌, ◌-ℤ◌, ◌<ℤ◌, ◌≤ℤ◌, ◌==◌, ◌⊎◌, FitsSigned, unsigned_abs, map, slice_get, option_map}
+use Rattle.std.specs.Prelude.{ℤ, pos, ◌+ℤ◌, ◌-ℤ◌, ◌<ℤ◌, ◌≤ℤ◌, ◌==◌, ◌⊎◌, FitsSigned, unsigned_abs, map, slice_get, option_map}
 use Rattle.std.specs.List.{find, range_with_len}
 use Rattle.std.specs.Int.{cast_signed, cast_unsigned, w32}
 use Rattle.std.specs.Result.{result_unwrap_or}
@@ -10,7 +10,6 @@ use Rattle.std.proofs.lemmas.Int.{ints, to_z-of_z, fits_signed_from_abs}
 use Rattle.std.proofs.lemmas.Bool.{cases_lt, eqb-true}
 use Rattle.std.proofs.lemmas.Bool.Decides.{nat_tests}
 use Rattle.jc_decode.specs.declared.layout.Operand.{Operand}
-use Rattle.jc_decode.specs.declared.layout.Operand.TheVariants.{Absent, U1, U2, S1, S2, S4, DupWords, SwapWords, ArrayType, TestedType}
 use Rattle.jc_decode.specs.declared.insn.CodeEnd.{CodeEnd}
 use Rattle.jc_decode.specs.declared.insn.Case.{Case}
 use Rattle.jc_decode.specs.declared.insn.Insn.{Insn}
@@ -32,22 +31,7 @@ fits-small : (n : ℕ) → n < 65536 → FitsSigned w32 (pos n)
 fits-small n h = fits_signed_from_abs w32 (pos n) (omega (arith, h))
 
 fits-wide : (o : Operand) (v : ℤ) → FitsOperand o v → FitsSigned w32 v
-fits-wide Absent v h = subst (FitsSigned w32) (sym h) (fits-small 0 (omega arith))
-fits-wide S1 v h = sfits_widen tt h
-fits-wide S2 v h = sfits_widen tt h
-fits-wide S4 v h = h
-fits-wide U1 (pos n) h = fits-small n (omega (arith, h))
-fits-wide U2 (pos n) h = fits-small n (omega (arith, h))
-fits-wide DupWords (pos n) h = fits-small n (omega (arith, h))
-fits-wide SwapWords (pos n) h = fits-small n (omega (arith, h))
-fits-wide ArrayType (pos n) h = fits-small n (omega (arith, h))
-fits-wide TestedType (pos n) h = fits-small n (omega (arith, h))
-fits-wide U1 (negsuc n) h = absurd h
-fits-wide U2 (negsuc n) h = absurd h
-fits-wide DupWords (negsuc n) h = absurd h
-fits-wide SwapWords (negsuc n) h = absurd h
-fits-wide ArrayType (negsuc n) h = absurd h
-fits-wide TestedType (negsuc n) h = absurd h
+fits-wide x v h = grind (arith, fits-small, sfits_widen)
 
 fits-read : (o : Operand) (r : Result ℤ CodeEnd) → ((v : ℤ) → r ≡ Ok v → FitsOperand o v) → FitsSigned w32 (result_unwrap_or r (pos 0))
 fits-read o (Ok v) h = fits-wide o v (h v refl)
@@ -62,11 +46,7 @@ fits-key form xs table n bytes =
 rises-on : (key_of : ℕ → ℤ) (count : ℕ) → ((n : ℕ) → n + 1 < count → key_of n <ℤ key_of (n + 1)) → (gap n : ℕ) → n + gap < count
     → key_of n ≤ℤ key_of (n + gap)
 rises-on key_of count up zero n h = let e : n + 0 ≡ n = omega arith in rw e (omega (arith, ints))
-rises-on key_of count up (suc gap) n h =
-    let before = rises-on key_of count up gap n (omega arith) in
-    let step = up (n + gap) (omega arith) in
-    let e : n + suc gap ≡ n + gap + 1 = omega arith in
-    rw e (omega (arith, ints, before, step))
+rises-on key_of count up (suc gap) n h = grind (arith, suc, ints, rises-on key_of count up gap n (omega arith))
 
 -- ---- what is known between the halves
 
@@ -77,12 +57,7 @@ pub record IsNarrowed (key_of : ℕ → ℤ) (count : ℕ) (key : ℤ) (low high
   pub above : (n : ℕ) → high ≤ n → n < count → key <ℤ key_of n
 
 pub narrowed-first : (key_of : ℕ → ℤ) (count : ℕ) (key : ℤ) → IsNarrowed key_of count key 0 count
-narrowed-first key_of count key = record {
-  order = omega arith;
-  inside = omega arith;
-  below = λ n h. absurd (omega (arith, h));
-  above = λ n le lt. absurd (omega (arith, le, lt));
-}
+narrowed-first key_of count key = grind (arith)
 
 module _ (key_of : ℕ → ℤ) (count : ℕ) (up : (n : ℕ) → n + 1 < count → key_of n <ℤ key_of (n + 1)) (key : ℤ) (low high middle : ℕ)
     (so_far : IsNarrowed key_of count key low high) (some : low < high) (half : middle ≡ low + (high - low) / 2) where
@@ -117,10 +92,7 @@ module _ (key_of : ℕ → ℤ) (count : ℕ) (up : (n : ℕ) → n + 1 < count 
 
 pub narrowed-none : (key_of : ℕ → ℤ) (count : ℕ) (key : ℤ) (low high : ℕ) → IsNarrowed key_of count key low high → high ≤ low
     → (n : ℕ) → n < count → (key_of n <ℤ key) ⊎ (key <ℤ key_of n)
-narrowed-none key_of count key low high so_far over n lt = elim (cases_lt n low) [
-  | inl less ↦ inl (so_far.below n less)
-  | inr ge ↦ inr (so_far.above n (omega (arith, ge, over)) lt)
-]
+narrowed-none key_of count key low high so_far over n lt = grind (arith, cases_lt)
 
 -- ---- the first case with a key
 
@@ -156,9 +128,7 @@ same-bits a b e = rw e (grind (arith, nat_tests))
 
 module _ (f : ℕ → Case) (count : ℕ) (fits : (n : ℕ) → n < count → FitsSigned w32 (f n).key) (key : ℤ) (fits_key : FitsSigned w32 key) where
   pub no-case : ((n : ℕ) → n < count → ((f n).key <ℤ key) ⊎ (key <ℤ (f n).key)) → find (has_key key) (map f (range_with_len 0 count)) ≡ None
-  no-case apart =
-      find-nowhere (has_key key) f 0 count
-      (λ n lo hi. let lt : n < count = omega (arith, hi) in bits-apart (f n).key key (fits n lt) fits_key (apart n lt))
+  no-case apart = grind (arith, find-nowhere, bits-apart)
 
   pub one-case : (m : ℕ) → m < count → (f m).key ≡ key → ((n : ℕ) → n < m → (f n).key <ℤ key)
       → find (has_key key) (map f (range_with_len 0 count)) ≡ Some (f m)
@@ -189,8 +159,7 @@ pairs-rise-at xs at i l form is_decoded is_layout is_pairs n h =
 
 pub pairs-rise : (xs : List ℕ) (at : ℕ) (i : Insn) (l : Layout) (form : Operand) (table count : ℕ) → decoded xs at ≡ Ok i → layout_of i.op ≡ Ok l
     → l.cases ≡ Pairs form → table ≡ at + 1 + total_width l → count ≡ unsigned_abs i.y → PairsRise form xs table count
-pairs-rise xs at i l form table count is_decoded is_layout is_pairs place many =
-    rw (place, many) (pairs-rise-at xs at i l form is_decoded is_layout is_pairs)
+pairs-rise xs at i l form table count is_decoded is_layout is_pairs place many = grind (arith, pairs-rise-at)
 
 pub pair-found : (form : Operand) (xs : List ℕ) (table count : ℕ) (key : ℤ) (o : Option ℕ) → AreBytes xs → FitsSigned w32 key
     → PairsRise form xs table count → IsPlaceOfKey form xs table count key o
@@ -198,8 +167,7 @@ pub pair-found : (form : Operand) (xs : List ℕ) (table count : ℕ) (key : ℤ
 pair-found form xs table count key (Some n) bytes fits up h =
     sym (one-case (pair_case xs table form) count (λ m lt. fits-key form xs table m bytes) key fits n h.0 h.1
     (λ m lt. subst (λ (k : ℤ). key_at form xs table m <ℤ k) h.1 (before-key (key_at form xs table) count up m n lt h.0)))
-pair-found form xs table count key None bytes fits up h =
-    sym (no-case (pair_case xs table form) count (λ m lt. fits-key form xs table m bytes) key fits h)
+pair-found form xs table count key None bytes fits up h = grind (arith, no-case, fits-key)
 
 -- ---- a table of the numbers from low to high
 
@@ -225,9 +193,4 @@ range-found xs table low high key fits_low fits_high fits le ge =
 
 pub range-none : (xs : List ℕ) (table : ℕ) (low high key : ℤ) → FitsSigned w32 low → FitsSigned w32 high → FitsSigned w32 key → low ≤ℤ high
     → (key <ℤ low) ⊎ (high <ℤ key) → None ≡ find (has_key key) (map (range_case xs table low) (range_with_len 0 (range_count low high)))
-range-none xs table low high key fits_low fits_high fits order outside =
-    sym (no-case (range_case xs table low) (range_count low high) (λ n h. range-fits low high n fits_low fits_high order h) key fits
-    (λ n h. elim outside [
-      | inl under ↦ inr (grind (arith, ints))
-      | inr over ↦ inl (grind (arith, ints))
-    ]))
+range-none xs table low high key fits_low fits_high fits order outside = grind (arith, no-case, range-fits, ints)

@@ -1,5 +1,5 @@
 -- The listing of a method's code, instruction by instruction; how many it may have is never seen again.
-use Rattle.std.proofs.Common.{◌≡◌, ◌≤◌, ◌+◌, ℕ, zero, suc, Result, Ok, Err, List, [], ◌∷◌, length, refl, sym, ap, ◌∙◌, arith}
+use Rattle.std.proofs.Common.{◌≡◌, ◌≤◌, ◌+◌, ℕ, zero, suc, Result, Ok, Err, List, [], ◌∷◌, length, refl, sym, arith}
 use Rattle.std.proofs.Common.{rules}
 use Rattle.std.specs.Prelude.{IsErr}
 use Rattle.jc_decode.specs.declared.insn.Insn.{Insn}
@@ -12,12 +12,10 @@ use Rattle.jc_decode.proofs.Decoded.{IsWithin-decoded}
 -- what follows is looked at only where an instruction is decoded
 listed-same : (at : ℕ) (r : Result Insn CodeEnd) (f g : ℕ → List Placed)
     → ((i : Insn) → r ≡ Ok i → f (at + i.len) ≡ g (at + i.len)) → listed at r f ≡ listed at r g
-listed-same at (Ok i) f g same = ap (λ (ps : List Placed). record { place = at; insn = i } ∷ ps) (same i refl)
-listed-same at (Err e) f g same = refl
+listed-same at y f g same = grind (arith)
 
 listed-none : (at : ℕ) (r : Result Insn CodeEnd) (f : ℕ → List Placed) → ((i : Insn) → r ≡ Ok i → ⊥) → listed at r f ≡ []
-listed-none at (Ok i) f never = absurd (never i refl)
-listed-none at (Err e) f never = refl
+listed-none at y f never = grind (arith)
 
 -- past the end nothing is decoded
 none_past : (code : List ℕ) (at : ℕ) → length code ≤ at → (i : Insn) → decoded code at ≡ Ok i → ⊥
@@ -35,14 +33,12 @@ at_most-enough (suc n) code at h =
 pub listing_from-more : (code : List ℕ) (at : ℕ) (i : Insn) → decoded code at ≡ Ok i
     → listing_from code at ≡ record { place = at; insn = i } ∷ listing_from code (at + i.len)
 unfolding listing_from at_most
-listing_from-more code at i h =
-    sym (at_most-enough (length code) code at (omega arith)) ∙ ap (λ (r : Result Insn CodeEnd). listed at r (at_most (length code) code)) h
+listing_from-more code at i h = grind (arith, at_most-enough (length code) code at (omega arith))
 
 -- where none is decoded the list ends
 pub listing_from-end : (code : List ℕ) (at : ℕ) (e : CodeEnd) → decoded code at ≡ Err e → listing_from code at ≡ []
 unfolding listing_from at_most
-listing_from-end code at e h =
-    sym (at_most-enough (length code) code at (omega arith)) ∙ ap (λ (r : Result Insn CodeEnd). listed at r (at_most (length code) code)) h
+listing_from-end code at e h = grind (arith, at_most-enough)
 
 -- the list of the instructions from a place on is the only one that lists them
 Lists-at_most : (n : ℕ) (code : List ℕ) (at : ℕ) → length code ≤ at + n → Lists code at (at_most n code at)
@@ -69,11 +65,7 @@ listing_from-Lists code at [] h = ends (decoded code at) refl h
     ends : (r : Result Insn CodeEnd) → decoded code at ≡ r → IsErr r → [] ≡ listing_from code at
     ends (Ok i) e bad = absurd (search rules)
     ends (Err f) e bad = sym (listing_from-end code at f e)
-listing_from-Lists code at (p ∷ ps) h =
-    let rest = listing_from-Lists code (at + p.insn.len) ps h.2 in
-    let more = listing_from-more code at p.insn h.1 in
-    ap (λ (n : ℕ). record { place = n; insn = p.insn } ∷ ps) h.0
-    ∙ ap (λ (qs : List Placed). record { place = at; insn = p.insn } ∷ qs) rest ∙ sym more
+listing_from-Lists code at (p ∷ ps) h = grind (arith, listing_from-more, listing_from-Lists code (at + p.insn.len) ps h.2)
 
 -- a listing from the first place is that of the code
 pub listing_from-start : (code : List ℕ) → listing_from code 0 ≡ listing code

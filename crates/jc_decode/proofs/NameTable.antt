@@ -30,8 +30,7 @@ pieces = refl
 
 -- what stands in the columns of an opcode
 pub piece-name : (op : ℕ) → op < 185 → piece op ≡ name op
-piece-name op h =
-    sym (get_or-map-range_with_len piece 0 185 op op [] h (omega arith)) ∙ ap (λ (t : List (List ℕ)). get_or t op []) pieces
+piece-name op h = grind (arith, get_or-map-range_with_len piece 0 185 op op [] h (omega arith), pieces, get_or)
 
 ascii_from : (bs : List ℕ) → list_all (λ b. nat_lt b 128) bs ≡ true → IsAscii bs
 ascii_from [] e = IsAscii-nil

@@ -1,9 +1,9 @@
 -- An instruction that is decoded is encoded as the bytes that stand there.
 use Rattle.std.proofs.Common.{◌≡◌, ◌<◌, ◌≤◌, ◌+◌, ◌*◌, ◌-◌, ◌^◌, ◌/◌, ◌%◌, ℕ, zero, suc, Bool, true, false, cond}
-use Rattle.std.proofs.Common.{nat_le, Some, None, Result, Ok, List, [], ◌∷◌, ◌++◌, length, take, drop, slice_index, Fits, refl, sym, ap, ◌∙◌}
-use Rattle.std.proofs.Common.{arith, rules, append_assoc}
+use Rattle.std.proofs.Common.{nat_le, Some, None, Result, Ok, List, [], ◌∷◌, ◌++◌, length, take, drop, slice_index, refl, sym, ap, ◌∙◌}
+use Rattle.std.proofs.Common.{arith, append_assoc}
 use Rattle.std.specs.Prelude.{ℤ}
-use Rattle.std.specs.Int.{w8, w16, w32, byte_at, bytes_high_first}
+use Rattle.std.specs.Int.{byte_at, bytes_high_first}
 use Rattle.std.proofs.Math.Facts.{of_z-to_z}
 use Rattle.std.proofs.Math.Nat.{div-one, mod-eq_of_lt, mul_assoc, mul-add-div_right, mul-add-mod_self_right, one-le-pow, pow-succ'}
 use Rattle.std.proofs.lemmas.Nat.{pow-add, div-mul-add}
@@ -13,7 +13,6 @@ use Rattle.byteorder.specs.Endian.{big_from, big_number, big_bytes}
 use Rattle.byteorder.specs.Numbers.{big_from-lt}
 use Rattle.cap_bytes.specs.Number.{number_at}
 use Rattle.jc_decode.specs.declared.layout.Operand.{Operand}
-use Rattle.jc_decode.specs.declared.layout.Operand.TheVariants.{Absent, U1, U2, S1, S2, S4, DupWords, SwapWords, ArrayType, TestedType}
 use Rattle.jc_decode.specs.declared.layout.Cases.{Cases}
 use Rattle.jc_decode.specs.declared.layout.Cases.TheVariants.{Range, Pairs}
 use Rattle.jc_decode.specs.declared.layout.Cases.TheVariants.{Absent as NoCases}
@@ -22,7 +21,7 @@ use Rattle.jc_decode.specs.declared.insn.CodeEnd.{CodeEnd}
 use Rattle.jc_decode.specs.declared.insn.Insn.{Insn}
 use Rattle.jc_decode.specs.Layout.{operand_width, total_width}
 use Rattle.cap_bytes.specs.Bytes.{AreBytes}
-use Rattle.jc_decode.specs.Decoding.{allows, value, or_cut, operand_number, operand_at, end_of_cases, decoded, Begins}
+use Rattle.jc_decode.specs.Decoding.{value, operand_number, operand_at, end_of_cases, decoded, Begins}
 use Rattle.jc_decode.specs.Encoding.{bits, operand_bytes, table_bytes, encoding, encoding_by}
 use Rattle.jc_decode.proofs.Decoded.{Begins-decoded, from_bind, or_cut-ok, ok-same, table_end-ok}
 use Rattle.jc_decode.proofs.Ranges.{number_of-fits, allowed-value}
@@ -84,38 +83,15 @@ number_at-bytes w at n xs bytes h = by_reach (nat_le (at + w) (length xs)) refl 
 
 number_of-bytes : (o : Operand) (at n : ℕ) (xs : List ℕ) → AreBytes xs → operand_number o xs at ≡ Some n
     → big_bytes (operand_width o) n ≡ take (operand_width o) (drop at xs)
-number_of-bytes Absent at n xs bytes h = refl
-number_of-bytes U1 at n xs bytes h = number_at-bytes 1 at n xs bytes h
-number_of-bytes U2 at n xs bytes h = number_at-bytes 2 at n xs bytes h
-number_of-bytes S1 at n xs bytes h = number_at-bytes 1 at n xs bytes h
-number_of-bytes S2 at n xs bytes h = number_at-bytes 2 at n xs bytes h
-number_of-bytes S4 at n xs bytes h = number_at-bytes 4 at n xs bytes h
-number_of-bytes DupWords at n xs bytes h = number_at-bytes 1 at n xs bytes h
-number_of-bytes SwapWords at n xs bytes h = number_at-bytes 1 at n xs bytes h
-number_of-bytes ArrayType at n xs bytes h = number_at-bytes 1 at n xs bytes h
-number_of-bytes TestedType at n xs bytes h = number_at-bytes 1 at n xs bytes h
+number_of-bytes x at n xs bytes h = grind (arith, number_at-bytes)
 
 bits-same : (o : Operand) (n : ℕ) → n < 256 ^ operand_width o → bits o (value o n) ≡ n
-bits-same Absent n h = omega arith
-bits-same U1 n h = refl
-bits-same U2 n h = refl
-bits-same S1 n h = let f : Fits w8 n = search rules in of_z-to_z f
-bits-same S2 n h = let f : Fits w16 n = search rules in of_z-to_z f
-bits-same S4 n h = let f : Fits w32 n = search rules in of_z-to_z f
-bits-same DupWords n h = refl
-bits-same SwapWords n h = refl
-bits-same ArrayType n h = refl
-bits-same TestedType n h = refl
+bits-same x n h = grind (arith, of_z-to_z)
 
 -- an operand that is read is written as its bytes
 pub operand-bytes : (o : Operand) (xs : List ℕ) (at : ℕ) (v : ℤ) → AreBytes xs → operand_at o xs at ≡ Ok v
     → operand_bytes o v ≡ take (operand_width o) (drop at xs)
-operand-bytes o xs at v bytes h =
-    from_bind (or_cut (operand_number o xs at)) _ v h (λ n n_is h1.
-    let some = or_cut-ok _ n n_is in
-    let same = bits-same o n (number_of-fits o xs at n bytes some) in
-    ap (λ (x : ℤ). big_bytes (operand_width o) (bits o x)) (sym (allowed-value o (allows o n) n v h1)) ∙ ap (big_bytes (operand_width o)) same
-    ∙ number_of-bytes o at n xs bytes some)
+operand-bytes o xs at v bytes h = grind (arith, from_bind, or_cut-ok, bits-same, number_of-fits, allowed-value, number_of-bytes)
 
 -- two parts of a list, one after the other
 pub take-more : (xs : List ℕ) (at m n : ℕ) → take (m + n) (drop at xs) ≡ take m (drop at xs) ++ take n (drop (at + m) xs)

@@ -6,8 +6,7 @@ use Rattle.std.proofs.Math.Nat.{mul-le-mul_left}
 -- a search from n on begins with n
 pub find-range_more : (p : ℕ → Bool) (n end : ℕ) → n < end
     → find p (range_with_len n (end - n)) ≡ cond (p n) (Some n) (find p (range_with_len (n + 1) (end - (n + 1))))
-find-range_more p n end h =
-    let e : end - n ≡ suc (end - (n + 1)) = omega arith in rw e refl
+find-range_more p n end h = grind (arith, suc)
 
 -- a search past the end finds nothing
 pub find-range_done : (p : ℕ → Bool) (n end : ℕ) → end ≤ n → find p (range_with_len n (end - n)) ≡ None

@@ -11,5 +11,4 @@ passed-at test all op h =
     ∙ ap (λ (bs : List Bool). get_or bs op false) all ∙ get_or-replicate 256 op true false h
 
 pub or-rest : (a b : Bool) → (not a || b) ≡ true → a ≡ true → b ≡ true
-or-rest true b h e = h
-or-rest false b h e = absurd (cc)
+or-rest x b h e = grind (arith)

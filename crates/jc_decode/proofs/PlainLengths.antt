@@ -48,12 +48,7 @@ pub record IsPlain (code : List ℕ) : Type 0 where
   pub most : plain_sum (listing code) + (length code - listing_end code) ≤ 3 * length code
 
 pub plain_known : (code : List ℕ) → AreListed code → IsPlain code
-plain_known code listed =
-    let r = bounded code 0 (listing code) (omega arith) listed.lists in
-    let a = r.least in
-    let b = r.most in
-    let c = r.ends in
-    record { ends = c; sum = omega arith; least = omega arith; most = omega arith }
+plain_known code listed = grind (arith, bounded)
 
 pub plain_is : (code : List ℕ) (sum end : ℕ) → sum ≡ plain_sum (listing code) → end ≡ listing_end code
     → sum + (length code - end) ≡ plain_code_size code

@@ -1,6 +1,6 @@
 -- What stands where an instruction has an index into the constant pool.
-use Rattle.std.proofs.Common.{◌≡◌, ◌<◌, ◌+◌, ℕ, Bool, true, false, cond, Option, Some, None, Result, Ok, Err, List, refl, ap, arith, rules}
-use Rattle.std.specs.Prelude.{ℤ, pos, negsuc, unsigned_abs, IfSome, not, ◌&&◌, ◌||◌, ◌==◌, map, replicate}
+use Rattle.std.proofs.Common.{◌≡◌, ◌<◌, ◌+◌, ℕ, Bool, true, false, cond, Option, Some, None, Result, Ok, Err, List, refl, arith, rules}
+use Rattle.std.specs.Prelude.{ℤ, pos, unsigned_abs, IfSome, not, ◌&&◌, ◌||◌, ◌==◌, map, replicate}
 use Rattle.std.specs.List.{range_with_len}
 use Rattle.std.proofs.lemmas.Bool.{eqb-true, and_parts}
 use Rattle.std.proofs.lemmas.Bool.Decides.{nat_tests}
@@ -69,9 +69,7 @@ first-at2 : (op : ℕ) → has_index op ≡ true → has_first 2 (layout_of op) 
 first-at2 op h = let small : op < 256 = grind (arith, nat_tests) in or-rest _ _ (passed-at two_bytes two_bytes-all op small) h
 
 pub second-op : (a b c : Bool) → (a || (b && c)) ≡ true → (a || b) ≡ true
-second-op true b c h = refl
-second-op false true c h = refl
-second-op false false c h = absurd (cc)
+second-op x b c h = grind (arith)
 
 second-at : (i : Insn) → has_second_index i ≡ true → has_second (layout_of i.op) ≡ true
 second-at i h =
@@ -84,44 +82,21 @@ second-at i h =
 
 -- such an operand is below its power of 256, and its bytes are the number that it is
 number-fits : (w : ℕ) (o : Operand) (v : ℤ) → is_number w o ≡ true → Allows o v → unsigned_abs v < 65536
-number-fits w U1 (pos n) h a = let b : n < 256 = a.0 in omega arith
-number-fits w U1 (negsuc n) h a = absurd a.0
-number-fits w U2 (pos n) h a = a.0
-number-fits w U2 (negsuc n) h a = absurd a.0
-number-fits w Absent v h a = absurd (cc)
-number-fits w S1 v h a = absurd (cc)
-number-fits w S2 v h a = absurd (cc)
-number-fits w S4 v h a = absurd (cc)
-number-fits w DupWords v h a = absurd (cc)
-number-fits w SwapWords v h a = absurd (cc)
-number-fits w ArrayType v h a = absurd (cc)
-number-fits w TestedType v h a = absurd (cc)
+number-fits w y v h a = grind (arith)
 
 number-by : (o : Option ℕ) (v : ℤ) → (or_cut o >>= (λ n. Ok (pos n))) ≡ Ok v → o ≡ Some (unsigned_abs v)
-number-by None v h = absurd (cc)
-number-by (Some n) v h = let e : pos n ≡ v = cc in ap (λ (x : ℤ). Some (unsigned_abs x)) e
+number-by x v h = grind (arith)
 
 number-read : (w : ℕ) (o : Operand) (xs : List ℕ) (at : ℕ) (v : ℤ) → is_number w o ≡ true → operand_at o xs at ≡ Ok v
     → number_at w at xs ≡ Some (unsigned_abs v)
-number-read w U1 xs at v h e = let s = eqb-true w 1 h in rw s (number-by _ v e)
-number-read w U2 xs at v h e = let s = eqb-true w 2 h in rw s (number-by _ v e)
-number-read w Absent xs at v h e = absurd (cc)
-number-read w S1 xs at v h e = absurd (cc)
-number-read w S2 xs at v h e = absurd (cc)
-number-read w S4 xs at v h e = absurd (cc)
-number-read w DupWords xs at v h e = absurd (cc)
-number-read w SwapWords xs at v h e = absurd (cc)
-number-read w ArrayType xs at v h e = absurd (cc)
-number-read w TestedType xs at v h e = absurd (cc)
+number-read w y xs at v h e = grind (arith, eqb-true, number-by)
 
 -- what an allowed instruction has as its index fits two bytes
 fits-first : (w : ℕ) (i : Insn) (r : Result Layout CodeEnd) → has_first w r ≡ true → AllowsBy i r → unsigned_abs i.x < 65536
-fits-first w i (Ok l) h a = number-fits w l.x i.x h a.0
-fits-first w i (Err e) h a = absurd a
+fits-first w i z h a = grind (arith, number-fits)
 
 fits-second : (i : Insn) (r : Result Layout CodeEnd) → has_second r ≡ true → AllowsBy i r → unsigned_abs i.y < 65536
-fits-second i (Ok l) h a = number-fits 2 l.y i.y (and_parts _ _ h).1 a.1
-fits-second i (Err e) h a = absurd a
+fits-second i y h a = grind (arith, number-fits, and_parts)
 
 pub index-fits : (i : Insn) → has_short_index i.op ≡ true → IsAllowed i → unsigned_abs i.x < 65536
 index-fits i h a = fits-first 1 i (layout_of i.op) (first-at i.op h) a
@@ -136,18 +111,11 @@ pub ruleset index_facts = (index-fits, index-fits2, index-fits3)
 
 stands-first : (w : ℕ) (i : Insn) (code : List ℕ) (at : ℕ) → Begins code at i → has_first w (layout_of i.op) ≡ true
     → number_at w (at + 1) code ≡ Some (unsigned_abs i.x)
-stands-first w i code at b h =
-    let named : is_number w b.layout.x ≡ true = rw b.is_layout at h in
-    number-read w b.layout.x code (at + 1) i.x named b.x
+stands-first w i code at b h = grind (arith, number-read)
 
 stands-second : (i : Insn) (code : List ℕ) (at : ℕ) → Begins code at i → has_second (layout_of i.op) ≡ true
     → number_at 2 (at + 2) code ≡ Some (unsigned_abs i.y)
-stands-second i code at b h =
-    let named : (operand_width b.layout.x == 1 && is_number 2 b.layout.y) ≡ true = rw b.is_layout at h in
-    let parts = and_parts _ _ named in
-    let one : operand_width b.layout.x ≡ 1 = eqb-true (operand_width b.layout.x) 1 parts.0 in
-    let place : at + 1 + operand_width b.layout.x ≡ at + 2 = omega (arith, one) in
-    rw (← place) (number-read 2 b.layout.y code (at + 1 + operand_width b.layout.x) i.y parts.1 b.y)
+stands-second i code at b h = grind (arith, and_parts, eqb-true, number-read)
 
 -- the index stands where it is said to stand
 pub index-stands : (i : Insn) (code : List ℕ) (at : ℕ) → decoded code at ≡ Ok i

@@ -1,8 +1,8 @@
 -- The ranges of operands that are read from bytes.
-use Rattle.std.proofs.Common.{cond, nat_le, Fits, ◌≡◌, ◌<◌, ◌+◌, ◌^◌, ℕ, Bool, true, false, Some, None, List, length, drop, get_or, refl}
+use Rattle.std.proofs.Common.{cond, nat_le, ◌≡◌, ◌<◌, ◌+◌, ◌^◌, ℕ, Bool, true, false, Some, None, List, length, drop, get_or, refl}
 use Rattle.std.proofs.Common.{sym, ap, ◌∙◌, subst, arith, rules}
 use Rattle.std.specs.Prelude.{IfOk, ℤ, FitsSigned, not, ◌||◌, map, replicate, Result, Ok, Err}
-use Rattle.std.specs.Int.{w8, w16, w32}
+use Rattle.std.specs.Int.{w16}
 use Rattle.std.specs.List.{range_with_len}
 use Rattle.std.proofs.Math.Facts.{sfits_widen, sfits_to_z}
 use Rattle.std.proofs.lemmas.List.{get_or-replicate, get_or-drop}
@@ -47,26 +47,14 @@ number_of-fits ArrayType xs at n bytes h = number_at-fits 1 at n xs bytes h
 number_of-fits TestedType xs at n bytes h = number_at-fits 1 at n xs bytes h
 
 value-fits : (o : Operand) (n : ℕ) → n < 256 ^ operand_width o → FitsOperand o (value o n)
-value-fits Absent n h = refl
-value-fits U1 n h = h
-value-fits U2 n h = h
-value-fits S1 n h = let f : Fits w8 n = search rules in sfits_to_z f
-value-fits S2 n h = let f : Fits w16 n = search rules in sfits_to_z f
-value-fits S4 n h = let f : Fits w32 n = search rules in sfits_to_z f
-value-fits DupWords n h = h
-value-fits SwapWords n h = h
-value-fits ArrayType n h = h
-value-fits TestedType n h = h
+value-fits x n h = grind (arith, sfits_to_z)
 
 pub allowed-value : (o : Operand) (b : Bool) (n : ℕ) (v : ℤ) → cond b (Ok (value o n)) (Err (BadOperand n)) ≡ Ok v → value o n ≡ v
-allowed-value o true n v h = cc
-allowed-value o false n v h = absurd (cc)
+allowed-value o y n v h = grind (arith)
 
 -- an operand that is read lies in the range of its form
 pub FitsOperand-read : (o : Operand) (xs : List ℕ) (at : ℕ) (v : ℤ) → AreBytes xs → operand_at o xs at ≡ Ok v → FitsOperand o v
-FitsOperand-read o xs at v bytes h =
-    from_bind (or_cut (operand_number o xs at)) _ v h (λ n n_is h1.
-    subst (FitsOperand o) (allowed-value o (allows o n) n v h1) (value-fits o n (number_of-fits o xs at n bytes (or_cut-ok _ n n_is))))
+FitsOperand-read o xs at v bytes h = grind (arith, from_bind, allowed-value, value-fits, number_of-fits, or_cut-ok)
 
 -- the operands of an instruction that is decoded lie in the ranges of its layout
 pub FitsLayout-decoded : (xs : List ℕ) (at : ℕ) (i : Insn) → AreBytes xs → decoded xs at ≡ Ok i → FitsLayout i (layout_of i.op)
@@ -109,16 +97,7 @@ names_offset-at op h =
     ∙ ap (λ (bs : List Bool). get_or bs op false) names_offset-all ∙ get_or-replicate 256 op true false h
 
 fits-offset : (o : Operand) (x : ℤ) → is_signed o ≡ true → FitsOperand o x → FitsSigned w16 x
-fits-offset S1 x h fits = sfits_widen tt fits
-fits-offset S2 x h fits = fits
-fits-offset Absent x h fits = absurd (cc)
-fits-offset U1 x h fits = absurd (cc)
-fits-offset U2 x h fits = absurd (cc)
-fits-offset S4 x h fits = absurd (cc)
-fits-offset DupWords x h fits = absurd (cc)
-fits-offset SwapWords x h fits = absurd (cc)
-fits-offset ArrayType x h fits = absurd (cc)
-fits-offset TestedType x h fits = absurd (cc)
+fits-offset x x2 h fits = grind (arith, sfits_widen)
 
 -- the first operand of a jump that is decoded is an offset
 pub offset-decoded : (xs : List ℕ) (at : ℕ) (i : Insn) → AreBytes xs → decoded xs at ≡ Ok i → jumps i.op ≡ true → FitsSigned w16 i.x
@@ -130,20 +109,10 @@ offset-decoded xs at i bytes h jump =
 
 -- what an operand is read from is what it is written as
 bits-value : (o : Operand) (n : ℕ) → allows o n ≡ true → allows o (bits o (value o n)) ≡ true
-bits-value Absent n h = refl
-bits-value U1 n h = refl
-bits-value U2 n h = refl
-bits-value S1 n h = refl
-bits-value S2 n h = refl
-bits-value S4 n h = refl
-bits-value DupWords n h = h
-bits-value SwapWords n h = h
-bits-value ArrayType n h = h
-bits-value TestedType n h = h
+bits-value x n h = grind (arith)
 
 allowed-test : (o : Operand) (b : Bool) (n : ℕ) (v : ℤ) → cond b (Ok (value o n)) (Err (BadOperand n)) ≡ Ok v → b ≡ true
-allowed-test o true n v h = refl
-allowed-test o false n v h = absurd (cc)
+allowed-test o y n v h = grind (arith)
 
 -- an operand that is read is allowed
 Allows-read : (o : Operand) (xs : List ℕ) (at : ℕ) (v : ℤ) → AreBytes xs → operand_at o xs at ≡ Ok v → Allows o v

@@ -1,9 +1,8 @@
 -- The bytes of an instruction are decoded to it, wherever they stand.
 use Rattle.std.proofs.Common.{◌≡◌, ◌<◌, ◌≤◌, ◌+◌, ◌*◌, ◌-◌, ◌^◌, ℕ, suc, Bool, true, false, cond, Some, Result, Ok, Err, List}
-use Rattle.std.proofs.Common.{[], ◌∷◌, ◌++◌, length, take, drop, refl, sym, ap, ◌∙◌, arith, rules, append_assoc, length-append}
-use Rattle.std.specs.Prelude.{◌+ℤ◌, ℤ, pos, negsuc, int_lt, unsigned_abs, not}
+use Rattle.std.proofs.Common.{[], ◌∷◌, ◌++◌, length, take, drop, refl, sym, ap, ◌∙◌, arith, append_assoc, length-append}
+use Rattle.std.specs.Prelude.{ℤ, pos, int_lt, unsigned_abs, not}
 use Rattle.std.specs.Result.{result_unwrap_or}
-use Rattle.std.specs.Int.{w8, w16, w32}
 use Rattle.std.proofs.lemmas.Int.{to_z-of_z}
 use Rattle.std.proofs.Math.Nat.{mul-le-mul_left, mul-suc, mod-eq_of_lt}
 use Rattle.std.proofs.Math.Seq.{drop-append_seam}
@@ -12,7 +11,7 @@ use Rattle.byteorder.specs.Endian.{big_number, big_bytes}
 use Rattle.byteorder.specs.Numbers.{big_from-bytes, length-bytes_high_first}
 use Rattle.cap_bytes.specs.Number.{number_at}
 use Rattle.jc_decode.specs.declared.layout.Operand.{Operand}
-use Rattle.jc_decode.specs.declared.layout.Operand.TheVariants.{Absent, U1, U2, S1, S2, S4, DupWords, SwapWords, ArrayType, TestedType}
+use Rattle.jc_decode.specs.declared.layout.Operand.TheVariants.{Absent, S2}
 use Rattle.jc_decode.specs.declared.layout.Cases.{Cases}
 use Rattle.jc_decode.specs.declared.layout.Cases.TheVariants.{Range, Pairs}
 use Rattle.jc_decode.specs.declared.layout.Cases.TheVariants.{Absent as NoCases}
@@ -20,7 +19,7 @@ use Rattle.jc_decode.specs.declared.layout.Layout.{Layout}
 use Rattle.jc_decode.specs.declared.insn.CodeEnd.{CodeEnd}
 use Rattle.jc_decode.specs.declared.insn.Insn.{Insn}
 use Rattle.jc_decode.specs.Layout.{operand_width, total_width, layout_of}
-use Rattle.jc_decode.specs.Decoding.{allows, value, operand_number, operand_at, within_bytes, bad_operand, key_at, rises, pair_width, range_count, range_end}
+use Rattle.jc_decode.specs.Decoding.{value, operand_number, operand_at, within_bytes, bad_operand, key_at, rises, pair_width, range_count, range_end}
 use Rattle.jc_decode.specs.Decoding.{pairs_end, end_of_cases, table_end, FitsOperand, Begins}
 use Rattle.jc_decode.specs.Cases.{cases_in, range_case, pair_case, offset_at, is_table, HasTable}
 use Rattle.jc_decode.specs.Encoding.{bits, operand_bytes, Allows, AllowsBy, IsAllowed, head_bytes, table_bytes, encoding, encoding_by, sized, ReadsBack}
@@ -40,53 +39,14 @@ number-back w n ys pre post at here place fits =
 
 -- the number that an operand is written as fits its bytes, and means the operand
 bits-fit : (o : Operand) (v : ℤ) → FitsOperand o v → bits o v < 256 ^ operand_width o
-bits-fit Absent v h = omega arith
-bits-fit S1 v h = search (rules, arith)
-bits-fit S2 v h = search (rules, arith)
-bits-fit S4 v h = search (rules, arith)
-bits-fit U1 (pos n) h = h
-bits-fit U1 (negsuc n) h = absurd h
-bits-fit U2 (pos n) h = h
-bits-fit U2 (negsuc n) h = absurd h
-bits-fit DupWords (pos n) h = h
-bits-fit DupWords (negsuc n) h = absurd h
-bits-fit SwapWords (pos n) h = h
-bits-fit SwapWords (negsuc n) h = absurd h
-bits-fit ArrayType (pos n) h = h
-bits-fit ArrayType (negsuc n) h = absurd h
-bits-fit TestedType (pos n) h = h
-bits-fit TestedType (negsuc n) h = absurd h
+bits-fit x v h = grind (arith)
 
 value-bits : (o : Operand) (v : ℤ) → FitsOperand o v → value o (bits o v) ≡ v
-value-bits Absent v h = sym h
-value-bits S1 v h = to_z-of_z w8 v h
-value-bits S2 v h = to_z-of_z w16 v h
-value-bits S4 v h = to_z-of_z w32 v h
-value-bits U1 (pos n) h = refl
-value-bits U1 (negsuc n) h = absurd h
-value-bits U2 (pos n) h = refl
-value-bits U2 (negsuc n) h = absurd h
-value-bits DupWords (pos n) h = refl
-value-bits DupWords (negsuc n) h = absurd h
-value-bits SwapWords (pos n) h = refl
-value-bits SwapWords (negsuc n) h = absurd h
-value-bits ArrayType (pos n) h = refl
-value-bits ArrayType (negsuc n) h = absurd h
-value-bits TestedType (pos n) h = refl
-value-bits TestedType (negsuc n) h = absurd h
+value-bits x v h = grind (arith, to_z-of_z)
 
 number_of-back : (o : Operand) (n : ℕ) (ys : List ℕ) (at : ℕ) → number_at (operand_width o) at ys ≡ Some n → (o ≡ Absent → n ≡ 0)
     → operand_number o ys at ≡ Some n
-number_of-back Absent n ys at h none = ap Some (sym (none refl))
-number_of-back U1 n ys at h none = h
-number_of-back U2 n ys at h none = h
-number_of-back S1 n ys at h none = h
-number_of-back S2 n ys at h none = h
-number_of-back S4 n ys at h none = h
-number_of-back DupWords n ys at h none = h
-number_of-back SwapWords n ys at h none = h
-number_of-back ArrayType n ys at h none = h
-number_of-back TestedType n ys at h none = h
+number_of-back x n ys at h none = grind (arith)
 
 bits-absent : (o : Operand) (v : ℤ) → o ≡ Absent → bits o v ≡ 0
 bits-absent o v h = rw h refl
@@ -96,16 +56,17 @@ pub operand-back : (o : Operand) (v : ℤ) (ys pre post : List ℕ) (at : ℕ) �
     → Allows o v
     → operand_at o ys at ≡ Ok v
 operand-back o v ys pre post at here place allowed =
-    let number = number-back (operand_width o) (bits o v) ys pre post at here place (bits-fit o v allowed.0) in
-    let read = number_of-back o (bits o v) ys at number (bits-absent o v) in
-    let yes : allows o (bits o v) ≡ true = search (rules, allowed.1) in
-    rw (read, yes, value-bits o v allowed.0) refl
+    grind (
+      arith,
+      number-back (operand_width o) (bits o v) ys pre post at here place (bits-fit o v allowed.0),
+      bits-absent o v,
+      value-bits o v allowed.0,
+      number_of-back,
+    )
 
 -- a pair ends where the next begins
 pub pair_before : (w n count : ℕ) → n < count → w * n + w ≤ w * count
-pair_before w n count h =
-    let next : w * suc n ≤ w * count = mul-le-mul_left w h in
-    omega (arith, next, mul-suc w n)
+pair_before w n count h = grind (arith, suc, mul-le-mul_left, mul-suc)
 
 -- the length of a table, by its form
 abbrev pub FitsTable : Cases → ℤ → ℤ → ℕ → Type 0
@@ -124,9 +85,7 @@ key_at-alike key xs ys t u m count n a size h =
 rises-alike : (key : Operand) (xs ys : List ℕ) (t u m count n : ℕ) → Alike xs t ys u m → m ≡ pair_width key * count → 1 ≤ n → n < count
     → rises key xs t n ≡ rises key ys u n
 rises-alike key xs ys t u m count n a size low h =
-    let this = key_at-alike key xs ys t u m count n a size h in
-    let one = key_at-alike key xs ys t u m count (n - 1) a size (omega arith) in
-    rw (this, one) refl
+    grind (arith, key_at-alike key xs ys t u m count n a size h, key_at-alike key xs ys t u m count (n - 1) a size (omega arith))
 
 -- the table ends alike
 range_end-alike : (bound : Operand) (xs ys : List ℕ) (t u m : ℕ) (y z : ℤ) → Alike xs t ys u m → range_end bound xs t y z ≡ Ok (t + m)
@@ -159,9 +118,7 @@ end-alike (Pairs key) bound xs ys t u m y z a size h = pairs_end-alike key xs ys
 
 -- a table that has an end is as long as its form says
 pub fits-table : (k : Cases) (bound : Operand) (xs : List ℕ) (t m : ℕ) (y z : ℤ) → end_of_cases k bound xs t y z ≡ Ok (t + m) → FitsTable k y z m
-fits-table NoCases bound xs t m y z h = let same : t ≡ t + m = cc in omega (arith, same)
-fits-table Range bound xs t m y z h = let e = range_end-ok bound xs t y z (t + m) h in omega (arith, e.0)
-fits-table (Pairs key) bound xs t m y z h = let e = pairs_end-ok key xs t (unsigned_abs y) (t + m) h in omega (arith, e.0)
+fits-table x bound xs t m y z h = grind (arith, range_end-ok, pairs_end-ok)
 
 -- the cases are alike
 offset_at-alike : (xs ys : List ℕ) (t u m a : ℕ) → Alike xs t ys u m → a + 2 ≤ m → offset_at xs (t + a) ≡ offset_at ys (u + a)
@@ -170,8 +127,7 @@ offset_at-alike xs ys t u m a alike inside =
 
 range_case-alike : (xs ys : List ℕ) (t u m count n : ℕ) (low : ℤ) → Alike xs t ys u m → m ≡ 2 * count → n < count
     → range_case xs t low n ≡ range_case ys u low n
-range_case-alike xs ys t u m count n low a size h =
-    ap (λ (o : ℤ). record { key = low +ℤ pos n; offset = o }) (offset_at-alike xs ys t u m (2 * n) a (omega arith))
+range_case-alike xs ys t u m count n low a size h = grind (arith, offset_at-alike)
 
 pair_case-alike : (xs ys : List ℕ) (t u m count n : ℕ) (key : Operand) → Alike xs t ys u m → m ≡ pair_width key * count → n < count
     → pair_case xs t key n ≡ pair_case ys u key n
@@ -201,33 +157,17 @@ record Pieces (op : ℕ) (x y z table : List ℕ) (before after : List ℕ) (ys 
   at_table : ys ≡ ((((before ++ op ∷ []) ++ x) ++ y) ++ z) ++ (table ++ after)
 
 cut : (op : ℕ) (x y z table before after : List ℕ) → Pieces op x y z table before after (before ++ ((op ∷ (x ++ (y ++ z)) ++ table) ++ after))
-cut op x y z table before after = record {
-  opcode = simp append_assoc;
-  at_x = simp append_assoc;
-  at_y = simp append_assoc;
-  at_z = simp append_assoc;
-  at_table = simp append_assoc;
-}
+cut op x y z table before after = grind (arith, append_assoc)
 
 opcode-back : (op : ℕ) (ys before rest : List ℕ) → ys ≡ before ++ op ∷ rest → number_at 1 (length before) ys ≡ Some op
-opcode-back op ys before rest here =
-    let len : length before + 1 ≤ length ys = rw here (omega (arith, length-append before (op ∷ rest))) in
-    let tail : drop (length before) ys ≡ op ∷ rest = rw here (drop-append_seam before (op ∷ rest)) in
-    let one : big_number 1 (op ∷ rest) ≡ op = omega arith in
-    number_at-reached 1 (length before) ys len ∙ ap Some (ap (big_number 1) tail ∙ one)
+opcode-back op ys before rest here = grind (arith, length-append, drop-append_seam, number_at-reached)
 
 -- a table that is copied stands alike
 copied : (xs : List ℕ) (t m : ℕ) (ys pre after : List ℕ) (u : ℕ) → t + m ≤ length xs → ys ≡ pre ++ (take m (drop t xs) ++ after)
     → u ≡ length pre
     → Alike xs t ys u m
 copied xs t m ys pre after u inside here place =
-    let size : length (take m (drop t xs)) ≡ m = omega (arith, length-take m (drop t xs), length-drop t xs) in
-    record {
-      bytes = λ k h. rw (here, place) (sym (get_or-append-add pre (take m (drop t xs) ++ after) k 0
-          ∙ get_or_append_left (take m (drop t xs)) after 0 k (omega (arith, size)) ∙ get_or-take m (drop t xs) k 0 h ∙ get_or-drop t xs k 0));
-      left = inside;
-      right = rw (here, place) (omega (arith, size, length-append pre (take m (drop t xs) ++ after), length-append (take m (drop t xs)) after));
-    }
+    grind (arith, length-take, length-drop, get_or-append-add, get_or_append_left, get_or-take, get_or-drop, length-append)
 
 -- where the table's copy begins
 length-head : (l : Layout) (i : Insn) (before : List ℕ)
@@ -235,15 +175,7 @@ length-head : (l : Layout) (i : Insn) (before : List ℕ)
     × (length before + 1 + operand_width l.x ≡ length ((before ++ i.op ∷ []) ++ operand_bytes l.x i.x))
     × (length before + 1 + operand_width l.x + operand_width l.y ≡ length (((before ++ i.op ∷ []) ++ operand_bytes l.x i.x) ++ operand_bytes l.y i.y))
     × (length before + 1 + total_width l ≡ length ((((before ++ i.op ∷ []) ++ operand_bytes l.x i.x) ++ operand_bytes l.y i.y) ++ operand_bytes l.z i.z))
-length-head l i before =
-    let a = length-append before (i.op ∷ []) in
-    let b = length-append (before ++ i.op ∷ []) (operand_bytes l.x i.x) in
-    let d = length-append ((before ++ i.op ∷ []) ++ operand_bytes l.x i.x) (operand_bytes l.y i.y) in
-    let e = length-append (((before ++ i.op ∷ []) ++ operand_bytes l.x i.x) ++ operand_bytes l.y i.y) (operand_bytes l.z i.z) in
-    let x = length-bytes_high_first (operand_width l.x) (bits l.x i.x) in
-    let y = length-bytes_high_first (operand_width l.y) (bits l.y i.y) in
-    let z = length-bytes_high_first (operand_width l.z) (bits l.z i.z) in
-    (omega (arith, a), omega (arith, a, b, x), omega (arith, a, b, d, x, y), omega (arith, a, b, d, e, x, y, z))
+length-head l i before = grind (arith, length-append)
 
 -- what is known of the table of an instruction in another list: it ends after m bytes, has their length and their cases
 record TableBack (l : Layout) (xs : List ℕ) (at : ℕ) (i : Insn) (ys : List ℕ) (u : ℕ) : Type 0 where

@@ -26,21 +26,10 @@ READINGS-at op d h =
     ap (λ (t : List Reading). get_or t op d) READINGS-is ∙ get_or-map-range_with_len reading_at 0 256 op op d h (omega arith)
 
 absent-is : (o : Operand) → is_absent o ≡ true → o ≡ operands.Absent
-absent-is operands.Absent h = refl
-absent-is operands.U1 h = absurd (cc)
-absent-is operands.U2 h = absurd (cc)
-absent-is operands.S1 h = absurd (cc)
-absent-is operands.S2 h = absurd (cc)
-absent-is operands.S4 h = absurd (cc)
-absent-is operands.DupWords h = absurd (cc)
-absent-is operands.SwapWords h = absurd (cc)
-absent-is operands.ArrayType h = absurd (cc)
-absent-is operands.TestedType h = absurd (cc)
+absent-is x h = grind (arith)
 
 no_cases-is : (c : Cases) → has_no_cases c ≡ true → c ≡ tables.Absent
-no_cases-is tables.Absent h = refl
-no_cases-is tables.Range h = absurd (cc)
-no_cases-is (tables.Pairs key) h = absurd (cc)
+no_cases-is x h = grind (arith)
 
 one-is : (x y z : Operand) (c : Cases) → y ≡ operands.Absent → z ≡ operands.Absent → c ≡ tables.Absent
     → record { x = x; y = y; z = z; cases = c } ≡ one x

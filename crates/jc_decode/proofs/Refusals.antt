@@ -11,7 +11,7 @@ use Rattle.std.proofs.Math.Nat.{mul-le-mul_left}
 use Rattle.byteorder.specs.Endian.{big_number}
 use Rattle.cap_bytes.specs.Number.{number_at}
 use Rattle.jc_decode.specs.declared.layout.Operand.{Operand}
-use Rattle.jc_decode.specs.declared.layout.Operand.TheVariants.{Absent, U1, U2, S1, S2, S4, DupWords, SwapWords, ArrayType, TestedType}
+use Rattle.jc_decode.specs.declared.layout.Operand.TheVariants.{U1, DupWords, SwapWords, ArrayType, TestedType}
 use Rattle.jc_decode.specs.declared.layout.Cases.{Cases}
 use Rattle.jc_decode.specs.declared.layout.Cases.TheVariants.{Range, Pairs}
 use Rattle.jc_decode.specs.declared.layout.Cases.TheVariants.{Absent as NoCases}
@@ -39,12 +39,10 @@ err-same d e r h k = cc
 -- a chain fails at its first step, or after it
 from_failed : {A B C : Type 0} (r : Result A CodeEnd) (f : A → Result B CodeEnd) (e : CodeEnd)
     → (r >>= f) ≡ Err e → (r ≡ Err e → C) → ((x : A) → r ≡ Ok x → f x ≡ Err e → C) → C
-from_failed (Ok x) f e h first farther = farther x refl h
-from_failed (Err d) f e h first farther = first (ap Err (err-same d e _ refl h))
+from_failed x f e h first farther = grind (arith, err-same)
 
 or_cut-failed : {A : Type 0} (o : Option A) (e : CodeEnd) → or_cut o ≡ Err e → (o ≡ None) × (Cut ≡ e)
-or_cut-failed None e h = (refl, cc)
-or_cut-failed (Some x) e h = absurd (cc)
+or_cut-failed x e h = grind (arith)
 
 reached-failed : (xs : List ℕ) (end : ℕ) (e : CodeEnd) → within_bytes xs end ≡ Err e → (length xs < end) × (Cut ≡ e)
 reached-failed xs end e h = by_test (nat_le end (length xs)) refl h
@@ -117,23 +115,19 @@ op-fits : (xs : List ℕ) (at op : ℕ) → AreBytes xs → number_at 1 at xs �
 op-fits xs at op bytes h = number_of-fits U1 xs at op bytes h
 
 is-unused : (o : Opcode) → is_unused o ≡ true → o ≡ Unused
-is-unused (Instruction l) h = absurd (cc)
-is-unused Reserved h = absurd (cc)
-is-unused Unused h = refl
+is-unused x h = grind (arith)
 
 layout_of-unused : (op : ℕ) → 185 ≤ op → op ≤ 253 → layout_of op ≡ Err (NoOpcode op)
 unfolding layout_of
 layout_of-unused op low high =
-    let inside : (nat_le 185 op && nat_le op 253) ≡ true = rw (le-leb 185 op low, le-leb op 253 high) refl in
-    ap (layout_from op) (is-unused (opcode op) (unused-at op (omega arith) ∙ inside))
+    grind (arith, nat_le 185 op && nat_le op 253, le-leb 185 op low, le-leb op 253 high, unused-at op (omega arith), is-unused)
 
 layout_of-left_out : (op : ℕ) → is_out_of_scope op ≡ true → layout_of op ≡ Err (OutOfScope op)
 unfolding layout_of opcode
 layout_of-left_out op h = rw h refl
 
 never-reserved : (o : Option Span) → opcode_in_span o ≡ Reserved → ⊥
-never-reserved None h = absurd (cc)
-never-reserved (Some s) h = absurd (cc)
+never-reserved x h = grind (arith)
 
 reserved-left_out : (op : ℕ) → opcode op ≡ Reserved → is_out_of_scope op ≡ true
 unfolding opcode
@@ -160,41 +154,14 @@ no-layout xs at op e bytes there h = by_opcode (opcode op) refl h
 -- ---- operands
 
 number_of-none : (o : Operand) (xs : List ℕ) (at : ℕ) → at + operand_width o ≤ length xs → operand_number o xs at ≡ None → ⊥
-number_of-none Absent xs at h none = absurd (cc)
-number_of-none U1 xs at h none = absurd (omega (arith, number_at-none 1 at xs none))
-number_of-none U2 xs at h none = absurd (omega (arith, number_at-none 2 at xs none))
-number_of-none S1 xs at h none = absurd (omega (arith, number_at-none 1 at xs none))
-number_of-none S2 xs at h none = absurd (omega (arith, number_at-none 2 at xs none))
-number_of-none S4 xs at h none = absurd (omega (arith, number_at-none 4 at xs none))
-number_of-none DupWords xs at h none = absurd (omega (arith, number_at-none 1 at xs none))
-number_of-none SwapWords xs at h none = absurd (omega (arith, number_at-none 1 at xs none))
-number_of-none ArrayType xs at h none = absurd (omega (arith, number_at-none 1 at xs none))
-number_of-none TestedType xs at h none = absurd (omega (arith, number_at-none 1 at xs none))
+number_of-none x xs at h none = grind (arith, number_at-none)
 
 -- what may be forbidden is one byte
 forbidden-byte : (o : Operand) (xs : List ℕ) (at n : ℕ) → operand_number o xs at ≡ Some n → allows o n ≡ false → number_at 1 at xs ≡ Some n
-forbidden-byte Absent xs at n h refused = absurd (cc)
-forbidden-byte U1 xs at n h refused = absurd (cc)
-forbidden-byte U2 xs at n h refused = absurd (cc)
-forbidden-byte S1 xs at n h refused = absurd (cc)
-forbidden-byte S2 xs at n h refused = absurd (cc)
-forbidden-byte S4 xs at n h refused = absurd (cc)
-forbidden-byte DupWords xs at n h refused = h
-forbidden-byte SwapWords xs at n h refused = h
-forbidden-byte ArrayType xs at n h refused = h
-forbidden-byte TestedType xs at n h refused = h
+forbidden-byte x xs at n h refused = grind (arith)
 
 byte-forbidden : (o : Operand) (xs : List ℕ) (at n : ℕ) → number_at 1 at xs ≡ Some n → allows o n ≡ false → operand_number o xs at ≡ Some n
-byte-forbidden Absent xs at n h refused = absurd (cc)
-byte-forbidden U1 xs at n h refused = absurd (cc)
-byte-forbidden U2 xs at n h refused = absurd (cc)
-byte-forbidden S1 xs at n h refused = absurd (cc)
-byte-forbidden S2 xs at n h refused = absurd (cc)
-byte-forbidden S4 xs at n h refused = absurd (cc)
-byte-forbidden DupWords xs at n h refused = h
-byte-forbidden SwapWords xs at n h refused = h
-byte-forbidden ArrayType xs at n h refused = h
-byte-forbidden TestedType xs at n h refused = h
+byte-forbidden x xs at n h refused = grind (arith)
 
 -- an operand whose bytes are there fails where it is forbidden
 record Forbidden (o : Operand) (xs : List ℕ) (at : ℕ) (e : CodeEnd) : Type 0 where
@@ -214,20 +181,10 @@ operand_at-failed o xs at e inside h = by_number (operand_number o xs at) refl h
 
     by_number : (m : Option ℕ) → operand_number o xs at ≡ m → (or_cut m >>= (λ n. cond (allows o n) (Ok (value o n)) (Err (BadOperand n))))
         ≡ Err e → Forbidden o xs at e
-    by_number None none h = absurd (number_of-none o xs at inside none)
-    by_number (Some n) there h = by_test n (allows o n) there refl h
+    by_number x none h = grind (arith, number_of-none)
 
 allows_all-allows : (o : Operand) (n : ℕ) → allows_all o ≡ true → allows o n ≡ false → ⊥
-allows_all-allows Absent n all refused = absurd (cc)
-allows_all-allows U1 n all refused = absurd (cc)
-allows_all-allows U2 n all refused = absurd (cc)
-allows_all-allows S1 n all refused = absurd (cc)
-allows_all-allows S2 n all refused = absurd (cc)
-allows_all-allows S4 n all refused = absurd (cc)
-allows_all-allows DupWords n all refused = absurd (cc)
-allows_all-allows SwapWords n all refused = absurd (cc)
-allows_all-allows ArrayType n all refused = absurd (cc)
-allows_all-allows TestedType n all refused = absurd (cc)
+allows_all-allows x n all refused = grind (arith)
 
 never-failed : (o : Operand) (xs : List ℕ) (at : ℕ) (e : CodeEnd) → at + operand_width o ≤ length xs → allows_all o ≡ true
     → operand_at o xs at ≡ Err e → ⊥
@@ -269,12 +226,7 @@ find-found p from (suc count) n h = by_first (p from) refl h (find-found p (from
 
     by_first : (b : Bool) → p from ≡ b → cond b (Some from) (find p (range_with_len (from + 1) count)) ≡ Some n
         → (find p (range_with_len (from + 1) count) ≡ Some n → IsFound p (from + 1) count n) → IsFound p from (suc count) n
-    by_first true e h rest =
-        let same : from ≡ n = cc in
-        record { low = omega (arith, same); high = omega (arith, same); here = ap p (sym same) ∙ e; before = λ k low high. absurd (omega (arith, same)) }
-    by_first false e h rest =
-        let f = rest h in
-        record { low = omega (arith, f.low); high = omega (arith, f.high); here = f.here; before = by_place e f }
+    by_first x e h rest = grind (arith)
 
 found-find : (p : ℕ → Bool) (from count n : ℕ) → IsFound p from count n → find p (range_with_len from count) ≡ Some n
 found-find p from zero n f = absurd (omega (arith, f.low, f.high))
@@ -290,14 +242,7 @@ found-find p from (suc count) n f = elim (cases_lt from n) [
 -- the first key that falls is the one that is found
 FirstFall-found : (key : Operand) (xs : List ℕ) (t count n : ℕ) → find (λ k. not (rises key xs t k)) (range_with_len 1 (count - 1)) ≡ Some n
     → IsFirstFall key xs t count n
-FirstFall-found key xs t count n h =
-    let f = find-found (λ k. not (rises key xs t k)) 1 (count - 1) n h in
-    record {
-      after = f.low;
-      inside = omega (arith, f.low, f.high);
-      falls = test-most (key_at key xs t n) (key_at key xs t (n - 1)) (not-true (rises key xs t n) f.here);
-      rises = λ k low high. test-less (key_at key xs t (k - 1)) (key_at key xs t k) (not-false (rises key xs t k) (f.before k low high));
-    }
+FirstFall-found key xs t count n h = grind (arith, find-found, test-most, not-true, test-less, not-false)
 
 found-FirstFall : (key : Operand) (xs : List ℕ) (t count n : ℕ) → IsFirstFall key xs t count n
     → find (λ k. not (rises key xs t k)) (range_with_len 1 (count - 1)) ≡ Some n
@@ -311,9 +256,7 @@ found-FirstFall key xs t count n f =
 
 pair-there : (xs : List ℕ) (key : Operand) (t count n : ℕ) → n < count → t + pair_width key * count ≤ length xs
     → t + pair_width key * n + 1 ≤ length xs
-pair-there xs key t count n h inside =
-    let step : pair_width key * (n + 1) ≤ pair_width key * count = mul-le-mul_left (pair_width key) (omega arith) in
-    omega (arith, step, inside)
+pair-there xs key t count n h inside = grind (arith, mul-le-mul_left)
 
 -- ---- the whole
 
@@ -363,8 +306,7 @@ table-failed xs at l (Pairs key) y z e has is high h = pairs-failed xs at l key 
 
 -- a length in place of an end is no failure
 from_end : {A B : Type 0} (r : Result A CodeEnd) (f : A → B) (e : CodeEnd) → (r >>= (λ x. Ok (f x))) ≡ Err e → r ≡ Err e
-from_end (Ok x) f e h = absurd (cc)
-from_end (Err d) f e h = ap Err (err-same d e _ refl h)
+from_end x f e h = grind (arith, err-same)
 
 -- where none is decoded it is refused so
 pub decoded-RefusesBytes : (xs : List ℕ) (at : ℕ) (e : CodeEnd) → AreBytes xs → decoded xs at ≡ Err e → RefusesBytes xs at e
@@ -409,17 +351,14 @@ decoded-RefusesBytes xs at e bytes h =
 decoded-table : (xs : List ℕ) (at : ℕ) (l : Layout) (y z : ℤ) (e : CodeEnd) → HasOperands xs at l y z
     → table_end l xs (at + 1 + total_width l) y z ≡ Err e → decoded xs at ≡ Err e
 unfolding decoded
-decoded-table xs at l y z e has h =
-    let reach = reached-within xs (at + 1 + total_width l) has.reaches in
-    rw (has.begun.opcode, has.begun.layout, reach, has.first_is, has.second_is, has.third_is, h) refl
+decoded-table xs at l y z e has h = grind (arith, reached-within)
 
 bad-byte-is : (xs : List ℕ) (at b : ℕ) → number_at 1 at xs ≡ Some b → bad_operand xs at ≡ BadOperand b
 bad-byte-is xs at b h = ap bad_byte h
 
 range-end-turned : (bound : Operand) (xs : List ℕ) (t : ℕ) (low high : ℤ) (b : ℕ) → high <ℤ low → number_at 1 (t - operand_width bound) xs
     ≡ Some b → range_end bound xs t low high ≡ Err (BadOperand b)
-range-end-turned bound xs t low high b turned there =
-    let e = less-test high low turned in rw e (ap Err (bad-byte-is xs (t - operand_width bound) b there))
+range-end-turned bound xs t low high b turned there = grind (arith, less-test, bad-byte-is)
 
 range-end-cut : (bound : Operand) (xs : List ℕ) (t : ℕ) (low high : ℤ) → low ≤ℤ high → length xs < t + 2 * range_count low high
     → range_end bound xs t low high ≡ Err Cut
@@ -430,31 +369,24 @@ pairs-end-cut key xs t count far = rw (reached-past xs (t + pair_width key * cou
 
 pairs-end-falls : (key : Operand) (xs : List ℕ) (t count n b : ℕ) → t + pair_width key * count ≤ length xs → IsFirstFall key xs t count n
     → number_at 1 (t + pair_width key * n) xs ≡ Some b → pairs_end key xs t count ≡ Err (BadOperand b)
-pairs-end-falls key xs t count n b inside fall there =
-    rw (reached-within xs (t + pair_width key * count) inside, found-FirstFall key xs t count n fall) (ap Err (bad-byte-is xs (t + pair_width key * n) b there))
+pairs-end-falls key xs t count n b inside fall there = grind (arith, reached-within, found-FirstFall, bad-byte-is)
 
 -- what is refused so is not decoded, for that reason
 pub RefusesBytes-decoded : (xs : List ℕ) (at : ℕ) (e : CodeEnd) → RefusesBytes xs at e → decoded xs at ≡ Err e
 unfolding decoded
 RefusesBytes-decoded xs at _ (nothing_there past) = rw (number_at-past 1 at xs (omega (arith, past))) refl
-RefusesBytes-decoded xs at _ (left_out op there out) =
-    let yes : is_out_of_scope op ≡ true = search (rules, out) in
-    rw (there, layout_of-left_out op yes) refl
+RefusesBytes-decoded xs at _ (left_out op there out) = grind (arith, layout_of-left_out)
 RefusesBytes-decoded xs at _ (unused op there low high) = rw (there, layout_of-unused op low high) refl
 RefusesBytes-decoded xs at _ (operands_cut l begun far) = rw (begun.opcode, begun.layout, reached-past xs (at + 1 + total_width l) far) refl
-RefusesBytes-decoded xs at _ (forbidden l b begun inside there refused) =
-    rw (begun.opcode, begun.layout, reached-within xs (at + 1 + total_width l) inside, byte-forbidden l.x xs (at + 1) b there refused, refused) refl
+RefusesBytes-decoded xs at _ (forbidden l b begun inside there refused) = grind (arith, reached-within, byte-forbidden)
 RefusesBytes-decoded xs at _ (bounds_turned l low high b has is turned there) =
     let place : at + 1 + operand_width l.x + operand_width l.y ≡ at + 1 + total_width l - operand_width l.z = omega arith in
     let named : number_at 1 (at + 1 + total_width l - operand_width l.z) xs ≡ Some b = ap (λ (p : ℕ). number_at 1 p xs) (sym place) ∙ there in
     decoded-table xs at l low high (BadOperand b) has (rw is (range-end-turned l.z xs (at + 1 + total_width l) low high b turned named))
-RefusesBytes-decoded xs at _ (range_cut l low high has is order far) =
-    decoded-table xs at l low high Cut has (rw is (range-end-cut l.z xs (at + 1 + total_width l) low high order far))
-RefusesBytes-decoded xs at _ (pairs_cut l key count z has is far) =
-    decoded-table xs at l count z Cut has (rw is (pairs-end-cut key xs (at + 1 + total_width l) (unsigned_abs count) far))
+RefusesBytes-decoded xs at _ (range_cut l low high has is order far) = grind (arith, decoded-table, range-end-cut)
+RefusesBytes-decoded xs at _ (pairs_cut l key count z has is far) = grind (arith, decoded-table, pairs-end-cut)
 RefusesBytes-decoded xs at _ (key_falls l key count z n b has is inside fall there) =
     decoded-table xs at l count z (BadOperand b) has (rw is (pairs-end-falls key xs (at + 1 + total_width l) (unsigned_abs count) n b inside fall there))
 
 pub refused-answer : (xs : List ℕ) (at : ℕ) (r : Result Insn CodeEnd) → AreBytes xs → r ≡ decoded xs at → IfErr r (RefusesBytes xs at)
-refused-answer xs at (Ok i) bytes h = search rules
-refused-answer xs at (Err e) bytes h = decoded-RefusesBytes xs at e bytes (sym h)
+refused-answer xs at z bytes h = grind (arith, decoded-RefusesBytes)

@@ -23,10 +23,7 @@ use Rattle.jc_decode.proofs.Tables.{cases-by, slice_get-map-range, range_order}
 
 -- an element of what f gives of the numbers below count
 map-range-some : (f : ℕ → Case) (count n : ℕ) (c : Case) → slice_get (map f (range_with_len 0 count)) n ≡ Some c → (n < count) × (c ≡ f n)
-map-range-some f count n c h =
-    let inside = slice_get_within (map f (range_with_len 0 count)) n c h in
-    let below : n < count = omega (arith, inside, length-map-range_with_len f 0 count) in
-    (below, same_Some c (f n) (sym h ∙ slice_get-map-range f count n below))
+map-range-some f count n c h = grind (arith, slice_get_within, length-map-range_with_len, same_Some, slice_get-map-range)
 
 -- a search that finds nothing
 first-none : (p : ℕ → Bool) (a k : ℕ) → find p (range_with_len a (suc k)) ≡ None → (p a ≡ false) × (find p (range_with_len (a + 1) k) ≡ None)
@@ -47,8 +44,7 @@ find-none p a (suc k) n h low high =
     ]
 
 pub keys_rise-none : (key : Operand) (xs : List ℕ) (t end : ℕ) (o : Option ℕ) (e : ℕ) → keys_rise key xs t end o ≡ Ok e → o ≡ None
-keys_rise-none key xs t end None e h = refl
-keys_rise-none key xs t end (Some n) e h = absurd (cc)
+keys_rise-none key xs t end v e h = grind (arith)
 
 -- the keys of a table of pairs rise
 pair-rises : (key : Operand) (xs : List ℕ) (t count e n : ℕ) → pairs_end key xs t count ≡ Ok e → n + 1 < count

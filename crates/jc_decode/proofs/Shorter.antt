@@ -38,15 +38,7 @@ record IsSmall (op : ℕ) : Type 0 where
   pub branch : is_branch op ≡ true → has_at_most 3 op ≡ true
 
 IsSmall-at : (op : ℕ) → op < 256 → IsSmall op
-IsSmall-at op h =
-    let all = passed-at is_small is_small-all op h in
-    let p = and_parts (not (is_load_n op || is_store_n op) || has_at_most 1 op) _ all in
-    let q = and_parts (not (is_register_move op) || has_at_most 2 op) _ p.1 in
-    record {
-      moved = or-rest (is_load_n op || is_store_n op) _ p.0;
-      named = or-rest (is_register_move op) _ q.0;
-      branch = or-rest (is_branch op) _ q.1;
-    }
+IsSmall-at op h = grind (arith, passed-at is_small is_small-all op h, and_parts, or-rest)
 
 move-small : (op : ℕ) → is_register_move op ≡ true → op < 256
 move-small op h = grind (arith, nat_tests)

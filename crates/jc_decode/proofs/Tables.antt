@@ -3,7 +3,6 @@ use Rattle.std.proofs.Common.{subst, ◌≡◌, ◌≤◌, ◌<◌, ◌+◌, ◌
 use Rattle.std.proofs.Common.{Err, List, length, refl, sym, ap, ◌∙◌, arith, rules}
 use Rattle.std.specs.Prelude.{◌-ℤ◌, FitsSigned, ℤ, ◌≤ℤ◌, unsigned_abs, int_lt, map, slice_get, IsTrue}
 use Rattle.std.specs.List.{range_with_len}
-use Rattle.std.specs.Option.{option_map}
 use Rattle.std.proofs.lemmas.Int.{ints, to_z-of_z}
 use Rattle.std.specs.Int.{w32, cast_signed, cast_unsigned}
 use Rattle.std.proofs.lemmas.Option.{slice_get-map, slice_get_past}
@@ -27,9 +26,7 @@ slice_get-range a (suc k) (suc n) h = slice_get-range (a + 1) k n (omega arith) 
 
 -- the n-th of what f gives of the numbers below k
 pub slice_get-map-range : {X : Type 0} (f : ℕ → X) (k n : ℕ) → n < k → slice_get (map f (range_with_len 0 k)) n ≡ Some (f n)
-slice_get-map-range f k n h =
-    let e : 0 + n ≡ n = omega arith in
-    slice_get-map f (range_with_len 0 k) n ∙ ap (option_map f) (slice_get-range 0 k n h ∙ ap Some e)
+slice_get-map-range f k n h = grind (arith, slice_get-map, slice_get-range)
 
 pub slice_get-past-range : {X : Type 0} (f : ℕ → X) (k n : ℕ) → k ≤ n → slice_get (map f (range_with_len 0 k)) n ≡ None
 slice_get-past-range f k n h = slice_get_past (map f (range_with_len 0 k)) n (omega (arith, length-map-range_with_len f 0 k))
@@ -40,9 +37,7 @@ abs-passed y fits = ap unsigned_abs (to_z-of_z w32 y fits)
 
 pub abs_diff-passed : (y z : ℤ) → FitsSigned w32 y → FitsSigned w32 z
     → unsigned_abs (cast_signed w32 (cast_unsigned w32 z) -ℤ cast_signed w32 (cast_unsigned w32 y)) ≡ unsigned_abs (z -ℤ y)
-abs_diff-passed y z fits_y fits_z =
-    ap (λ (d : ℤ). unsigned_abs (d -ℤ cast_signed w32 (cast_unsigned w32 y))) (to_z-of_z w32 z fits_z)
-    ∙ ap (λ (d : ℤ). unsigned_abs (z -ℤ d)) (to_z-of_z w32 y fits_y)
+abs_diff-passed y z fits_y fits_z = grind (arith, to_z-of_z)
 
 -- an instruction that is decoded but for its default
 record ButDefault (r : Result Insn CodeEnd) (i : Insn) : Type 0 where
@@ -54,17 +49,7 @@ record ButDefault (r : Result Insn CodeEnd) (i : Insn) : Type 0 where
   len : insn.len ≡ i.len
 
 ButDefault-with_default : (x : ℤ) (r : Result Insn CodeEnd) (i : Insn) → with_default x r ≡ Ok i → ButDefault r i
-ButDefault-with_default x (Err e) i h = absurd (cc)
-ButDefault-with_default x (Ok j) i h =
-    let same : record j { x = x } ≡ i = ok-same _ i _ refl h in
-    record {
-      insn = j;
-      is_decoded = refl;
-      op = ap (λ (k : Insn). k.op) same;
-      y = ap (λ (k : Insn). k.y) same;
-      z = ap (λ (k : Insn). k.z) same;
-      len = ap (λ (k : Insn). k.len) same;
-    }
+ButDefault-with_default x y i h = grind (arith, ok-same)
 
 end-moved : (xs : List ℕ) (at : ℕ) (k l : Layout) (y y' z z' : ℤ) (m n : ℕ) → k ≡ l → y ≡ y' → z ≡ z' → m ≡ n
     → table_end k xs (at + 1 + total_width k) y z ≡ Ok (at + m) → table_end l xs (at + 1 + total_width l) y' z' ≡ Ok (at + n)

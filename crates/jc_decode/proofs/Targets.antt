@@ -1,9 +1,8 @@
 -- The places that an instruction names, one by one.
-use Rattle.std.proofs.Common.{◌≡◌, ◌<◌, ◌-◌, ℕ, zero, suc, true, false, Some, None, List, ◌∷◌, refl, ap, ◌∙◌, arith}
-use Rattle.std.specs.Prelude.{slice_get, map}
+use Rattle.std.proofs.Common.{◌≡◌, ◌<◌, ◌-◌, ℕ, zero, suc, true, false, Some, None, List, ◌∷◌, refl, ap, arith}
+use Rattle.std.specs.Prelude.{slice_get}
 use Rattle.std.specs.Option.{option_map}
 use Rattle.std.proofs.lemmas.Option.{slice_get-map}
-use Rattle.jc_decode.specs.declared.insn.Case.{Case}
 use Rattle.jc_decode.specs.declared.insn.Placed.{Placed}
 use Rattle.jc_decode.specs.Cases.{cases}
 use Rattle.jc_decode.specs.Listing.{jumps, target, targets}
@@ -25,8 +24,6 @@ targets-first code p h = rw h refl
 pub targets-later : (code : List ℕ) (p : Placed) (n : ℕ) → jumps p.insn.op ≡ true → 0 < n
     → slice_get (targets code p) n ≡ option_map (λ c. target p.place c.offset) (slice_get (cases code p.place p.insn) (n - 1))
 unfolding targets
-targets-later code p n h later =
-    rw h (slice_get-later _ (map (λ (c : Case). target p.place c.offset) (cases code p.place p.insn)) n later
-    ∙ slice_get-map (λ (c : Case). target p.place c.offset) (cases code p.place p.insn) (n - 1))
+targets-later code p n h later = grind (arith, slice_get-later, slice_get-map)
 
 pub ruleset target_facts = (targets-none, targets-first, targets-later)

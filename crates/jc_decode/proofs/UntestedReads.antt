@@ -1,18 +1,14 @@
 -- Where an instruction is decoded, its bytes tell it without a test.
 use Rattle.std.proofs.Common.{◌≡◌, ◌≤◌, ◌+◌, ◌-◌, ℕ, Bool, true, false, cond, Ok, Err, List, length}
-use Rattle.std.proofs.Common.{refl, sym, ap, ◌∙◌, arith}
-use Rattle.std.specs.Prelude.{ℤ, unsigned_abs, unwrap_or, nat_le}
+use Rattle.std.proofs.Common.{refl, ap, ◌∙◌, arith}
+use Rattle.std.specs.Prelude.{ℤ, unwrap_or}
 use Rattle.jc_decode.specs.declared.layout.Operand.{Operand}
-use Rattle.jc_decode.specs.declared.layout.Operand.TheVariants.{Absent, U1, U2, S1, S2, S4, DupWords, SwapWords, ArrayType, TestedType}
 use Rattle.jc_decode.specs.declared.layout.Cases.{Cases}
-use Rattle.jc_decode.specs.declared.layout.Cases.TheVariants.{Range, Pairs}
-use Rattle.jc_decode.specs.declared.layout.Cases.TheVariants.{Absent as NoCases}
 use Rattle.jc_decode.specs.declared.layout.Layout.{Layout}
 use Rattle.jc_decode.specs.declared.insn.CodeEnd.TheVariants.{BadOperand}
 use Rattle.jc_decode.specs.declared.insn.Insn.{Insn}
 use Rattle.jc_decode.specs.Layout.{operand_width, total_width}
-use Rattle.jc_decode.specs.Decoding.{or_cut, within_bytes, operand_at, operand_number, allows, value, end_of_cases, is_tested, decoded}
-use Rattle.std.specs.Result.{result_unwrap_or}
+use Rattle.jc_decode.specs.Decoding.{or_cut, operand_at, operand_number, allows, value, end_of_cases, is_tested, decoded}
 use Rattle.jc_decode.specs.Untested.{untested_operand, untested_end, untested}
 use Rattle.jc_decode.proofs.Decoded.{from_bind, or_cut-ok, reached-within, pairs_end-ok, range_end-ok, Begins-decoded}
 
@@ -29,15 +25,7 @@ operand-untested o xs at v h =
 -- a table ends where its keys are not looked at
 end-untested : (l : Layout) (c : Cases) (xs : List ℕ) (table : ℕ) (y z : ℤ) (e : ℕ) → end_of_cases c l.z xs table y z ≡ Ok e
     → untested_end c xs table y z ≡ e
-end-untested l NoCases xs table y z e h = cc
-end-untested l Range xs table y z e h =
-    let k = range_end-ok l.z xs table y z e h in
-    let reach : within_bytes xs e ≡ Ok e = reached-within xs e k.1 in
-    ap (λ n. result_unwrap_or (within_bytes xs n) table) (sym k.0) ∙ ap (λ r. result_unwrap_or r table) reach
-end-untested l (Pairs key) xs table y z e h =
-    let k = pairs_end-ok key xs table (unsigned_abs y) e h in
-    let reach : within_bytes xs e ≡ Ok e = reached-within xs e k.1 in
-    ap (λ n. result_unwrap_or (within_bytes xs n) table) (sym k.0) ∙ ap (λ r. result_unwrap_or r table) reach
+end-untested l y xs table y2 z e h = grind (arith, range_end-ok, reached-within, pairs_end-ok)
 
 pub untested-decoded : (xs : List ℕ) (at : ℕ) (i : Insn) → decoded xs at ≡ Ok i → untested xs at ≡ i
 unfolding untested
@@ -53,13 +41,4 @@ untested-decoded xs at i h =
 -- what is read of bytes that reach, where they are not tested
 pub read_within : (o : Operand) (xs : List ℕ) (at : ℕ) → at + operand_width o ≤ length xs → is_tested o ≡ false
     → operand_at o xs at ≡ Ok (untested_operand o xs at)
-read_within Absent xs at h e = refl
-read_within U1 xs at h e = let b : nat_le (at + 1) (length xs) ≡ true = grind arith in rw b refl
-read_within U2 xs at h e = let b : nat_le (at + 2) (length xs) ≡ true = grind arith in rw b refl
-read_within S1 xs at h e = let b : nat_le (at + 1) (length xs) ≡ true = grind arith in rw b refl
-read_within S2 xs at h e = let b : nat_le (at + 2) (length xs) ≡ true = grind arith in rw b refl
-read_within S4 xs at h e = let b : nat_le (at + 4) (length xs) ≡ true = grind arith in rw b refl
-read_within DupWords xs at h e = absurd (cc)
-read_within SwapWords xs at h e = absurd (cc)
-read_within ArrayType xs at h e = absurd (cc)
-read_within TestedType xs at h e = absurd (cc)
+read_within x xs at h e = grind (arith)

@@ -1,5 +1,5 @@
 -- Bytes that stand in two lists are read alike.
-use Rattle.std.proofs.Common.{◌≡◌, ◌<◌, ◌≤◌, ◌+◌, ℕ, zero, suc, Bool, Some, List, length, drop, slice_index, refl, sym, ap, ◌∙◌}
+use Rattle.std.proofs.Common.{◌≡◌, ◌<◌, ◌≤◌, ◌+◌, ℕ, zero, suc, Bool, Some, List, length, drop, slice_index, refl}
 use Rattle.std.proofs.Common.{arith}
 use Rattle.std.specs.Prelude.{map}
 use Rattle.std.specs.List.{find, range_with_len}
@@ -41,11 +41,7 @@ pub number_at-reached : (w at : ℕ) (xs : List ℕ) → at + w ≤ length xs �
 number_at-reached w at xs h = grind arith
 
 pub number_at-alike : (w t u : ℕ) (xs ys : List ℕ) → Alike xs t ys u w → number_at w t xs ≡ number_at w u ys
-number_at-alike w t u xs ys a =
-    let same = big_from-alike w 0 (drop t xs) (drop u ys) (λ k h.
-    let z : 0 + k ≡ k = omega arith in
-    rw z (get_or-drop t xs k 0 ∙ a.bytes k h ∙ sym (get_or-drop u ys k 0))) in
-    number_at-reached w t xs a.left ∙ ap Some same ∙ sym (number_at-reached w u ys a.right)
+number_at-alike w t u xs ys a = grind (arith, big_from-alike, get_or-drop, number_at-reached)
 
 number_of-alike : (o : Operand) (t u : ℕ) (xs ys : List ℕ) → Alike xs t ys u (operand_width o) → operand_number o xs t ≡ operand_number o ys u
 number_of-alike Absent t u xs ys a = refl

@@ -1,6 +1,6 @@
 -- The offset of one case is written, and nothing else changes.
 use Rattle.std.proofs.Common.{◌≡◌, ◌≢◌, ◌<◌, ◌≤◌, ◌+◌, ◌*◌, ◌-◌, ◌⊎◌, inl, inr, ℕ, Bool, true, false, cond, Some}
-use Rattle.std.proofs.Common.{Result, Ok, Err, List, ◌++◌, length, take, drop, slice_index, refl, sym, ap, ◌∙◌, arith, rules, length-append}
+use Rattle.std.proofs.Common.{Result, Ok, Err, List, length, take, drop, slice_index, refl, sym, ap, ◌∙◌, arith, rules, length-append}
 use Rattle.std.specs.Prelude.{ℤ, pos, ◌+ℤ◌, FitsSigned, int_lt, unsigned_abs, map, not, slice_get}
 use Rattle.std.specs.List.{range_with_len}
 use Rattle.std.specs.Option.{option_map}
@@ -49,41 +49,23 @@ length-two : (offset : ℤ) → length (big_bytes 2 (cast_unsigned w16 offset)) 
 length-two offset = length-bytes_high_first 2 (cast_unsigned w16 offset)
 
 length-written : (xs : List ℕ) (p : ℕ) (offset : ℤ) → Written xs p offset → length (with_offset xs p offset) ≡ length xs
-length-written xs p offset w =
-    let front = length-append (take p xs) (big_bytes 2 (cast_unsigned w16 offset) ++ drop (p + 2) xs) in
-    let back = length-append (big_bytes 2 (cast_unsigned w16 offset)) (drop (p + 2) xs) in
-    omega (arith, front, back, length-two offset, length-take p xs, length-drop (p + 2) xs, w.inside)
+length-written xs p offset w = grind (arith, length-append, length-two, length-take, length-drop)
 
 before-written : (xs : List ℕ) (p : ℕ) (offset : ℤ) (k : ℕ) → Written xs p offset → k < p → slice_index (with_offset xs p offset) k
     ≡ slice_index xs k
-before-written xs p offset k w h =
-    get_or_append_left (take p xs) (big_bytes 2 (cast_unsigned w16 offset) ++ drop (p + 2) xs) 0 k (omega (arith, length-take p xs, w.inside))
-    ∙ get_or-take p xs k 0 h
+before-written xs p offset k w h = grind (arith, get_or_append_left, length-take, get_or-take)
 
 after-written : (xs : List ℕ) (p : ℕ) (offset : ℤ) (k : ℕ) → Written xs p offset → p + 2 ≤ k → slice_index (with_offset xs p offset) k
     ≡ slice_index xs k
-after-written xs p offset k w h =
-    let len : length (take p xs) ≡ p = omega (arith, length-take p xs, w.inside) in
-    let place : p + 2 + (k - p - 2) ≡ k = omega arith in
-    get_or-append_right (take p xs) (big_bytes 2 (cast_unsigned w16 offset) ++ drop (p + 2) xs) p k 0 len (omega arith)
-    ∙ get_or-append_right (big_bytes 2 (cast_unsigned w16 offset)) (drop (p + 2) xs) 2 (k - p) 0 (length-two offset) (omega arith)
-    ∙ get_or-drop (p + 2) xs (k - p - 2) 0 ∙ ap (slice_index xs) place
+after-written xs p offset k w h = grind (arith, length-take, get_or-append_right, length-two, get_or-drop, slice_index)
 
 -- what does not meet the offset is as it was
 alike-before : (xs : List ℕ) (p : ℕ) (offset : ℤ) (a m : ℕ) → Written xs p offset → a + m ≤ p → Alike (with_offset xs p offset) a xs a m
-alike-before xs p offset a m w h = record {
-  bytes = λ k below. before-written xs p offset (a + k) w (omega arith);
-  left = omega (arith, length-written xs p offset w, w.inside);
-  right = omega (arith, w.inside);
-}
+alike-before xs p offset a m w h = grind (arith, before-written, length-written)
 
 alike-after : (xs : List ℕ) (p : ℕ) (offset : ℤ) (a m : ℕ) → Written xs p offset → p + 2 ≤ a → a + m ≤ length xs
     → Alike (with_offset xs p offset) a xs a m
-alike-after xs p offset a m w low high = record {
-  bytes = λ k below. after-written xs p offset (a + k) w (omega arith);
-  left = omega (arith, length-written xs p offset w);
-  right = high;
-}
+alike-after xs p offset a m w low high = grind (arith, after-written, length-written)
 
 -- the offset itself is read back
 offset-written : (xs : List ℕ) (p : ℕ) (offset : ℤ) → Written xs p offset → offset_at (with_offset xs p offset) p ≡ offset
@@ -185,8 +167,7 @@ map-other f g count k same = by_side (cases_lt k count)
 
 map-at : (f g : ℕ → Case) (offset : ℤ) (count n : ℕ) → n < count → f n ≡ leading offset (g n)
     → slice_get (map f (range_with_len 0 count)) n ≡ option_map (leading offset) (slice_get (map g (range_with_len 0 count)) n)
-map-at f g offset count n h same =
-    slice_get-map-range f count n h ∙ ap Some same ∙ sym (ap (option_map (leading offset)) (slice_get-map-range g count n h))
+map-at f g offset count n h same = grind (arith, slice_get-map-range)
 
 -- what an offset leaves of a switch
 pub record SetCase (xs : List ℕ) (at : ℕ) (i : Insn) (n p : ℕ) (offset : ℤ) : Type 0 where
@@ -211,24 +192,18 @@ Begins-written xs at p i offset b w farther ends = record {
 
 range_case-at : (xs : List ℕ) (t n p : ℕ) (low offset : ℤ) → Written xs p offset → p ≡ t + 2 * n
     → range_case (with_offset xs p offset) t low n ≡ leading offset (range_case xs t low n)
-range_case-at xs t n p low offset w place =
-    ap (λ (o : ℤ). record { key = low +ℤ pos n; offset = o }) (ap (offset_at (with_offset xs p offset)) (sym place) ∙ offset-written xs p offset w)
+range_case-at xs t n p low offset w place = grind (arith, offset-written)
 
 pair_case-at : (key : Operand) (xs : List ℕ) (t count n p : ℕ) (offset : ℤ) → Written xs p offset → p ≡ t + pair_width key * n + operand_width key
     → t + pair_width key * count ≤ length xs → n < count
     → pair_case (with_offset xs p offset) t key n ≡ leading offset (pair_case xs t key n)
-pair_case-at key xs t count n p offset w place inside h =
-    let same = key_at-written key xs t count n n p offset w place inside h in
-    let led : offset_at (with_offset xs p offset) (t + pair_width key * n + operand_width key) ≡ offset =
-    ap (offset_at (with_offset xs p offset)) (sym place) ∙ offset-written xs p offset w in
-    rw (same, led) refl
+pair_case-at key xs t count n p offset w place inside h = grind (arith, key_at-written, offset-written)
 
 pair_case-other : (key : Operand) (xs : List ℕ) (t count n k p : ℕ) (offset : ℤ) → Written xs p offset
     → p ≡ t + pair_width key * n + operand_width key
     → t + pair_width key * count ≤ length xs → k < count → k ≢ n
     → pair_case (with_offset xs p offset) t key k ≡ pair_case xs t key k
-pair_case-other key xs t count n k p offset w place inside h other =
-    rw (key_at-written key xs t count n k p offset w place inside h, pair_offset-written key xs t count n k p offset w place inside h other) refl
+pair_case-other key xs t count n k p offset w place inside h other = grind (arith, key_at-written, pair_offset-written)
 
 set-range : (xs : List ℕ) (at n p : ℕ) (i : Insn) (offset : ℤ) → (b : Begins xs at i) → b.layout.cases ≡ Range → n < length (cases xs at i)
     → FitsSigned w16 offset → p ≡ at + 1 + total_width b.layout + 2 * n → SetCase xs at i n p offset
@@ -247,9 +222,7 @@ set-range xs at n p i offset b is_range counted fits place =
     record {
       inside = w.inside;
       insn = decoded-Begins (with_offset xs p offset) at i (Begins-written xs at p i offset b w (omega (arith, place)) end);
-      changed =
-          rw (new, old)
-          (map-at (range_case (with_offset xs p offset) t i.y) (range_case xs t i.y) offset count n few (range_case-at xs t n p i.y offset w place));
+      changed = grind (arith, map-at, range_case-at);
       others = λ k other. rw (new, old) (map-other (range_case (with_offset xs p offset) t i.y) (range_case xs t i.y) count k
           (λ h. ap (λ (o : ℤ). record { key = i.y +ℤ pos k; offset = o })
           (range_offset-written xs t count n k p offset w place (omega (arith, whole.0, whole.1)) h other)));
@@ -274,12 +247,8 @@ set-pairs key xs at n p i offset b is_pairs counted fits place =
     record {
       inside = w.inside;
       insn = decoded-Begins (with_offset xs p offset) at i (Begins-written xs at p i offset b w (omega (arith, place)) end);
-      changed =
-          rw (new, old)
-          (map-at (pair_case (with_offset xs p offset) t key) (pair_case xs t key) offset count n few
-          (pair_case-at key xs t count n p offset w place inside few));
-      others = λ k other. rw (new, old) (map-other (pair_case (with_offset xs p offset) t key) (pair_case xs t key) count k
-          (λ h. pair_case-other key xs t count n k p offset w place inside h other));
+      changed = grind (arith, map-at, pair_case-at);
+      others = grind (arith, map-other, pair_case-other);
     }
 
 -- the n-th case of a switch is given an offset

@@ -1,6 +1,6 @@
 -- Initial arrays: package after package, and what holds of their words.
-use Rattle.std.proofs.Common.{◌≡◌, ℕ, zero, suc, ◌+◌, ◌/◌, ◌%◌, ◌≤◌, Bool, true, false, ◌&&◌, cond, eqb, leb, ltb, List, []}
-use Rattle.std.proofs.Common.{◌∷◌, ◌++◌, length, get_or, map, drop, Some, None, refl, sym, ap, ◌∙◌, inl, inr, subst, append_assoc, arith}
+use Rattle.std.proofs.Common.{◌≡◌, ℕ, zero, suc, ◌+◌, ◌/◌, ◌%◌, ◌≤◌, Bool, ◌&&◌, cond, eqb, leb, ltb, List, []}
+use Rattle.std.proofs.Common.{◌∷◌, ◌++◌, length, get_or, map, drop, Some, None, refl, sym, ap, ◌∙◌, subst, append_assoc, arith}
 use Rattle.std.proofs.Common.{length-take-le, length-drop}
 use Rattle.std.proofs.lemmas.Bool.{ltb-true, ltb-false, leb-true, eqb-true}
 use Rattle.std.proofs.lemmas.List.Elements.{All-map}
@@ -29,17 +29,12 @@ one_package p ps = map-append array_record p.statics.arrays (flat_map initial_ar
 
 pub arrays_more : (xs ys all : List ArrayRec) (ps : List PackageRecord) (n : ℕ) (p : PackageRecord) → slice_get ps n ≡ Some p
     → xs ++ array_records (drop n ps) ≡ all → ys ≡ xs ++ map array_record p.statics.arrays → ys ++ array_records (drop (n + 1) ps) ≡ all
-arrays_more xs ys all ps n p e h k =
-    let d : array_records (drop n ps) ≡ map array_record p.statics.arrays ++ array_records (drop (n + 1) ps) = ap array_records (drop_here ps n p e)
-    ∙ one_package p (drop (n + 1) ps) in
-    ap (λ zs. zs ++ array_records (drop (n + 1) ps)) k ∙ append_assoc xs (map array_record p.statics.arrays) (array_records (drop (n + 1) ps))
-    ∙ ap (λ zs. xs ++ zs) (sym d) ∙ h
+arrays_more xs ys all ps n p e h k = grind (arith, drop_here, one_package, append_assoc)
 
 -- ---- the words of an array have the type of its elements
 
 signed_by : (b : ℕ) (t : Bool) → ltb b 128 ≡ t → IsByteWord (cond t b (0xFF00 + b))
-signed_by b true e = inl (ltb-true b 128 e)
-signed_by b false e = let le = ltb-false b 128 e in inr (omega arith)
+signed_by b y e = grind (arith, ltb-true, ltb-false)
 
 pub signed_is : (b : ℕ) → IsByteWord (signed b)
 signed_is b = signed_by b (ltb b 128) refl
@@ -50,16 +45,13 @@ words_length (high ∷ []) = refl
 words_length (high ∷ low ∷ bytes) = omega (arith, words_length bytes)
 
 primitive_by : (kind : ℕ) (a b : Bool) → leb 2 kind ≡ a → leb kind 5 ≡ b → that (λ n. a && b) kind ≡ None → IsPrimitive kind
-primitive_by kind true true e f h = record { low = leb-true _ _ e; high = leb-true _ _ f }
-primitive_by kind true false e f h = absurd cc
-primitive_by kind false b e f h = absurd cc
+primitive_by kind y b e f h = grind (arith, leb-true)
 
 primitive : (kind : ℕ) → that is_primitive kind ≡ None → IsPrimitive kind
 primitive kind h = primitive_by kind (leb 2 kind) (leb kind 5) refl refl h
 
 whole_by : (n : ℕ) (t : Bool) → eqb (n % 4) 0 ≡ t → that (λ m. t) n ≡ None → n % 4 ≡ 0
-whole_by n true e h = eqb-true _ _ e
-whole_by n false e h = absurd cc
+whole_by n y e h = grind (arith, eqb-true)
 
 even : (n m : ℕ) → m ≡ n / 2 → n % 4 ≡ 0 → m % 2 ≡ 0
 even n m e h = omega arith
@@ -71,8 +63,7 @@ elements_of (suc zero) values one whole = absurd (omega (arith, one.low))
 elements_of (suc (suc zero)) values one whole = All-map IsByteWord signed values (λ k d lt. signed_is (get_or values k d))
 elements_of (suc (suc (suc zero))) values one whole = All-map IsByteWord signed values (λ k d lt. signed_is (get_or values k d))
 elements_of (suc (suc (suc (suc zero)))) values one whole = tt
-elements_of (suc (suc (suc (suc (suc zero))))) values one whole =
-    even (length values) (length (words_of_bytes values)) (words_length values) (whole_by (length values) (eqb (length values % 4) 0) refl whole)
+elements_of (suc (suc (suc (suc (suc zero))))) values one whole = grind (arith, even, words_length, whole_by, eqb)
 elements_of (suc (suc (suc (suc (suc (suc kind)))))) values one whole = absurd (omega (arith, one.high))
 
 kind_spelled : (bytes : List ℕ) (at : ℕ) (a : Array) (after : ℕ) → Spells array_init_info bytes at a after → IsPrimitive a.kind

@@ -1,5 +1,5 @@
 -- The conditions on what stands on the classes, asked one after the other.
-use Rattle.std.proofs.Common.{◌≡◌, ℕ, List, [], Ok, Err, sym, ap, subst, ◌∙◌, inl, inr}
+use Rattle.std.proofs.Common.{◌≡◌, ℕ, List, [], Ok, Err, sym, ap, subst, ◌∙◌, inl, inr, arith}
 use Rattle.std.specs.Prelude.{All}
 use Rattle.std.specs.Option.{option_to_list}
 use Rattle.cap_package.specs.PackageRecord.{PackageRecord}
@@ -10,7 +10,6 @@ use Rattle.jc_base.specs.Class.{ClassTable}
 use Rattle.jc_base.specs.Linked.{IsMember}
 use Rattle.jc_resolve.specs.declared.fault.LinkFault.{LinkFault}
 use Rattle.jc_resolve.specs.declared.fault.LinkEnd.{LinkEnd}
-use Rattle.jc_resolve.specs.declared.fault.LinkEnd.TheVariants.{Fault, Memory}
 use Rattle.jc_resolve.specs.Fault.{link_place}
 use Rattle.jc_resolve.specs.Names.{NamesRecord}
 use Rattle.first_fault.specs.Least.{least_of, refused}
@@ -57,23 +56,16 @@ module _ (ps : List PackageRecord) (roles : List ℕ) (qs : List PackageRecord) 
   catches_same = ap (λ (u : ClassTable). bad_catches ps u) a.table.is
 
   roles_same : abstract_roles t methods ≡ abstract_roles (table_of ps roles) (methods_of ps roles)
-  roles_same =
-      ap (λ (u : ClassTable). abstract_roles u methods) a.table.is ∙ ap (λ (ms : List MethodRec). abstract_roles (table_of ps roles) ms) a.methods_are
+  roles_same = grind (arith)
 
   -- ---- handlers, initial arrays and roles
 
   pub catches_first : (f : LinkFault) → Err f ≡ refused (least_of link_place (catch_fault ps t) (handler_places ps))
       → IsFirst link_place (rest_conditions ps roles) f
-  catches_first f h =
-      inl (subst (λ (fs : List LinkFault). IsLeast link_place fs f) catches_same (things-refused link_place (catch_fault ps t) (handler_places ps) f h))
+  catches_first f h = grind (arith, catches_same, things-refused)
 
   pub arrays_first : (f : LinkFault) → bad_catches ps t ≡ [] → Err f ≡ refused (arrays_fault qs) → IsFirst link_place (rest_conditions ps roles) f
-  arrays_first f caught h =
-      inr (
-        sym catches_same
-            ∙ caught,
-        inl (one-refused link_place (arrays_fault ps) f (h ∙ ap (λ (xs : List PackageRecord). refused (arrays_fault xs)) a.packages)),
-      )
+  arrays_first f caught h = grind (arith, catches_same, one-refused)
 
   pub roles_first : (f : LinkFault) → bad_catches ps t ≡ [] → option_to_list (arrays_fault ps) ≡ []
       → Err f ≡ refused (least_of link_place (role_fault t methods) thrown_roles) → IsFirst link_place (rest_conditions ps roles) f
@@ -89,15 +81,13 @@ module _ (ps : List PackageRecord) (roles : List ℕ) (qs : List PackageRecord) 
 
   pub rest_empty : (x : Unit {0}) → bad_catches ps t ≡ [] → option_to_list (arrays_fault ps) ≡ []
       → Ok x ≡ refused (least_of link_place (role_fault t methods) thrown_roles) → AllEmpty (rest_conditions ps roles)
-  rest_empty x caught arrays h =
-      (sym catches_same ∙ caught, (arrays, (sym roles_same ∙ things-none link_place (role_fault t methods) thrown_roles x h, tt {0})))
+  rest_empty x caught arrays h = grind (arith, catches_same, roles_same, things-none link_place (role_fault t methods) thrown_roles x h)
 
   -- ---- static fields and pools before them
 
   module _ (statics : List StaticRec) (s : statics ≡ statics_of ps roles) where
     missing_same : missing_members ps t statics ≡ missing_members ps (table_of ps roles) (statics_of ps roles)
-    missing_same =
-        ap (λ (u : ClassTable). missing_members ps u statics) a.table.is ∙ ap (λ (xs : List StaticRec). missing_members ps (table_of ps roles) xs) s
+    missing_same = grind (arith)
 
     pub members_first : (f : LinkFault) → HasStatics → IsLeast link_place (missing_members ps t statics) f
         → IsFirst link_place (member_conditions ps roles) f
@@ -105,8 +95,7 @@ module _ (ps : List PackageRecord) (roles : List ℕ) (qs : List PackageRecord) 
 
     pub rest_told : (end : LinkEnd) → HasStatics → missing_members ps t statics ≡ [] → TellsFirst {A = Unit {0}} (rest_conditions ps roles)
         (Err end) → TellsFirst {A = Resolved} (member_conditions ps roles) (Err end)
-    rest_told (Fault f) none members h = inr (none, inr (sym missing_same ∙ members, h))
-    rest_told Memory none members h = tt {0}
+    rest_told x none members h = grind (arith, missing_same)
 
     pub members_empty : HasStatics → missing_members ps t statics ≡ [] → AllEmpty (rest_conditions ps roles) → AllEmpty (member_conditions ps roles)
     members_empty none members rest = (none, (sym missing_same ∙ members, rest))
@@ -118,6 +107,4 @@ module _ (ps : List PackageRecord) (roles : List ℕ) (qs : List PackageRecord) 
 
     pub members_same : (found : List (List Member)) → All (All (IsMember t methods statics)) found
         → All (All (IsMember (table_of ps roles) (methods_of ps roles) statics)) found
-    members_same found all =
-        subst (λ (ms : List MethodRec). All (All (IsMember (table_of ps roles) ms statics)) found) a.methods_are
-        (subst (λ (u : ClassTable). All (All (IsMember u methods statics)) found) a.table.is all)
+    members_same found all = grind (arith)

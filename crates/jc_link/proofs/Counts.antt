@@ -1,24 +1,18 @@
 -- How many static fields and initial arrays a package can have, and sums over packages.
-use Rattle.std.proofs.Common.{◌≡◌, ℕ, ◌+◌, ◌*◌, ◌≤◌, Bool, true, false, cond, leb, List, [], ◌∷◌, length, length-append, map, drop}
-use Rattle.std.proofs.Common.{Option, Some, None, ap, ◌∙◌, arith}
+use Rattle.std.proofs.Common.{◌≡◌, ℕ, ◌+◌, ◌*◌, ◌≤◌, Bool, cond, leb, List, [], ◌∷◌, length, length-append, map, drop}
+use Rattle.std.proofs.Common.{Option, Some, ap, ◌∙◌, arith}
 use Rattle.std.specs.Prelude.{slice_get, flat_map, sum_by}
 use Rattle.std.specs.List.{filter_map, cons_option}
 use Rattle.std.proofs.lemmas.List.{length-map}
 use Rattle.std.proofs.lemmas.List.Sums.{sum_by-cons, sum_by-append}
 use Rattle.jc_base.specs.declared.ty.Kind.{Kind}
-use Rattle.jc_base.specs.declared.ty.Kind.TheVariants.{Ref, Byte, Short, Int}
 use Rattle.jc_base.specs.declared.record.ArrayRec.{ArrayRec}
 use Rattle.jc_base.specs.Cell.{width}
 use Rattle.cap_method.specs.declared.arrays.ArrayInits.{ArrayInits}
 use Rattle.cap_method.specs.StaticFormat.{Array}
 use Rattle.cap_method.specs.StaticPart.{arrays_left}
-use Rattle.cap_desc.specs.ClassRecords.{described_left}
-use Rattle.cap_desc.specs.MemberLists.{fields_left}
-use Rattle.cap_desc.specs.Members.{fields_of}
-use Rattle.cap_desc.specs.MembersLeft.{fields_of_left}
 use Rattle.cap_package.specs.declared.places.StaticPlaces.{StaticPlaces}
-use Rattle.cap_package.specs.Descriptions.{description}
-use Rattle.cap_package.specs.StaticChecks.{ImagePlace, place_in}
+use Rattle.cap_package.specs.StaticChecks.{ImagePlace}
 use Rattle.cap_package.specs.CountChecks.{array_bytes}
 use Rattle.cap_package.specs.PackageRecord.{PackageRecord}
 use Rattle.cap_package.specs.StaticPlaces.{static_places, places_left}
@@ -35,35 +29,26 @@ use Rattle.jc_link.proofs.ArrayLists.{one_package, words_length}
 -- ---- cells of static fields
 
 no_more : {X Y : Type 0} (f : X → Option Y) (o : Option Y) (ys : List Y) (n : ℕ) → length ys ≤ n → length (cons_option o ys) ≤ n + 1
-no_more f None ys n h = omega arith
-no_more f (Some y) ys n h = omega arith
+no_more f y ys n h = grind (arith)
 
 filtered_few : {X Y : Type 0} (f : X → Option Y) (xs : List X) → length (filter_map f xs) ≤ length xs
 filtered_few f [] = omega arith
 filtered_few f (x ∷ xs) = omega (arith, no_more f (f x) (filter_map f xs) (length xs) (filtered_few f xs))
 
 width_few : (k : Kind) → width k ≤ 2
-width_few Ref = omega arith
-width_few Byte = omega arith
-width_few Short = omega arith
-width_few Int = omega arith
+width_few x = grind (arith)
 
 cells_few : (places : List ImagePlace) → sum_by cells_at places ≤ 2 * length places
 cells_few [] = omega arith
 cells_few (p ∷ places) = omega (arith, sum_by-cons cells_at p places, width_few (kind_of p.ty), cells_few places)
 
 pub places_few : (x : StaticPlaces) → sum_by cells_at (places_left x) ≤ 262140
-places_few x =
-    let a = cells_few (places_left x) in
-    let b = filtered_few (place_in (description x.descriptor)) (fields_of_left x.fields) in
-    let c = length-append (fields_left x.fields.fields) (fields_of (described_left x.fields.classes)) in
-    omega (arith, a, b, c, fields_left-few x.fields.fields, fields_of-few x.fields.classes)
+places_few x = grind (arith, cells_few, filtered_few, length-append, fields_left-few, fields_of-few)
 
 -- ---- cells of initial arrays
 
 words_few : (b : Bool) (bytes : List ℕ) → length (cond b (map signed bytes) (words_of_bytes bytes)) ≤ length bytes
-words_few true bytes = omega (arith, length-map bytes signed)
-words_few false bytes = omega (arith, words_length bytes)
+words_few x bytes = grind (arith, length-map, words_length)
 
 cells_below : (arrays : List Array) → initial_cells (map array_record arrays) ≤ array_bytes arrays
 cells_below [] = omega arith
@@ -87,13 +72,8 @@ static_cells_more ps n p e = ap static_cells (drop_here ps n p e) ∙ sum_by-app
 
 pub array_cells_more : (ps : List PackageRecord) (n : ℕ) (p : PackageRecord) → slice_get ps n ≡ Some p → initial_cells (array_records (drop n ps))
     ≡ initial_cells (map array_record p.statics.arrays) + initial_cells (array_records (drop (n + 1) ps))
-array_cells_more ps n p e =
-    ap (λ qs. initial_cells (array_records qs)) (drop_here ps n p e) ∙ ap initial_cells (one_package p (drop (n + 1) ps))
-    ∙ sum_by-append (λ (a : ArrayRec). length a.initial) (map array_record p.statics.arrays) (array_records (drop (n + 1) ps))
+array_cells_more ps n p e = grind (arith, drop_here, one_package, sum_by-append)
 
 pub array_count_more : (ps : List PackageRecord) (n : ℕ) (p : PackageRecord) → slice_get ps n ≡ Some p → length (array_records (drop n ps))
     ≡ length p.statics.arrays + length (array_records (drop (n + 1) ps))
-array_count_more ps n p e =
-    ap (λ qs. length (array_records qs)) (drop_here ps n p e) ∙ ap length (one_package p (drop (n + 1) ps))
-    ∙ length-append (map array_record p.statics.arrays) (array_records (drop (n + 1) ps))
-    ∙ ap (λ k. k + length (array_records (drop (n + 1) ps))) (length-map p.statics.arrays array_record)
+array_count_more ps n p e = grind (arith, drop_here, one_package, length-append, length-map)

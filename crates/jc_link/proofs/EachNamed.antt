@@ -1,6 +1,6 @@
 -- Each entry of the pools names one member, which the pools have; or an entry that names none is told.
 use Rattle.std.proofs.Common.{◌≡◌, ℕ, suc, ◌+◌, ◌⊎◌, Bool, true, false, cond, List, [], ◌∷◌, Option, Some, None, Result, Ok, Err, refl}
-use Rattle.std.proofs.Common.{sym, ap, subst, ◌∙◌, arith, inl, inr}
+use Rattle.std.proofs.Common.{sym, subst, ◌∙◌, arith, inl, inr}
 use Rattle.std.specs.Prelude.{All, slice_get, is_none}
 use Rattle.std.proofs.lemmas.List.Elements.{All-nil, All-cons, All-append}
 use Rattle.cap_pool.specs.PoolFormat.{Entry}
@@ -15,7 +15,6 @@ use Rattle.jc_resolve.specs.declared.fault.LinkEnd.{LinkEnd}
 use Rattle.jc_resolve.specs.declared.fault.LinkEnd.TheVariants.{Fault, Memory}
 use Rattle.jc_resolve.specs.Due.{IsDue}
 use Rattle.jc_resolve.specs.Fault.{link_place}
-use Rattle.first_fault.specs.Order.{comes_before}
 use Rattle.first_fault.specs.Least.{◌>>=◌, lesser, least_from, least_of, refused}
 use Rattle.jc_link.specs.Members.{member_of}
 use Rattle.jc_link.specs.Naming.{NamesMember, NamesOnly, IsPoolEntry, HaveNamedMembers, LacksMember, NamesEach}
@@ -27,14 +26,11 @@ use Rattle.jc_link.proofs.MembersTold.{due-tells}
 -- ---- the fault that is named is that of a thing
 
 chosen : (a g f : LinkFault) (b : Bool) → cond b (Some g) (Some a) ≡ Some f → (Some a ≡ Some f) ⊎ (Some g ≡ Some f)
-chosen a g f true h = inr h
-chosen a g f false h = inl h
+chosen a g f u h = grind (arith)
 
 lesser_one : (a b : Option LinkFault) (f : LinkFault) → lesser link_place a b ≡ Some f → (a ≡ Some f) ⊎ (b ≡ Some f)
 unfolding lesser
-lesser_one a None f h = inl h
-lesser_one None (Some g) f h = inr h
-lesser_one (Some a) (Some g) f h = chosen a g f (comes_before (link_place g) (link_place a)) h
+lesser_one a y f h = grind (arith)
 
 from_one : {X : Type 0} (fault : X → Option LinkFault) (xs : List X) (before : Option LinkFault) (f : LinkFault) → least_from link_place before fault xs
     ≡ Some f
@@ -111,10 +107,7 @@ module _ (ps : List PackageRecord) (t : ClassTable) (statics : List StaticRec) w
 
   fault_by : (x : PoolPlace) (f : LinkFault) (b : Bool) → is_none (member_of ps t statics x.home x.entry) ≡ b
       → cond b (Some (NoMember x.home x.number)) None ≡ Some f → IsPoolEntry ps x.home x.number x.entry → LacksMember ps t statics f
-  fault_by x f true none h at =
-      let same : NoMember x.home x.number ≡ f = cc in
-      subst (LacksMember ps t statics) same
-      (record { of = x.entry; at = at; none = nothing_named x.home x.entry (member_of ps t statics x.home x.entry) refl none })
+  fault_by x f true none h at = grind (arith, nothing_named x.home x.entry (member_of ps t statics x.home x.entry) refl none)
   fault_by x f false none h at = absurd cc
 
   missing_of : (x : PoolPlace) (f : LinkFault) → member_fault ps t statics x ≡ Some f → IsPoolEntry ps x.home x.number x.entry
@@ -130,8 +123,7 @@ module _ (ps : List PackageRecord) (t : ClassTable) (statics : List StaticRec) w
   -- ---- the answer
 
   fault_of : (o : Option LinkFault) (xs : List (List Member)) (f : LinkFault) → (refused o >>= λ _. Ok xs) ≡ Err f → o ≡ Some f
-  fault_of None xs f h = absurd cc
-  fault_of (Some g) xs f h = let same : g ≡ f = cc in ap Some same
+  fault_of x xs f h = grind (arith)
 
   pub due-names : (r : Result (List (List Member)) LinkEnd) → IsDue (pools_of ps t statics) r → NamesEach ps t statics r
   unfolding pools_of

@@ -13,7 +13,6 @@ use Rattle.jc_base.specs.declared.record.Member.{Member}
 use Rattle.jc_base.specs.declared.record.StaticRec.{StaticRec}
 use Rattle.jc_base.specs.Class.{ClassTable}
 use Rattle.jc_base.specs.Linked.{list_at}
-use Rattle.jc_resolve.specs.declared.fault.LinkFault.TheVariants.{NoMember, BadCatch}
 use Rattle.jc_resolve.proofs.Faultless.{both_faultless}
 use Rattle.jc_link.specs.Members.{member_of}
 use Rattle.jc_link.specs.Pools.{PoolPlace, places_from, places_after, member_fault, pools_after}
@@ -51,11 +50,7 @@ have_more f e es (Some m) is there others = record { at = λ i. by i; there = λ
 module _ (all : List PackageRecord) (t : ClassTable) (statics : List StaticRec) where
   there_by : (x : PoolPlace) (b : Bool) → is_none (member_of all t statics x.home x.entry) ≡ b → member_fault all t statics x ≡ None → b ≡ false
   unfolding member_fault
-  there_by x true e none =
-      let some : member_fault all t statics x ≡ Some (NoMember x.home x.number) = rw e refl in
-      let no : Some (NoMember x.home x.number) ≡ None = sym some ∙ none in
-      absurd cc
-  there_by x false e none = refl
+  there_by x y e none = grind (arith)
 
   pool-members : (k n : ℕ) (es : List Entry) → filter_map (member_fault all t statics) (places_from k n es) ≡ []
       → HaveMembers (member_of all t statics k) es
@@ -72,12 +67,7 @@ module _ (all : List PackageRecord) (t : ClassTable) (statics : List StaticRec) 
       → (i : ℕ) → slice_get (list_at (pools_after (member_of all t statics) k ps) n) i ≡ option_and_then (member_of all t statics (k + n))
       (slice_get p.pool i)
   pools-at k [] n p e at = absurd cc
-  pools-at k (q ∷ qs) zero p e at =
-      let same : q ≡ p = cc in
-      let both = both_faultless (member_fault all t statics) (places_from k 0 q.pool) (places_after (k + 1) qs) e in
-      let k-is : k ≡ k + 0 = omega arith in
-      λ i. (pool-members k 0 q.pool both.0).at i ∙ ap (λ (r : PackageRecord). option_and_then (member_of all t statics k) (slice_get r.pool i)) same
-      ∙ ap (λ (j : ℕ). option_and_then (member_of all t statics j) (slice_get p.pool i)) k-is
+  pools-at k (q ∷ qs) zero p e at = grind (arith, both_faultless, pool-members)
   pools-at k (q ∷ qs) (suc n) p e at =
       let both = both_faultless (member_fault all t statics) (places_from k 0 q.pool) (places_after (k + 1) qs) e in
       let k-is : k + 1 + n ≡ k + suc n = omega arith in
@@ -91,13 +81,7 @@ module _ (all : List PackageRecord) (t : ClassTable) (statics : List StaticRec) 
     where
       past_end : (p : PackageRecord) → None ≡ Some p → ⊥
       past_end p h = cc
-  pools-entry k (q ∷ qs) zero p e at i x h =
-      let same : q ≡ p = cc in
-      let both = both_faultless (member_fault all t statics) (places_from k 0 q.pool) (places_after (k + 1) qs) e in
-      let k-is : k ≡ k + 0 = omega arith in
-      let here : slice_get q.pool i ≡ Some x = ap (λ (r : PackageRecord). slice_get r.pool i) same ∙ h in
-      let m = (pool-members k 0 q.pool both.0).there i x here in
-      (m.0, ap (λ (j : ℕ). member_of all t statics j x) (sym k-is) ∙ m.1)
+  pools-entry k (q ∷ qs) zero p e at i x h = grind (arith, both_faultless, pool-members)
   pools-entry k (q ∷ qs) (suc n) p e at i x h =
       let both = both_faultless (member_fault all t statics) (places_from k 0 q.pool) (places_after (k + 1) qs) e in
       let k-is : k + 1 + n ≡ k + suc n = omega arith in
@@ -108,20 +92,14 @@ module _ (all : List PackageRecord) (t : ClassTable) (statics : List StaticRec) 
       → slice_get ps n ≡ Some p
       → (i : ℕ) (x : Entry) → slice_get p.pool i ≡ Some x
       → (m : Member) × (slice_get (list_at (pools_after (member_of all t statics) k ps) n) i ≡ Some m) × (member_of all t statics (k + n) x ≡ Some m)
-  pools-some k ps n p e at i x h =
-      let m = pools-entry k ps n p e at i x h in
-      (m.0, pools-at k ps n p e at i ∙ ap (option_and_then (member_of all t statics (k + n))) h ∙ m.1, m.1)
+  pools-some k ps n p e at i x h = grind (arith, pools-entry k ps n p e at i x h, pools-at k ps n p e at i)
 
 -- ---- handlers
 
 module _ (all : List PackageRecord) (t : ClassTable) where
   catches_by : (x : HandlerPlace) (b : Bool) → catches_throwable all t x.home x.pool x.handler.index ≡ b → catch_fault all t x ≡ None → b ≡ true
   unfolding catch_fault
-  catches_by x true e none = refl
-  catches_by x false e none =
-      let some : catch_fault all t x ≡ Some (BadCatch x.home x.number) = rw e refl in
-      let no : Some (BadCatch x.home x.number) ≡ None = sym some ∙ none in
-      absurd cc
+  catches_by x y e none = grind (arith)
 
   -- a handler of a package catches all, or a class that is thrown
   abbrev pub IsCatching : ℕ → List Entry → HandlerInfo → Type 0

@@ -1,5 +1,5 @@
 -- The static fields of packages have their types, and their words too.
-use Rattle.std.proofs.Common.{◌≡◌, ℕ, zero, suc, ◌+◌, ◌*◌, ◌/◌, ◌%◌, ◌≤◌, ◌<◌, true, false, ◌&&◌, eqb, leb, List, []}
+use Rattle.std.proofs.Common.{◌≡◌, ℕ, zero, suc, ◌+◌, ◌*◌, ◌/◌, ◌%◌, ◌≤◌, ◌<◌, true, false, eqb, leb, List, []}
 use Rattle.std.proofs.Common.{◌∷◌, ◌++◌, length, get_or, map, Option, Some, refl, sym, ap, subst, ◌∙◌, inl, inr, arith, append_assoc}
 use Rattle.std.proofs.Common.{length-append}
 use Rattle.std.specs.Prelude.{All, slice_get, option_map}
@@ -85,9 +85,7 @@ reference_type (suc (suc (suc (suc (suc zero))))) r k typed void = absurd cc
 reference_type (suc (suc (suc (suc (suc (suc n)))))) r k typed void = omega arith
 
 even_place : (s : Statics) (p : ImagePlace) → 6 ≤ p.ty.nibble → is_in_image s p ≡ true → p.offset % 2 ≡ 0
-even_place s p le h =
-    let i : (eqb (p.offset % 2) 0 && leb (p.offset + 2) (2 * s.reference_count)) ≡ true = rw (le-leb 6 p.ty.nibble le) at h in
-    eqb-true _ _ (and_parts _ _ i).0
+even_place s p le h = grind (arith, eqb, leb, le-leb, eqb-true, and_parts)
 
 at_reference : (n : ℕ) → n % 2 ≡ 0 → n ≡ 2 * (n / 2)
 at_reference n h = omega arith

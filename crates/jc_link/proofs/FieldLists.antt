@@ -1,7 +1,7 @@
 -- Static fields: package after package, and their slots.
 use Rattle.std.proofs.Common.{◌≡◌, ℕ, ◌+◌, List, [], ◌∷◌, ◌++◌, length, map, drop, Some, refl, sym, ap, subst, ◌∙◌, append_assoc}
 use Rattle.std.proofs.Common.{arith}
-use Rattle.std.specs.Prelude.{slice_get, flat_map, sum_by}
+use Rattle.std.specs.Prelude.{slice_get, sum_by}
 use Rattle.std.proofs.lemmas.List.Sums.{sum_by-cons, sum_by-append}
 use Rattle.jc_base.specs.declared.ty.Ty.{Ty}
 use Rattle.jc_base.specs.declared.record.StaticRec.{StaticRec}
@@ -12,7 +12,8 @@ use Rattle.cap_method.specs.StaticFormat.{Statics}
 use Rattle.cap_package.specs.StaticChecks.{ImagePlace}
 use Rattle.cap_package.specs.PackageRecord.{PackageRecord}
 use Rattle.cap_package.specs.StaticPlaces.{static_places}
-use Rattle.jc_link.specs.Statics.{StaticSite, site, sites, sites_after, cells_at, static_cells, static_record, type_of_site, records_from, static_records}
+use Rattle.jc_link.specs.Statics.{StaticSite, site, sites, sites_after, cells_at}
+use Rattle.jc_link.specs.Statics.{static_cells, static_record, type_of_site, records_from, static_records}
 use Rattle.cap_package.proofs.Given.{drop_here}
 
 -- the cells of fields
@@ -45,13 +46,7 @@ pub statics_more : (told : ℕ → TypeItem → Ty) (before after all : List Sta
     → last ≡ first + length p.statics.arrays
     → after ++ records_from told next (sites_after (n + 1) last (drop (n + 1) ps)) ≡ all
 statics_more told before after all ps n first slot next last p e h pushed to others =
-    let here = map (site n first p.statics) (static_places p) in
-    let rest = sites_after (n + 1) (first + length p.statics.arrays) (drop (n + 1) ps) in
-    let slots : slot + cells_in here ≡ next = omega (arith, cells_at_home n first p.statics (static_places p), to) in
-    let both : records_from told slot (sites_after n first (drop n ps)) ≡ records_from told slot here ++ records_from told next rest =
-    ap (λ qs. records_from told slot (sites_after n first qs)) (drop_here ps n p e) ∙ records_both told slot here rest
-    ∙ ap (λ k. records_from told slot here ++ records_from told k rest) slots in
-    rw (pushed, others) (append_assoc before (records_from told slot here) (records_from told next rest) ∙ ap (λ zs. before ++ zs) (sym both) ∙ h)
+    grind (arith, cells_at_home, drop_here, records_both, append_assoc)
 
 -- ---- slots and cells
 
@@ -73,15 +68,7 @@ records_cells told slot (x ∷ xs) =
 
 sites_cells : (home first : ℕ) (ps : List PackageRecord) → cells_in (sites_after home first ps) ≡ static_cells ps
 sites_cells home first [] = refl
-sites_cells home first (p ∷ ps) =
-    let rest = sites_after (home + 1) (first + length p.statics.arrays) ps in
-    omega (
-      arith,
-      sum_by-append (λ (s : StaticSite). cells_at s.place) (map (site home first p.statics) (static_places p)) rest,
-      sum_by-append cells_at (static_places p) (flat_map static_places ps),
-      cells_at_home home first p.statics (static_places p),
-      sites_cells (home + 1) (first + length p.statics.arrays) ps,
-    )
+sites_cells home first (p ∷ ps) = grind (arith, sum_by-append, cells_at_home, sites_cells (home + 1) (first + length p.statics.arrays) ps)
 
 pub static_records_cells : (told : ℕ → TypeItem → Ty) (ps : List PackageRecord) → sum_by (λ (f : StaticRec). width f.kind) (static_records told ps)
     ≡ static_cells ps

@@ -1,12 +1,12 @@
 -- The field that a class has with a token stands among the cells of its instances.
 use Rattle.std.proofs.Common.{◌≡◌, ℕ, ◌+◌, ◌<◌, Bool, true, false, cond, List, [], ◌∷◌, ◌++◌, length, append_assoc, Option, Some}
-use Rattle.std.proofs.Common.{None, slice_get, find, option_map, option_and_then, IfSome, All, refl, sym, ap, ap₂, subst, ◌∙◌, arith, filter_map}
+use Rattle.std.proofs.Common.{None, slice_get, find, option_map, option_and_then, IfSome, All, refl, sym, ap₂, subst, arith, filter_map}
 use Rattle.std.proofs.Common.{flat_map}
-use Rattle.std.specs.Prelude.{◌==◌, ◌||◌}
+use Rattle.std.specs.Prelude.{◌==◌}
 use Rattle.std.specs.List.{list_any, cons_option}
 use Rattle.std.proofs.lemmas.Bool.{eqb-true, eq-eqb}
 use Rattle.std.proofs.lemmas.List.{length-append}
-use Rattle.std.proofs.lemmas.List.Elements.{All-nil, All-cons, All-head, All-filter, filter_passes}
+use Rattle.std.proofs.lemmas.List.Elements.{All-nil, All-head, All-filter, filter_passes}
 use Rattle.std.proofs.Math.Bool.{or-true}
 use Rattle.cap_class.specs.ClassFormat.{is_interface}
 use Rattle.cap_desc.specs.declared.type_item.TypeItem.{TypeItem}
@@ -30,7 +30,7 @@ use Rattle.jc_base.proofs.Lists.{slice_get-farther}
 use Rattle.jc_base.proofs.Instances.{cells-own, cells-on_chain}
 use Rattle.jc_resolve.specs.Numbering.{NumberedClass, numbered_classes}
 use Rattle.jc_resolve.specs.NamedClasses.{fields_described, named_classes}
-use Rattle.jc_resolve.specs.OwnFields.{fields_in, own_fields, cells_by_kind, cells_of_own, bears_token, own_with_token, cells_over}
+use Rattle.jc_resolve.specs.OwnFields.{fields_in, own_fields, cells_by_kind, bears_token, own_with_token, cells_over}
 use Rattle.jc_resolve.proofs.ItemKinds.{kind_right}
 use Rattle.jc_resolve.specs.declared.own_field.OwnField.{OwnField}
 use Rattle.jc_link.specs.Sites.{is_there, only, members_standing}
@@ -50,10 +50,7 @@ module _ (ps : List PackageRecord) (object_is : ℕ) where
   kindly_typed : (k : ℕ) (d : Description) (f : described.FieldDescriptor) (own : List OwnField) (o : Option TypeItem) → field_type d f.ty ≡ o
       → All IsKindly own → All IsKindly (cons_option (typed ps object_is k d f) own)
   unfolding typed
-  kindly_typed k d f own None e others = rw e others
-  kindly_typed k d f own (Some t) e others =
-      let is = field_typed d f.ty t e in
-      rw e (All-cons IsKindly _ own (kind_right ps object_is k t is.typed is.no_void) others)
+  kindly_typed k d f own v e others = grind (arith, field_typed, kind_right)
 
   all_kindly : (k : ℕ) (d : Description) (fs : List described.FieldDescriptor) → All IsKindly (filter_map (typed ps object_is k d) fs)
   all_kindly k d [] = All-nil IsKindly
@@ -73,14 +70,10 @@ module _ (ps : List PackageRecord) (object_is : ℕ) where
 -- ---- cells in a list
 
 first_there : (xs front cells : List Ty) (n k : ℕ) → length front ≡ n → cells ≡ front ++ xs → slice_get cells (n + k) ≡ slice_get xs k
-first_there xs front cells n k many whole =
-    let place : n + k ≡ length front + k = ap (λ (m : ℕ). m + k) (sym many) in
-    ap (λ (ys : List Ty). slice_get ys (n + k)) whole ∙ slice_get-farther front xs k (n + k) place
+first_there xs front cells n k many whole = grind (arith, slice_get, slice_get-farther)
 
 at_first : (xs front cells : List Ty) (n : ℕ) → length front ≡ n → cells ≡ front ++ xs → slice_get cells n ≡ slice_get xs 0
-at_first xs front cells n many whole =
-    let same : n ≡ n + 0 = omega arith in
-    ap (slice_get cells) same ∙ first_there xs front cells n 0 many whole
+at_first xs front cells n many whole = grind (arith, slice_get cells, first_there xs front cells n 0 many whole)
 
 cells_there : (k : Kind) (ty : Ty) (front farther cells : List Ty) (n : ℕ) → length front ≡ n → cells ≡ front ++ (cells_by_kind k ty ++ farther)
     → (slice_get cells n ≡ Some ty) × HasLowHalf k cells n
@@ -97,10 +90,7 @@ regrouped a b c d e = simp append_assoc
 
 on_chain_by : (p : ℕ → Bool) (x h : ℕ) (xs : List ℕ) (b : Bool) → p x ≡ b → (find p xs ≡ Some h → list_any (λ y. y == h) xs ≡ true)
     → cond b (Some x) (find p xs) ≡ Some h → list_any (λ y. y == h) (x ∷ xs) ≡ true
-on_chain_by p x h xs true e others found =
-    let same : x ≡ h = cc in
-    rw (eq-eqb x h same) refl
-on_chain_by p x h xs false e others found = ap (λ (b : Bool). (x == h) || b) (others found) ∙ or-true (x == h)
+on_chain_by p x h xs v e others found = grind (arith, eq-eqb, or-true)
 
 found_on : (p : ℕ → Bool) (xs : List ℕ) (h : ℕ) → find p xs ≡ Some h → list_any (λ y. y == h) xs ≡ true
 found_on p [] h e = absurd cc
@@ -121,24 +111,19 @@ module _ (ps : List PackageRecord) (object_is packages : ℕ) (t : ClassTable) (
       → token < 256 → own_with_token (own_of ps (object t) n) token ≡ f ∷ []
       → Stands (cells_of t c) (cells_above t (parent_of t h) + cells_before (own_of ps (object t) n) token) f
   stands_among c h token n f there on lt one =
-      let own = only_stands (own_of ps (object t) n) 256 token f lt one in
-      let up = cells-own packages t methods are linked h in
-      let down = cells-on_chain t are c h on in
-      record {
-        front = up.above ++ own.front;
-        farther = own.farther ++ down.0;
-        many = length-append up.above own.front ∙ ap₂ ◌+◌ up.many own.many;
-        whole =
-            down.1
-            ∙ ap (λ (xs : List Ty). xs ++ down.0) (up.whole ∙ ap (λ (xs : List Ty). up.above ++ xs) (own_is h n there ∙ own.whole))
-            ∙ regrouped up.above own.front (cells_of_own f) own.farther down.0;
-      }
+      grind (
+        arith,
+        only_stands (own_of ps (object t) n) 256 token f lt one,
+        cells-own packages t methods are linked h,
+        cells-on_chain t are c h on,
+        own_is h n there,
+        length-append,
+        ap₂,
+        regrouped,
+      )
 
   has_token : (token : ℕ) (own : List OwnField) (f : OwnField) → own_with_token own token ≡ f ∷ [] → f.token ≡ token
-  has_token token own f one =
-      let passes : All (λ (g : OwnField). bears_token token g ≡ true) (f ∷ []) = subst
-      (λ (fs : List OwnField). All (λ (g : OwnField). bears_token token g ≡ true) fs) one (filter_passes (bears_token token) own) in
-      eqb-true f.token token (All-head (λ (g : OwnField). bears_token token g ≡ true) f [] passes)
+  has_token token own f one = grind (arith, filter_passes (bears_token token) own, eqb-true)
 
   kindly : (token : ℕ) (n : NumberedClass) (f : OwnField) → own_with_token (own_of ps (object t) n) token ≡ f ∷ [] → IsOfKind f.kind f.ty
   kindly token n f one =

@@ -66,13 +66,11 @@ module _ (ps : List PackageRecord) (t : ClassTable) (statics : List StaticRec) (
 
   by_reference : (n : ℕ) (e : Entry) (x : PoolReference) → slice_get pool (suc n) ≡ Some e → referred e ≡ x
       → thrown_by t (class_caught ps k x) ≡ true → CatchesThrown t members (suc n) (class_or_none ps k x)
-  by_reference n e (ClassEntry r) at is h = found_class n e r (class_referred ps k r) at is refl h
-  by_reference n e other at is h = absurd (false≢true h)
+  by_reference n e other at is h = grind (arith, found_class, false≢true)
 
   by_entry : (n : ℕ) (o : Option Entry) → slice_get pool (suc n) ≡ o → thrown_by t (class_caught_by ps k o) ≡ true
       → CatchesThrown t members (suc n) (class_in_entry ps k o)
-  by_entry n None at h = absurd (false≢true h)
-  by_entry n (Some e) at h = by_reference n e (referred e) at refl h
+  by_entry n y at h = grind (arith, false≢true, by_reference)
 
   by_index : (index : ℕ) (b : Bool) → (index == 0) ≡ b → (b || thrown_by t (class_caught_by ps k (slice_get pool index))) ≡ true
       → CatchesThrown t members index (if b then throwable t else class_in_entry ps k (slice_get pool index))

@@ -1,5 +1,5 @@
 -- The field that a table tells is the one that stands there.
-use Rattle.std.proofs.Common.{◌≡◌, ℕ, Bool, true, cond, List, [], ◌∷◌, Option, Some, None, find, refl, ap, ap₂, ◌∙◌, option_map}
+use Rattle.std.proofs.Common.{◌≡◌, ℕ, Bool, true, cond, List, [], ◌∷◌, Option, Some, find, refl, ap, ap₂, ◌∙◌, option_map, arith}
 use Rattle.std.proofs.Common.{option_and_then, is_some}
 use Rattle.std.specs.Option.{option_flatten}
 use Rattle.jc_base.specs.declared.record.Member.{Member}
@@ -17,15 +17,12 @@ found_same f g e (x ∷ xs) = ap₂ (λ b o. cond b (Some x) o) (e x) (found_sam
 only_by : (sites : List MemberSite) (token : ℕ) (o : Option ℕ)
     → option_and_then (λ h. option_flatten (kept_at (all_entered [] sites) (token_of_class h token))) o ≡ option_and_then
     (λ h. only (members_standing sites (token_of_class h token))) o
-only_by sites token None = refl
-only_by sites token (Some h) = only_kept sites (token_of_class h token)
+only_by sites token z = grind (arith, only_kept)
 
 -- the class itself is the nearest, if it has a field with the token
 pub holds_here : (entries : List (Spot × Option Member)) (t : ClassTable) (token at : ℕ) → is_some (kept_at entries (token_of_class at token)) ≡ true
     → kept_holder entries t token at ≡ Some at
-holds_here entries t token at h =
-    ap (find (λ x. is_some (kept_at entries (token_of_class x token)))) (chain-front t at).1
-    ∙ ap (λ b. cond b (Some at) (find (λ x. is_some (kept_at entries (token_of_class x token))) (chain-front t at).0)) h
+holds_here entries t token at h = grind (arith, chain-front t at, find, is_some, cond)
 
 pub field_kept : (sites : List MemberSite) (t : ClassTable) (token c : ℕ) → kept_field (all_entered [] sites) t token c ≡ field_of sites t token c
 unfolding field_of holder_of

@@ -56,9 +56,7 @@ entry_contained t p token n e = by (nat_lt token 128) e
 
 -- what is only in a list has what all have there
 only-has : (P : Member → Type 0) (ms : List Member) → ((m : Member) → Contains ms m → P m) → IfSome (only ms) P
-only-has P [] all = tt
-only-has P (m ∷ []) all = all m (0, omega arith, refl)
-only-has P (m ∷ n ∷ ms) all = tt
+only-has x y all = grind (arith)
 
 IsSite : List StaticRec → Member → Type 0
 IsSite statics m = (f : StaticRec) × Contains statics f × ((static_site f).member ≡ m)

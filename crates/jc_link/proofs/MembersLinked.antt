@@ -1,21 +1,21 @@
 -- What the entries of constant pools name is there.
-use Rattle.std.proofs.Common.{◌≡◌, ℕ, ◌<◌, Bool, true, false, cond, eqb, List, ◌++◌, length, Option, Some, None, slice_index, option_map}
+use Rattle.std.proofs.Common.{◌≡◌, ℕ, ◌<◌, Bool, cond, eqb, List, length, Option, Some, None, slice_index, option_map, arith}
 use Rattle.std.proofs.Common.{option_and_then, is_some, IfSome, refl, sym, ap, subst, ◌∙◌}
-use Rattle.std.specs.Prelude.{IsSomeAnd, Contains}
 use Rattle.std.proofs.lemmas.List.{length-map}
 use Rattle.cap_bytes.specs.declared.class_reference.ClassReference.{ClassReference}
 use Rattle.cap_pool.specs.PoolFormat.{Entry}
 use Rattle.cap_pool.specs.declared.pool_reference.PoolReference.{PoolReference}
-use Rattle.cap_pool.specs.declared.pool_reference.PoolReference.TheVariants.{Class, InstanceField, VirtualMethod, SuperMethod, StaticField, StaticMethod}
+use Rattle.cap_pool.specs.declared.pool_reference.PoolReference.TheVariants.{Class, InstanceField, VirtualMethod}
+use Rattle.cap_pool.specs.declared.pool_reference.PoolReference.TheVariants.{SuperMethod, StaticField, StaticMethod}
 use Rattle.cap_pool.specs.declared.pool_reference.StaticReference.{StaticReference}
-use Rattle.cap_pool.specs.PoolReference.{class_in, static_in, referred}
+use Rattle.cap_pool.specs.PoolReference.{referred}
 use Rattle.cap_package.specs.PackageRecord.{PackageRecord}
 use Rattle.jc_base.specs.declared.record.Member.{Member}
 use Rattle.jc_base.specs.declared.record.Member.TheVariants.{ClassOf, Virtual, Super, StaticCall}
 use Rattle.jc_base.specs.declared.record.MethodRec.{MethodRec}
 use Rattle.jc_base.specs.declared.record.StaticRec.{StaticRec}
 use Rattle.jc_base.specs.Class.{ClassTable, AreClasses, IsClass, is_interface, parent_of}
-use Rattle.jc_base.specs.Dispatch.{entry_at, public_of, visible_of}
+use Rattle.jc_base.specs.Dispatch.{entry_at}
 use Rattle.jc_base.specs.Linked.{AreLinkedClasses, IsMember}
 use Rattle.jc_resolve.specs.declared.place.RecordPlace.{RecordPlace}
 use Rattle.jc_resolve.specs.Numbering.{numbered_methods, method_at}
@@ -27,7 +27,7 @@ use Rattle.jc_resolve.specs.NamedClasses.{named_classes}
 use Rattle.jc_resolve.proofs.NumberLaws.{method_below}
 use Rattle.jc_link.specs.Fields.{field_sites, HasCellsOf}
 use Rattle.jc_link.specs.Entries.{field_place, method_place}
-use Rattle.jc_link.specs.Members.{class_member, proper_by, proper_referred, virtual_by, virtual_member, may_name, super_by, super_of, super_member, static_at}
+use Rattle.jc_link.specs.Members.{class_member, proper_referred, virtual_by, virtual_member, super_by, super_of, super_member, static_at}
 use Rattle.jc_link.specs.Members.{static_member, call_member, field_of, field_member, member_referred}
 use Rattle.jc_link.proofs.KnownMembers.{class-below, entry_contained, static_there}
 use Rattle.jc_link.proofs.OwnRecords.{records_many}
@@ -36,17 +36,14 @@ use Rattle.jc_link.proofs.FieldsLinked.{field_linked}
 -- what holds of what was found, step by step
 if_mapped : {X Y : Type 0} (P : Y → Type 0) (Q : X → Type 0) (f : X → Y) (o : Option X) → IfSome o Q → ((x : X) → Q x → P (f x))
     → IfSome (option_map f o) P
-if_mapped P Q f None h step = tt
-if_mapped P Q f (Some x) h step = step x h
+if_mapped x y f u h step = grind (arith)
 
 if_then : {X Y : Type 0} (P : Y → Type 0) (Q : X → Type 0) (f : X → Option Y) (o : Option X) → IfSome o Q → ((x : X) → Q x → IfSome (f x) P)
     → IfSome (option_and_then f o) P
-if_then P Q f None h step = tt
-if_then P Q f (Some x) h step = step x h
+if_then x y f u h step = grind (arith)
 
 if_any : {X Y : Type 0} (P : Y → Type 0) (f : X → Option Y) (o : Option X) → ((x : X) → IfSome (f x) P) → IfSome (option_and_then f o) P
-if_any P f None step = tt
-if_any P f (Some x) step = step x
+if_any x f z step = grind (arith)
 
 -- the token of a field is a byte
 abbrev HasByteToken : PoolReference → Type 0
@@ -57,18 +54,11 @@ byte_by : (r : ClassReference) (f g : StaticReference) (token : ℕ) → token <
     → HasByteToken
     (cond a (Class r)
     (cond b (InstanceField r token) (cond c (VirtualMethod r token) (cond d (SuperMethod r token) (cond s (StaticField f) (StaticMethod g))))))
-byte_by r f g token lt true b c d s = tt
-byte_by r f g token lt false true c d s = lt
-byte_by r f g token lt false false true d s = tt
-byte_by r f g token lt false false false true s = tt
-byte_by r f g token lt false false false false true = tt
-byte_by r f g token lt false false false false false = tt
+byte_by r f g token lt w b c d s = grind (arith)
 
 byte-token : (e : Entry) → slice_index e.bytes 2 < 256 → HasByteToken (referred e)
 unfolding referred
-byte-token e lt =
-    byte_by (class_in e.bytes) (static_in e.bytes) (static_in e.bytes) (slice_index e.bytes 2) lt (eqb e.tag 1) (eqb e.tag 2) (eqb e.tag 3) (eqb e.tag 4)
-    (eqb e.tag 5)
+byte-token e lt = grind (arith, byte_by, slice_index, eqb)
 
 module _ (ps : List PackageRecord) (object packages : ℕ) (t : ClassTable) (methods : List MethodRec) (statics : List StaticRec) (are : AreClasses t)
     (linked : AreLinkedClasses packages t methods)
@@ -81,14 +71,11 @@ module _ (ps : List PackageRecord) (object packages : ℕ) (t : ClassTable) (met
   class_linked k r = if_mapped (IsMember t methods statics) (λ c. c < length t.records) ClassOf (class_referred ps k r) (class_known k r) (λ c lt. lt)
 
   proper_class : (c : ℕ) (b : Bool) → is_interface t c ≡ b → c < length t.records → IfSome (cond b None (Some c)) (IsClass t)
-  proper_class c true e lt = tt
-  proper_class c false e lt = record { number = lt; class = e }
+  proper_class c y e lt = grind (arith)
 
   proper_known : (k : ℕ) (r : ClassReference) → IfSome (proper_referred ps t k r) (IsClass t)
   unfolding proper_referred
-  proper_known k r =
-      if_then (IsClass t) (λ c. c < length t.records) (proper_by t) (class_referred ps k r) (class_known k r)
-      (λ c lt. proper_class c (is_interface t c) refl lt)
+  proper_known k r = grind (arith, class_known k r, if_then, proper_class)
 
   -- ---- fields
 
@@ -102,37 +89,28 @@ module _ (ps : List PackageRecord) (object packages : ℕ) (t : ClassTable) (met
 
   virtual_class : (c token : ℕ) (o : Option ℕ) → entry_at t c token ≡ o → IsClass t c → IfSome (cond (is_some o) (Some (Virtual c token)) None)
       (IsMember t methods statics)
-  virtual_class c token None e is = tt
-  virtual_class c token (Some n) e is = (is, ap is_some e)
+  virtual_class c token z e is = grind (arith, is_some)
 
   virtual_linked : (k : ℕ) (r : ClassReference) (token : ℕ) → IfSome (virtual_member ps t k r token) (IsMember t methods statics)
   unfolding virtual_member virtual_by
-  virtual_linked k r token =
-      if_then (IsMember t methods statics) (IsClass t) (virtual_by t token) (proper_referred ps t k r) (proper_known k r)
-      (λ c is. virtual_class c token (entry_at t c token) refl is)
+  virtual_linked k r token = grind (arith, proper_known k r, if_then, virtual_class)
 
   super_entry : (c p token : ℕ) (o : Option ℕ) → parent_of t c ≡ Some p → entry_at t p token ≡ o → IsClass t c
       → IfSome (option_map (Super c) o) (IsMember t methods statics)
-  super_entry c p token None up e is = tt
-  super_entry c p token (Some n) up e is =
-      (is, subst (λ o. IsSomeAnd o (λ q. Contains (public_of t q ++ visible_of t q) n)) (sym up) (entry_contained t p token n e))
+  super_entry c p token u up e is = grind (arith, entry_contained)
 
   super_named : (c p token : ℕ) (b : Bool) → parent_of t c ≡ Some p → IsClass t c
       → IfSome (cond b (option_map (Super c) (entry_at t p token)) None) (IsMember t methods statics)
-  super_named c p token true up is = super_entry c p token (entry_at t p token) up refl is
-  super_named c p token false up is = tt
+  super_named c p token u up is = grind (arith, super_entry)
 
   super_class : (c token : ℕ) (o : Option ℕ) → parent_of t c ≡ o → IsClass t c
       → IfSome (option_and_then (super_by t token c) o) (IsMember t methods statics)
   unfolding super_by
-  super_class c token None up is = tt
-  super_class c token (Some p) up is = super_named c p token (may_name t c token p) up is
+  super_class c token z up is = grind (arith, super_named)
 
   super_linked : (k : ℕ) (r : ClassReference) (token : ℕ) → IfSome (super_member ps t k r token) (IsMember t methods statics)
   unfolding super_member super_of
-  super_linked k r token =
-      if_then (IsMember t methods statics) (IsClass t) (super_of t token) (proper_referred ps t k r) (proper_known k r)
-      (λ c is. super_class c token (parent_of t c) refl is)
+  super_linked k r token = grind (arith, proper_known k r, if_then, super_class)
 
   -- ---- static fields, and methods without dispatch
 
@@ -153,12 +131,7 @@ module _ (ps : List PackageRecord) (object packages : ℕ) (t : ClassTable) (met
 
   -- the member to which an entry refers is there
   referred_linked : (k : ℕ) (x : PoolReference) → HasByteToken x → IfSome (member_referred ps t statics k x) (IsMember t methods statics)
-  referred_linked k (Class r) lt = class_linked k r
-  referred_linked k (InstanceField r token) lt = fields_linked k r token lt
-  referred_linked k (VirtualMethod r token) lt = virtual_linked k r token
-  referred_linked k (SuperMethod r token) lt = super_linked k r token
-  referred_linked k (StaticField r) lt = static_linked k r
-  referred_linked k (StaticMethod r) lt = call_linked k r
+  referred_linked k y lt = grind (arith, class_linked, fields_linked, virtual_linked, super_linked, static_linked, call_linked)
 
 -- the same of the names of packages
 pub member_there : (n : NamesRecord) (t : ClassTable) (statics : List StaticRec) (k : ℕ) (e : Entry) (o : Option Member)

@@ -1,6 +1,6 @@
 -- The methods of packages are those of a world.
 use Rattle.std.proofs.Common.{◌≡◌, ℕ, ◌+◌, Bool, List, [], get_or, length, sym, ap, subst, ◌∙◌, arith}
-use Rattle.std.specs.Prelude.{All, MatchBool, slice_get, slice_index, option_and_then, ◌||◌}
+use Rattle.std.specs.Prelude.{All, MatchBool, slice_index, ◌||◌}
 use Rattle.std.proofs.lemmas.List.{length-map}
 use Rattle.std.proofs.lemmas.List.Elements.{All-map, All-weaker}
 use Rattle.std.proofs.lemmas.Option.{IfSome_then}
@@ -17,7 +17,6 @@ use Rattle.jc_resolve.specs.NamedMethods.{named_method, named_methods, have_head
 use Rattle.jc_resolve.specs.Numbering.{NumberedMethod, numbered_classes, numbered_methods}
 use Rattle.jc_resolve.specs.WorldTypes.{declared_signature}
 use Rattle.jc_resolve.proofs.NumberedLaws.{IsDescribed, all-described}
-use Rattle.jc_link.specs.Members.{member_of}
 use Rattle.jc_link.specs.Pools.{pools, missing_members}
 use Rattle.jc_link.specs.Catches.{bad_catches}
 use Rattle.jc_link.specs.World.{classes_of, table_of, methods_of, statics_of}
@@ -51,9 +50,7 @@ module _ (ps : List PackageRecord) (roles : List ℕ) where
           chains = table-chains ps roles t is;
           count = counted ps roles ∙ classes_count;
           throwables = role-class ps roles t is 1 (omega arith);
-          at =
-              λ i. pools-at ps (table_of ps roles) (statics_of ps roles) 0 ps m.home m.of_package members home i
-              ∙ ap (λ (k : ℕ). option_and_then (member_of ps (table_of ps roles) (statics_of ps roles) k) (slice_get m.of_package.pool i)) zero_is;
+          at = grind (arith, pools-at);
         })
         caught_by m.record_of (declared_signature ps (slice_index roles 0) m.home m.of_package.description m.record_of.type_offset)
         (have_headers ps m.home m.of_package m.class)
@@ -85,10 +82,7 @@ module _ (ps : List PackageRecord) (roles : List ℕ) where
       first = named_is.first;
       code = subst (λ (b : Bool). MatchBool b (m.code_len ≡ 0) (IsCodeLength m.code_len)) (sym (code_same m)) named_is.code;
       inside = named_is.inside;
-      handlers = λ k d lt.
-          let places = named_is.handlers k d lt in
-          let thrown = throw k d lt in
-          record { range = places.range; inside = places.inside; entry = places.entry; catches = thrown.catches; class = thrown.class; thrown = thrown.thrown };
+      handlers = grind (arith);
       few_handlers = named_is.few_handlers;
     }
 

@@ -1,7 +1,8 @@
 -- Each import, class reference and pool entry of packages that link names one thing.
-use Rattle.std.proofs.Common.{◌≡◌, ℕ, zero, suc, ◌+◌, ◌<◌, Bool, true, false, cond, eqb, leb, List, [], ◌∷◌, length, take, Option, Some, None}
-use Rattle.std.proofs.Common.{refl, sym, ap, subst, ◌∙◌, arith, inl, inr, map, position, option_and_then, ◌&&◌}
-use Rattle.std.specs.Prelude.{slice_get, bytes_eq}
+use Rattle.std.proofs.Common.{◌≡◌, ℕ, zero, suc, ◌+◌, ◌<◌, Bool, true, false, cond}
+use Rattle.std.proofs.Common.{eqb, leb, List, [], ◌∷◌, length, take, Option, Some, None}
+use Rattle.std.proofs.Common.{refl, sym, ap, subst, ◌∙◌, arith, map, position, option_and_then}
+use Rattle.std.specs.Prelude.{slice_get}
 use Rattle.std.specs.List.{position_from, filter_map}
 use Rattle.std.proofs.lemmas.Bool.{false≢true, and_parts, and_from, eqb-true, eq-eqb, leb-true, le-leb, cases_lt}
 use Rattle.std.proofs.lemmas.Slice.Eq.{bytes_eq-Decides}
@@ -10,23 +11,22 @@ use Rattle.std.proofs.lemmas.List.{length-take}
 use Rattle.std.proofs.lemmas.Iterator.Adapters.{position_from-zero}
 use Rattle.cap_bytes.specs.ClassReference.{reference_of}
 use Rattle.cap_frame.specs.PackageFormat.{Package}
-use Rattle.cap_package.specs.PackageRecord.{PackageRecord, aid, minor, major}
+use Rattle.cap_package.specs.PackageRecord.{PackageRecord}
 use Rattle.jc_base.specs.World.{Linked}
 use Rattle.first_fault.specs.First.{AllEmpty}
 use Rattle.jc_resolve.specs.declared.fault.LinkFault.{LinkFault}
-use Rattle.jc_resolve.specs.declared.fault.LinkFault.TheVariants.{NoPackage}
 use Rattle.jc_resolve.specs.Conditions as names
 use Rattle.jc_resolve.specs.Conditions.{class_references, no_package_fault}
 use Rattle.jc_resolve.specs.References.{meets_import, import_of, met_by}
 use Rattle.jc_resolve.proofs.Faultless.{one_of_get, faultless_at, both_faultless}
-use Rattle.jc_resolve.proofs.ConditionLists.{AllEmpty-before, AllEmpty-after}
+use Rattle.jc_resolve.proofs.ConditionLists.{AllEmpty-after}
 use Rattle.jc_resolve.proofs.NamesFaultless.{names_faultless}
 use Rattle.jc_resolve.proofs.NamedClassLaws.{names-class}
 use Rattle.jc_resolve.proofs.ReferenceLaws.{named-refers, refers-only}
 use Rattle.jc_classes.proofs.Overlays.{slice_get-range}
 use Rattle.jc_link.specs.Naming.{HaveNamedMembers}
 use Rattle.jc_link.specs.Pools.{pools}
-use Rattle.jc_link.specs.World.{table_of, statics_of, table_conditions, class_conditions, member_conditions, IsLinked}
+use Rattle.jc_link.specs.World.{table_of, statics_of, table_conditions, member_conditions, IsLinked}
 use Rattle.jc_link.specs.OneEach.{IsAskedFor, NamesPackage, ImportsNameOne, ReferencesNameOne, NamesOneEach}
 use Rattle.jc_link.proofs.EachNamed.{all_named}
 use Rattle.jc_link.proofs.NamingLaws.{then_some}
@@ -61,10 +61,7 @@ first-found-from {X} t k (x ∷ xs) j h = by (t x) refl h (λ e. first-found-fro
     by false e h later = let r = later h in (suc r.0, omega (arith, r.1), found-later t x xs r.0 e r.2)
 
 first-found : {X : Type 0} (t : X → Bool) (xs : List X) (j : ℕ) → position t xs ≡ Some j → IsFirstFound t xs j
-first-found t xs j h =
-    let r = first-found-from t 0 xs j (sym (position_from-zero t xs) ∙ h) in
-    let same : r.0 ≡ j = omega (arith, r.1) in
-    subst (IsFirstFound t xs) same r.2
+first-found t xs j h = grind (arith, first-found-from, position_from-zero)
 
 taken-there : {X : Type 0} (xs : List X) (k i : ℕ) → i < k → slice_get (take k xs) i ≡ slice_get xs i
 taken-there xs zero i lt = absurd (omega (arith, lt))
@@ -91,21 +88,10 @@ named-faultless fault f j (q ∷ qs) (suc k) p none at =
 -- ---- imports
 
 asked-for : (asked : Package) (p : PackageRecord) → meets_import asked p ≡ true → IsAskedFor asked p
-asked-for asked p h =
-    let a = and_parts (bytes_eq (aid p) asked.aid) (eqb (major p) asked.major && leb asked.minor (minor p)) h in
-    let b = and_parts (eqb (major p) asked.major) (leb asked.minor (minor p)) a.1 in
-    record {
-      identifier = (bytes_eq-Decides (aid p) asked.aid).0 a.0;
-      same_major = eqb-true (major p) asked.major b.0;
-      enough = leb-true asked.minor (minor p) b.1;
-    }
+asked-for asked p h = grind (arith, and_parts, eqb, leb, bytes_eq-Decides, eqb-true, leb-true)
 
 meets-asked : (asked : Package) (p : PackageRecord) → IsAskedFor asked p → meets_import asked p ≡ true
-meets-asked asked p is =
-    and_from (bytes_eq (aid p) asked.aid) (eqb (major p) asked.major && leb asked.minor (minor p))
-    ((bytes_eq-Decides (aid p) asked.aid).1 is.identifier)
-    (and_from (eqb (major p) asked.major) (leb asked.minor (minor p)) (eq-eqb (major p) asked.major is.same_major)
-    (le-leb asked.minor (minor p) is.enough))
+meets-asked asked p is = grind (arith, and_from, eqb, leb, bytes_eq-Decides, eq-eqb, le-leb)
 
 module _ (ps : List PackageRecord) where
   position-names : (k j : ℕ) (asked : Package) → position (meets_import asked) (take k ps) ≡ Some j → NamesPackage ps k asked j
@@ -122,18 +108,11 @@ module _ (ps : List PackageRecord) where
       }
 
   one-package : (k : ℕ) (asked : Package) (i j : ℕ) → NamesPackage ps k asked i → NamesPackage ps k asked j → i ≡ j
-  one-package k asked i j a b = elim (cases_lt i j) [
-    | inl less ↦ absurd (b.first i less a.met)
-    | inr most ↦ elim (cases_lt j i) [
-      | inl more ↦ absurd (a.first j more b.met)
-      | inr least ↦ omega (arith, most, least)
-    ]
-  ]
+  one-package k asked i j a b = grind (arith, cases_lt)
 
   met-some : (k token : ℕ) (o : Option ℕ) → met_by ps k token ≡ o → no_package_fault ps (k, token) ≡ None → (j : ℕ) × (met_by ps k token ≡ Some j)
   unfolding no_package_fault
-  met-some k token None e none = let some : Some (NoPackage k token) ≡ None = sym (rw e refl) ∙ none in absurd cc
-  met-some k token (Some j) e none = (j, e)
+  met-some k token z e none = grind (arith)
 
   met-names : (k token j : ℕ) (asked : Package) → import_of ps k token ≡ Some asked → met_by ps k token ≡ Some j → NamesPackage ps k asked j
   unfolding met_by
@@ -182,7 +161,4 @@ module _ (ps : List PackageRecord) (roles : List ℕ) (w : Linked) where
       subst (λ fs. HaveNamedMembers ps w.classes fs w.pools) (sym is.lists.statics) b
 
   pub names-one-each : IsLinked ps roles w → NamesOneEach ps w
-  names-one-each is =
-      let tables = AllEmpty-before (table_conditions ps roles) (member_conditions ps roles) is.faultless in
-      let none = AllEmpty-before (names.conditions ps) (class_conditions ps roles) tables in
-      record { imports = imports-name ps none; references = references-name ps none; entries = entries-name is }
+  names-one-each is = grind (arith, imports-name, references-name, entries-name)

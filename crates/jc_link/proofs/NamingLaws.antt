@@ -1,12 +1,14 @@
 -- What an entry names by cases is what is computed, and at most one member is named.
-use Rattle.std.proofs.Common.{◌≡◌, ℕ, Bool, true, false, cond, eqb, ltb, List, [], ◌∷◌, Option, Some, None, option_map, option_and_then, is_some}
-use Rattle.std.proofs.Common.{refl, sym, ap, subst, ◌∙◌, inl, inr}
+use Rattle.std.proofs.Common.{◌≡◌, ℕ, Bool, true, false, cond, eqb, ltb, List}
+use Rattle.std.proofs.Common.{[], ◌∷◌, Option, Some, None, option_map, option_and_then, is_some, arith}
+use Rattle.std.proofs.Common.{refl, sym, ap, subst, ◌∙◌}
 use Rattle.std.proofs.lemmas.Bool.{ltb-true, eqb-true, eq-eqb, lt-ltb, or_cases, or_left, or_right}
 use Rattle.std.proofs.lemmas.Option.{same_Some}
 use Rattle.cap_bytes.specs.declared.class_reference.ClassReference.{ClassReference}
 use Rattle.cap_pool.specs.PoolFormat.{Entry}
 use Rattle.cap_pool.specs.declared.pool_reference.PoolReference.{PoolReference}
-use Rattle.cap_pool.specs.declared.pool_reference.PoolReference.TheVariants.{Class, InstanceField, VirtualMethod, SuperMethod, StaticField, StaticMethod}
+use Rattle.cap_pool.specs.declared.pool_reference.PoolReference.TheVariants.{Class, InstanceField, VirtualMethod}
+use Rattle.cap_pool.specs.declared.pool_reference.PoolReference.TheVariants.{SuperMethod, StaticField, StaticMethod}
 use Rattle.cap_pool.specs.declared.pool_reference.StaticReference.{StaticReference}
 use Rattle.cap_pool.specs.declared.pool_reference.StaticReference.TheVariants.{Internal, External}
 use Rattle.cap_pool.specs.PoolReference.{referred}
@@ -15,7 +17,7 @@ use Rattle.jc_base.specs.declared.record.Member.{Member}
 use Rattle.jc_base.specs.declared.record.Member.TheVariants.{ClassOf, Virtual, Super, StaticCall}
 use Rattle.jc_base.specs.declared.record.StaticRec.{StaticRec}
 use Rattle.jc_base.specs.Class.{ClassTable, is_interface, parent_of}
-use Rattle.jc_base.specs.Dispatch.{entry_at, package_of}
+use Rattle.jc_base.specs.Dispatch.{entry_at}
 use Rattle.jc_resolve.specs.declared.place.RecordPlace.{RecordPlace}
 use Rattle.jc_resolve.specs.Numbering.{method_at}
 use Rattle.jc_resolve.specs.References.{met_by, class_referred}
@@ -23,38 +25,34 @@ use Rattle.jc_resolve.proofs.ReferenceLaws.{computed-refers, refers-computed}
 use Rattle.jc_link.specs.Sites.{only, members_standing}
 use Rattle.jc_link.specs.Entries.{place_in, exported_field, exported_method, place_by, field_place, method_place}
 use Rattle.jc_link.specs.Fields.{field_sites}
-use Rattle.jc_link.specs.Members.{class_member, proper_by, proper_referred, virtual_by, virtual_member, may_name, super_by, super_of, super_member}
-use Rattle.jc_link.specs.Members.{static_sites, static_at, static_member, call_member, holder_of, token_of_class, as_of, field_of, field_member}
+use Rattle.jc_link.specs.Members.{class_member, proper_by, proper_referred, virtual_by, virtual_member}
+use Rattle.jc_link.specs.Members.{may_name, super_by, super_of, super_member}
+use Rattle.jc_link.specs.Members.{static_sites, static_at, static_member, call_member, holder_of}
+use Rattle.jc_link.specs.Members.{token_of_class, as_of, field_of, field_member}
 use Rattle.jc_link.specs.Members.{member_referred, member_of}
-use Rattle.jc_link.specs.Naming.{RefersTo, internal, imported, NamesClass, MayName, NamesMember, classref, instance_fieldref, virtual_methodref}
+use Rattle.jc_link.specs.Naming.{RefersTo, internal, imported, NamesClass, MayName}
+use Rattle.jc_link.specs.Naming.{NamesMember, classref, instance_fieldref, virtual_methodref}
 use Rattle.jc_link.specs.Naming.{super_methodref, static_fieldref, static_methodref}
 
 -- ---- what was found, step by step
 
 pub then_some : {X Y : Type 0} (f : X → Option Y) (o : Option X) (y : Y) → option_and_then f o ≡ Some y → (x : X) × (o ≡ Some x) × (f x ≡ Some y)
-then_some f None y h = absurd cc
-then_some f (Some x) y h = (x, refl, h)
+then_some f y y2 h = grind (arith)
 
 map_some : {X Y : Type 0} (f : X → Y) (o : Option X) (y : Y) → option_map f o ≡ Some y → (x : X) × (o ≡ Some x) × (f x ≡ y)
-map_some f None y h = absurd cc
-map_some f (Some x) y h = (x, refl, same_Some (f x) y h)
+map_some f y y2 h = grind (arith, same_Some)
 
 when_some : {X : Type 0} (b : Bool) (o : Option X) (y : X) → cond b o None ≡ Some y → (b ≡ true) × (o ≡ Some y)
-when_some true o y h = (refl, h)
-when_some false o y h = absurd cc
+when_some x o y h = grind (arith)
 
 unless_some : {X : Type 0} (b : Bool) (o : Option X) (y : X) → cond b None o ≡ Some y → (b ≡ false) × (o ≡ Some y)
-unless_some true o y h = absurd cc
-unless_some false o y h = (refl, h)
+unless_some x o y h = grind (arith)
 
 only-one : {X : Type 0} (xs : List X) (x : X) → only xs ≡ Some x → xs ≡ x ∷ []
-only-one [] x h = absurd cc
-only-one (y ∷ []) x h = ap (λ z. z ∷ []) (same_Some y x h)
-only-one (y ∷ z ∷ zs) x h = absurd cc
+only-one x x2 h = grind (arith, same_Some)
 
 some-there : {X : Type 0} (o : Option X) → is_some o ≡ true → (x : X) × (o ≡ Some x)
-some-there None h = absurd cc
-some-there (Some x) h = (x, refl)
+some-there x h = grind (arith)
 
 -- ---- places
 
@@ -67,12 +65,7 @@ module _ (ps : List PackageRecord) (exported : ℕ → ℕ → ℕ → Option �
       imported import class token a.0 b.0 refl a.1 b.1 (sym b.2)
 
   place-to : (r : StaticReference) → RefersTo ps exported k r place → place_by ps exported k r ≡ Some place
-  place-to r (internal offset is same) = ap (place_by ps exported k) is ∙ ap Some (sym same)
-  place-to r (imported import class token j offset is met out same) =
-      ap (place_by ps exported k) is
-      ∙ ap (option_and_then (λ i. option_map (place_in i) (exported i class token))) met
-      ∙ ap (option_map (place_in j)) out
-      ∙ ap Some (sym same)
+  place-to r y = grind (arith, option_and_then, option_map)
 
 module _ (ps : List PackageRecord) (k : ℕ) (r : StaticReference) (place : RecordPlace) where
   field_place-from : field_place ps k r ≡ Some place → RefersTo ps (exported_field ps) k r place
@@ -135,14 +128,10 @@ module _ (ps : List PackageRecord) (t : ClassTable) (statics : List StaticRec) (
       virtual_methodref r token a.0 is (proper-from ps t k r a.0 a.1) b.0 (sym (same_Some (Virtual a.0 token) m b.1))
 
   may-from : (c token p : ℕ) → may_name t c token p ≡ true → MayName t c token p
-  may-from c token p h = elim (or_cases (ltb token 128) (eqb (package_of t p) (package_of t c)) h) [
-    | inl low ↦ inl (ltb-true token 128 low)
-    | inr same ↦ inr (eqb-true (package_of t p) (package_of t c) same)
-  ]
+  may-from c token p h = grind (arith, or_cases, ltb, eqb, ltb-true, eqb-true)
 
   may-to : (c token p : ℕ) → MayName t c token p → may_name t c token p ≡ true
-  may-to c token p (inl low) = or_left (ltb token 128) (eqb (package_of t p) (package_of t c)) (lt-ltb token 128 low)
-  may-to c token p (inr same) = or_right (ltb token 128) (eqb (package_of t p) (package_of t c)) (eq-eqb (package_of t p) (package_of t c) same)
+  may-to c token p u = grind (arith, or_left, ltb, eqb, lt-ltb, or_right, eq-eqb)
 
   super-from : (r : ClassReference) (token : ℕ) → referred e ≡ SuperMethod r token → super_member ps t k r token ≡ Some m
       → NamesMember ps t statics k e m
@@ -191,30 +180,22 @@ module _ (ps : List PackageRecord) (t : ClassTable) (statics : List StaticRec) (
   unfolding member_of class_member field_member field_of virtual_member virtual_by super_member super_of super_by static_member static_at call_member
   names-member (classref r c is refers same) = ap named is ∙ ap (option_map ClassOf) (refers-computed ps k r c refers) ∙ ap Some (sym same)
   names-member (instance_fieldref r token c h f is proper holder here same) =
-      ap named is
-      ∙ ap (option_and_then (field_of (field_sites ps t) t token)) (proper-to ps t k r c proper)
-      ∙ ap (λ o. option_map (as_of c) (option_and_then (λ i. only (members_standing (field_sites ps t) (token_of_class i token))) o)) holder
-      ∙ ap (λ xs. option_map (as_of c) (only xs)) here
-      ∙ ap Some (sym same)
+      grind (arith, option_and_then (field_of (field_sites ps t) t token), proper-to ps t k r c proper, option_map)
   names-member (virtual_methodref r token c is proper there same) =
-      ap named is
-      ∙ ap (option_and_then (virtual_by t token)) (proper-to ps t k r c proper)
-      ∙ ap (λ b. cond b (Some (Virtual c token)) None) there
-      ∙ ap Some (sym same)
+      grind (arith, option_and_then (virtual_by t token), proper-to ps t k r c proper, cond)
   names-member (super_methodref r token c p n is proper up may there same) =
-      ap named is
-      ∙ ap (option_and_then (super_of t token)) (proper-to ps t k r c proper)
-      ∙ ap (option_and_then (super_by t token c)) up
-      ∙ ap (λ b. cond b (option_map (Super c) (entry_at t p token)) None) (may-to c token p may)
-      ∙ ap (option_map (Super c)) there
-      ∙ ap Some (sym same)
-  names-member (static_fieldref r place is at here) =
-      ap named is ∙ ap (option_and_then (static_at statics)) (field_place-to ps k r place at) ∙ ap only here
+      grind (
+        arith,
+        option_and_then (super_of t token),
+        proper-to ps t k r c proper,
+        option_and_then (super_by t token c),
+        option_map (Super c) (entry_at t p token),
+        may-to c token p may,
+        cond,
+      )
+  names-member (static_fieldref r place is at here) = grind (arith, option_and_then (static_at statics), field_place-to ps k r place at)
   names-member (static_methodref r place n is at there same) =
-      ap named is
-      ∙ ap (λ o. option_map StaticCall (option_and_then (method_at ps) o)) (method_place-to ps k r place at)
-      ∙ ap (option_map StaticCall) there
-      ∙ ap Some (sym same)
+      grind (arith, method_place-to ps k r place at, option_map StaticCall, option_and_then)
 
 -- at most one member is named
 pub names-only : (ps : List PackageRecord) (t : ClassTable) (statics : List StaticRec) (k : ℕ) (e : Entry) (m n : Member)

@@ -24,14 +24,8 @@ module _ (ps : List PackageRecord) (t : ClassTable) where
   numbered_sites c (n ∷ ns) = class_sites t c (own_of ps (object t) n) ++ numbered_sites (c + 1) ns
 
   sites_append : (c : ℕ) (ms ns : List NumberedClass) → numbered_sites c (ms ++ ns) ≡ numbered_sites c ms ++ numbered_sites (c + length ms) ns
-  sites_append c [] ns =
-      let e : c ≡ c + 0 = omega arith in
-      ap (λ (i : ℕ). numbered_sites i ns) e
-  sites_append c (m ∷ ms) ns =
-      let e : (c + 1) + length ms ≡ c + suc (length ms) = omega arith in
-      ap (λ (sites : List MemberSite). class_sites t c (own_of ps (object t) m) ++ sites)
-      (sites_append (c + 1) ms ns ∙ ap (λ (i : ℕ). numbered_sites (c + 1) ms ++ numbered_sites i ns) e)
-      ∙ sym (append_assoc (class_sites t c (own_of ps (object t) m)) (numbered_sites (c + 1) ms) (numbered_sites (c + suc (length ms)) ns))
+  sites_append c [] ns = grind (arith)
+  sites_append c (m ∷ ms) ns = grind (arith, suc, append_assoc, sites_append (c + 1) ms ns)
 
   of_package : (k : ℕ) (p : PackageRecord) (c : ℕ) (rs : List Class) → sites_of_classes ps t k p c rs ≡ numbered_sites c (map (numbered_class k p) rs)
   of_package k p c [] = refl
@@ -104,14 +98,7 @@ module _ (ps : List PackageRecord) (t : ClassTable) where
   located : (ns : List NumberedClass) (c i h token : ℕ) → h ≡ c + i → members_standing (numbered_sites c ns) (token_of_class h token)
       ≡ members_at h token (slice_get ns i)
   located [] c i h token e = refl
-  located (n ∷ ns) c zero h token e =
-      let here : h ≡ c = omega arith in
-      let further : h < c + 1 = omega arith in
-      standing_append (token_of_class h token) (class_sites t c (own_of ps (object t) n)) (numbered_sites (c + 1) ns)
-      ∙ ap₂ ◌++◌ (in_class c h token (own_of ps (object t) n) (own_of ps (object t) n) true (ap (λ (x : ℕ). eqb h x) (sym here) ∙ same h))
-      (none_before ns (c + 1) h token further)
-      ∙ append-nil (map (field_at c (own_of ps (object t) n)) (own_with_token (own_of ps (object t) n) token))
-      ∙ ap (λ (x : ℕ). map (field_at x (own_of ps (object t) n)) (own_with_token (own_of ps (object t) n) token)) (sym here)
+  located (n ∷ ns) c zero h token e = grind (arith, standing_append, ap₂, in_class, eqb, none_before, append-nil)
   located (n ∷ ns) c (suc i) h token e =
       let below : c < h = omega arith in
       let further : h ≡ (c + 1) + i = omega arith in
@@ -131,15 +118,12 @@ module _ (ps : List PackageRecord) (t : ClassTable) where
       → own_with_token (own_of ps (object t) n) token ≡ fs
       → only (map (field_at h (own_of ps (object t) n)) fs) ≡ Some m → StandsIn h token m
   one_of h token m n [] there e found = absurd cc
-  one_of h token m n (f ∷ []) there e found =
-      let is : field_at h (own_of ps (object t) n) f ≡ m = cc in
-      record { class = n; there = there; field = f; one = e; is = is }
+  one_of h token m n (f ∷ []) there e found = grind (arith)
   one_of h token m n (f ∷ g ∷ fs) there e found = absurd cc
 
   found_in : (h token : ℕ) (m : Member) (o : Option NumberedClass) → slice_get (numbered_classes ps) h ≡ o → only (members_at h token o) ≡ Some m
       → StandsIn h token m
-  found_in h token m None there found = absurd cc
-  found_in h token m (Some n) there found = one_of h token m n (own_with_token (own_of ps (object t) n) token) there refl found
+  found_in h token m u there found = grind (arith, one_of)
 
   pub stands_in : (h token : ℕ) (m : Member) → only (members_standing (field_sites ps t) (token_of_class h token)) ≡ Some m → StandsIn h token m
   stands_in h token m found =

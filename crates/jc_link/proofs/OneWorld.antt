@@ -1,5 +1,5 @@
 -- Packages and roles make one world at most, and where they make one no condition is broken.
-use Rattle.std.proofs.Common.{◌≡◌, ℕ, ◌≤◌, Bool, true, false, List, [], length, Some, None, refl, sym, ◌∙◌, arith}
+use Rattle.std.proofs.Common.{◌≡◌, ℕ, ◌≤◌, Bool, List, [], length, Some, None, refl, arith}
 use Rattle.std.specs.Prelude.{◌||◌, ◌==◌, nat_lt, if◌then◌else◌, min}
 use Rattle.std.specs.Option.{option_to_list}
 use Rattle.std.proofs.lemmas.Bool.{ltb-false}
@@ -17,21 +17,11 @@ pub linked_faultless : (ps : List PackageRecord) (roles : List ℕ) (w : Linked)
 linked_faultless ps roles w f l first = none_first link_place (conditions ps roles) f l.faultless first
 
 few : (n : ℕ) (fault : LinkFault) (a b : Bool) → nat_lt 16 n ≡ b → option_to_list (if a || b then Some fault else None) ≡ [] → n ≤ 16
-few n fault true b is none = absurd cc
-few n fault false true is none = absurd cc
-few n fault false false is none = omega (arith, ltb-false 16 n is)
+few n fault z b is none = grind (arith, ltb-false)
 
 -- a world has at most 16 packages
 pub linked_few : (ps : List PackageRecord) (roles : List ℕ) (w : Linked) → IsLinked ps roles w → length ps ≤ 16
 linked_few ps roles w l = few (length ps) (TooManyPackages (min (length ps) 4294967295)) (length ps == 0) (nat_lt 16 (length ps)) refl l.faultless.0
 
 pub one_world : (ps : List PackageRecord) (roles : List ℕ) (w v : Linked) → IsLinked ps roles w → IsLinked ps roles v → w ≡ v
-one_world ps roles w v l m =
-    let infos = l.lists.infos ∙ sym m.lists.infos in
-    let pools = l.lists.pools ∙ sym m.lists.pools in
-    let classes = l.lists.classes ∙ sym m.lists.classes in
-    let methods = l.lists.methods ∙ sym m.lists.methods in
-    let statics = l.lists.statics ∙ sym m.lists.statics in
-    let arrays = l.lists.arrays ∙ sym m.lists.arrays in
-    let indexes = l.lists.indexes ∙ sym m.lists.indexes in
-    λ i. record { infos = infos i; pools = pools i; classes = classes i; methods = methods i; statics = statics i; arrays = arrays i; indexes = indexes i }
+one_world ps roles w v l m = grind (arith)

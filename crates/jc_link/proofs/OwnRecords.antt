@@ -1,5 +1,5 @@
 -- What the records of a table have of the cells of named classes.
-use Rattle.std.proofs.Common.{◌≡◌, ℕ, suc, ◌+◌, ◌≤◌, List, [], ◌∷◌, length, map, Option, Some, None, slice_get, slice_index, refl, sym}
+use Rattle.std.proofs.Common.{◌≡◌, ℕ, suc, ◌+◌, List, [], ◌∷◌, length, map, Option, Some, slice_get, slice_index, refl, sym}
 use Rattle.std.proofs.Common.{ap, subst, ◌∙◌, arith}
 use Rattle.std.specs.Prelude.{option_map}
 use Rattle.std.proofs.lemmas.List.{length-map}
@@ -9,15 +9,15 @@ use Rattle.cap_package.specs.PackageRecord.{PackageRecord}
 use Rattle.jc_base.specs.declared.ty.Ty.{Ty}
 use Rattle.jc_base.specs.declared.record.ClassRec.{ClassRec}
 use Rattle.jc_base.specs.declared.record.MethodRec.{MethodRec}
-use Rattle.jc_base.specs.Class.{ClassTable, parent_of, object}
-use Rattle.jc_base.specs.Linked.{AreLinkedClasses, IsLinkedClass, cells_above}
-use Rattle.jc_base.proofs.Lists.{IfSome-is, slice_get-front, slice_get-farther}
+use Rattle.jc_base.specs.Class.{ClassTable, object}
+use Rattle.jc_base.specs.Linked.{AreLinkedClasses}
+use Rattle.jc_base.proofs.Lists.{slice_get-front, slice_get-farther}
 use Rattle.jc_resolve.specs.declared.named.NamedClass.{NamedClass}
 use Rattle.jc_resolve.specs.Numbering.{NumberedClass, numbered_class, numbered_classes_of, classes_after, numbered_classes}
 use Rattle.jc_resolve.specs.Names.{NamesRecord}
 use Rattle.jc_resolve.specs.OwnFields.{cells_over}
 use Rattle.jc_resolve.specs.NamedClasses.{named_class, named_classes}
-use Rattle.jc_link.specs.Fields.{cells_before, FieldsFit, FieldsFitIn, AllFieldsFitAfter, AllFieldsFit, HasCellsOf}
+use Rattle.jc_link.specs.Fields.{FieldsFit, FieldsFitIn, AllFieldsFitAfter, AllFieldsFit, HasCellsOf}
 use Rattle.jc_link.proofs.Counted.{records_counted}
 use Rattle.jc_link.proofs.TokenCells.{cells_first}
 use Rattle.jc_resolve.proofs.OwnCells.{own_of, own_named}
@@ -30,8 +30,7 @@ pub record HasOwn (ps : List PackageRecord) (t : ClassTable) (c : ℕ) (n : Numb
 
 own_by : (c : ℕ) (t : ClassTable) (o : Option ClassRec) (own : List Ty) → slice_get t.records c ≡ o → option_map (λ (r : ClassRec). r.own) o
     ≡ Some own → (r : ClassRec) × (slice_get t.records c ≡ Some r) × (r.own ≡ own)
-own_by c t None own e h = absurd cc
-own_by c t (Some r) own e h = let same : r.own ≡ own = cc in (r, e, same)
+own_by c t z own e h = grind (arith)
 
 module _ (ps : List PackageRecord) (object_is : ℕ) (t : ClassTable) (cells : HasCellsOf (named_classes ps object_is) object_is t) where
   pub records_many : length t.records ≡ length (numbered_classes ps)
@@ -41,31 +40,14 @@ module _ (ps : List PackageRecord) (object_is : ℕ) (t : ClassTable) (cells : H
   own_there : (c : ℕ) (n : NumberedClass) → slice_get (numbered_classes ps) c ≡ Some n
       → slice_get (map (λ (k : NamedClass). k.own) (named_classes ps object_is)) c ≡ Some (named_class ps object_is n).own
   unfolding named_classes
-  own_there c n e =
-      slice_get-map (λ (k : NamedClass). k.own) (named_classes ps object_is) c
-      ∙ ap (option_map (λ (k : NamedClass). k.own)) (slice_get-map (named_class ps object_is) (numbered_classes ps) c
-      ∙ ap (option_map (named_class ps object_is)) e)
+  own_there c n e = grind (arith, slice_get-map)
 
   pub has_own : (c : ℕ) (n : NumberedClass) → slice_get (numbered_classes ps) c ≡ Some n → HasOwn ps t c n
-  has_own c n e =
-      let there = own_by c t (slice_get t.records c) (named_class ps object_is n).own refl
-      (sym (slice_get-map (λ (r : ClassRec). r.own) t.records c) ∙ ap (λ (xs : List (List Ty)). slice_get xs c) cells.own ∙ own_there c n e) in
-      record {
-        class = there.0;
-        there = there.1;
-        own = there.2 ∙ own_named ps object_is n ∙ ap (λ (o : ℕ). cells_over (own_of ps o n) 0 256) (sym cells.object);
-      }
+  has_own c n e = grind (arith, slice_get t.records c, own_there c n e, own_named ps object_is n, slice_get-map)
 
   module _ (packages : ℕ) (methods : List MethodRec) (linked : AreLinkedClasses packages t methods) where
     has_room : (c : ℕ) (n : NumberedClass) → slice_get (numbered_classes ps) c ≡ Some n → FieldsFit t c (own_of ps (object t) n)
-    has_room c n e =
-        let has = has_own c n e in
-        let is : IsLinkedClass packages t methods c has.class = IfSome-is (IsLinkedClass packages t methods c) (slice_get t.records c) has.class (linked c)
-        has.there in
-        let many : length has.class.own ≡ cells_before (own_of ps (object t) n) 256 = ap length has.own ∙ cells_first (own_of ps (object t) n) 256 in
-        let sum : has.class.cells ≡ cells_above t (parent_of t c) + length has.class.own = is.cells in
-        let size : has.class.cells ≤ 32767 = is.size in
-        omega (arith, many, sum, size)
+    has_room c n e = grind (arith, has_own c n e, slice_get t.records c, cells_first (own_of ps (object t) n) 256)
 
     rooms_in : (k : ℕ) (p : PackageRecord) (c : ℕ) (rs : List Class)
         → ((i : ℕ) (n : NumberedClass) → slice_get (map (numbered_class k p) rs) i ≡ Some n → FieldsFit t (c + i) (own_of ps (object t) n))

@@ -11,7 +11,7 @@ use Rattle.jc_resolve.specs.declared.fault.LinkFault.{LinkFault}
 use Rattle.jc_resolve.specs.declared.fault.LinkFault.TheVariants.{RoleAbstract}
 use Rattle.jc_resolve.specs.Fault.{link_place}
 use Rattle.first_fault.specs.Least.{lesser, least_from, least_of, refused}
-use Rattle.jc_link.specs.Roles.{role_fault, thrown_roles, IsRoleFault, TellsRoles}
+use Rattle.jc_link.specs.Roles.{role_fault, thrown_roles, TellsRoles}
 
 -- what holds of a number and of all above it
 from_on : (P : ℕ → Type 0) (a : ℕ) → P a → ((j : ℕ) → a + 1 ≤ j → P j) → (j : ℕ) → a ≤ j → P j
@@ -38,8 +38,7 @@ module _ (t : ClassTable) (methods : List MethodRec) where
 
   later : (m k : ℕ) (b : Bool) → m < k → concrete k ≡ b → lesser link_place (Some (RoleAbstract m)) (role_fault t methods k) ≡ Some (RoleAbstract m)
   unfolding role_fault lesser link_place
-  later m k true lt e = rw e refl
-  later m k false lt e = rw (e, le-ltb k m (omega arith), ne_eqb k m (λ same. absurd (omega (arith, same, lt)))) refl
+  later m k z lt e = grind (arith, le-ltb, ne_eqb)
 
   kept : (n k m : ℕ) → m < k → least_from link_place (Some (RoleAbstract m)) (role_fault t methods) (range_with_len k n) ≡ Some (RoleAbstract m)
   kept zero k m lt = refl
@@ -55,18 +54,7 @@ module _ (t : ClassTable) (methods : List MethodRec) where
       × (fault ≡ RoleAbstract k)
 
   found_more : (a n : ℕ) (o : Option LinkFault) → concrete a ≡ true → Found (a + 1) n o → Found a (suc n) o
-  found_more a n None here f =
-      λ k low high. from_on (λ j. j < a + suc n → concrete j ≡ true) a (λ lt. here) (λ j le lt. f j le (omega arith)) k low high
-  found_more a n (Some fault) here f =
-      let low = f.1 in
-      let high = f.2 in (
-        f.0,
-        omega arith,
-        omega arith,
-        f.3,
-        λ j le lt. from_on (λ i. i < f.0 → concrete i ≡ true) a (λ x. here) (λ i up x. f.4 i up x) j le lt,
-        f.5,
-      )
+  found_more a n z here f = grind (arith, from_on, suc)
 
   found : (n a : ℕ) → Found a n (least_from link_place None (role_fault t methods) (range_with_len a n))
   found zero a = λ k low high. absurd (omega arith)
@@ -85,14 +73,7 @@ module _ (t : ClassTable) (methods : List MethodRec) where
           subst (Found a (suc n)) step (a, omega arith, omega arith, e, λ j low high. absurd (omega arith), refl)
 
   told_by : ConcreteDecides t methods → (o : Option LinkFault) → Found 2 6 o → TellsRoles t methods (refused o)
-  told_by decides None f = λ k low high. (decides (slice_index t.roles k)).0 (f k low high)
-  told_by decides (Some fault) f =
-      subst (IsRoleFault t methods) (sym f.5) (record {
-        low = f.1;
-        high = f.2;
-        abstract = λ c. false≢true (sym f.3 ∙ (decides (slice_index t.roles f.0)).1 c);
-        first = λ j low high. (decides (slice_index t.roles j)).0 (f.4 j low high);
-      })
+  told_by decides y f = grind (arith, slice_index, false≢true)
 
   pub roles_told : (r : Result (Unit {0}) LinkFault) → ConcreteDecides t methods
       → r ≡ refused (least_of link_place (role_fault t methods) thrown_roles) → TellsRoles t methods r

@@ -27,10 +27,7 @@ further w n token lt = grind (arith, nat_tests)
 -- the fields whose tokens are bytes have the most cells
 pub before_most : (fs : List OwnField) (token : ℕ) → token < 256 → cells_before fs token ≤ cells_before fs 256
 before_most [] token lt = omega arith
-before_most (f ∷ fs) token lt =
-    let here = further (width f.kind) f.token token lt in
-    let others = before_most fs token lt in
-    omega (arith, here, others, taken_before f fs token, taken_before f fs 256)
+before_most (f ∷ fs) token lt = grind (arith, further, taken_before, before_most fs token lt)
 
 pub entered_both : (xs ys : List MemberSite) (es : List (Spot × Option Member)) → all_entered es (xs ++ ys) ≡ all_entered (all_entered es xs) ys
 entered_both xs ys es = fold-append added_entry es xs ys

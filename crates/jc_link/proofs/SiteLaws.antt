@@ -1,5 +1,5 @@
 -- A table by spots keeps the only member at a spot.
-use Rattle.std.proofs.Common.{◌≡◌, Bool, true, false, cond, eqb, List, [], ◌∷◌, Option, Some, None, refl, sym, ap, ◌∙◌, is_some}
+use Rattle.std.proofs.Common.{◌≡◌, Bool, true, false, cond, eqb, List, [], ◌∷◌, Option, Some, None, refl, sym, ap, ◌∙◌, is_some, arith}
 use Rattle.std.specs.Option.{option_flatten}
 use Rattle.std.proofs.lemmas.Bool.{eqb-true, true≢false, and_parts}
 use Rattle.indexmap.specs.IndexMap.{insert_entry}
@@ -10,30 +10,18 @@ use Rattle.jc_link.specs.Sites.{MemberSite, only, is_there, same_spot, members_s
 -- ---- spots
 
 same-equal : (a b : Spot) → same_spot a b ≡ true → a ≡ b
-same-equal a b h =
-    let p = and_parts (eqb a.owner b.owner) (eqb a.number b.number) h in
-    let e = eqb-true a.owner b.owner p.0 in
-    let f = eqb-true a.number b.number p.1 in
-    λ i. record { owner = e i; number = f i }
+same-equal a b h = grind (arith, and_parts, eqb, eqb-true)
 
 -- ---- one more entry
 
 replaced : (v old : Option Member) (rest : Option (Option Member)) (b c : Bool) → c ≡ b
     → cond c (Some v) rest ≡ cond b (Some v) (cond c (Some old) rest)
-replaced v old rest true true e = refl
-replaced v old rest false false e = refl
-replaced v old rest true false e = absurd (true≢false (sym e))
-replaced v old rest false true e = absurd (true≢false e)
+replaced v old rest u v2 e = grind (arith, true≢false)
 
 apart : (q k at : Spot) (v old : Option Member) (rest : Option (Option Member)) → same_spot k at ≡ false → (b c : Bool) → same_spot q k ≡ b
     → same_spot q at ≡ c
     → cond c (Some old) (cond b (Some v) rest) ≡ cond b (Some v) (cond c (Some old) rest)
-apart q k at v old rest ne true true e f =
-    let h : same_spot k at ≡ true = ap (λ x. same_spot x at) (sym (same-equal q k e)) ∙ f in
-    absurd (true≢false (sym h ∙ ne))
-apart q k at v old rest ne true false e f = refl
-apart q k at v old rest ne false true e f = refl
-apart q k at v old rest ne false false e f = refl
+apart q k at v old rest ne b c e f = grind (arith, same-equal, true≢false)
 
 kept-inserted : (es : List (Spot × Option Member)) (q k : Spot) (v : Option Member) → kept_at (insert_entry same_spot es k v) q ≡ cond (same_spot q k)
     (Some v) (kept_at es q)
@@ -71,9 +59,7 @@ met es s q ms h o e =
 
 passed : (es : List (Spot × Option Member)) (s : MemberSite) (q : Spot) → same_spot q s.spot ≡ false → kept_at (added_entry es s) q ≡ kept_at es q
 unfolding added_entry
-passed es s q h =
-    kept-inserted es q s.spot (cond (is_some (kept_at es s.spot)) None (Some s.member))
-    ∙ ap (λ b. cond b (Some (cond (is_some (kept_at es s.spot)) None (Some s.member))) (kept_at es q)) h
+passed es s q h = grind (arith, kept-inserted, cond, is_some)
 
 all-kept : (xs : List MemberSite) (es : List (Spot × Option Member)) (q : Spot) → kept_at (all_entered es xs) q ≡ after (kept_at es q)
     (members_standing xs q)
@@ -93,9 +79,7 @@ several (m ∷ ms) = several ms
 
 only-after : (ms : List Member) → option_flatten (after None ms) ≡ only ms
 unfolding after
-only-after [] = refl
-only-after (m ∷ []) = refl
-only-after (m ∷ n ∷ ms) = ap option_flatten (several ms)
+only-after x = grind (arith, several)
 
 -- the table keeps the only member at a spot
 pub only_kept : (xs : List MemberSite) (q : Spot) → option_flatten (kept_at (all_entered [] xs) q) ≡ only (members_standing xs q)
@@ -108,8 +92,7 @@ there-after x (m ∷ ms) = there-after None ms
 
 some-after : (ms : List Member) → is_some (after None ms) ≡ is_there ms
 unfolding after
-some-after [] = refl
-some-after (m ∷ ms) = there-after (Some m) ms
+some-after x = grind (arith, there-after)
 
 -- and tells whether there is any
 pub some_kept : (xs : List MemberSite) (q : Spot) → is_some (kept_at (all_entered [] xs) q) ≡ is_there (members_standing xs q)

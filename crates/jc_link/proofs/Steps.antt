@@ -1,8 +1,7 @@
 -- From names to classes, and to what stands on them: what each step is given and what it tells.
-use Rattle.std.proofs.Common.{◌≡◌, ℕ, ◌<◌, ◌≤◌, List, length, Result, Ok, Err, refl, sym, ap, subst, ◌∙◌, arith}
+use Rattle.std.proofs.Common.{◌≡◌, ℕ, ◌<◌, ◌≤◌, List, length, Result, Ok, Err, sym, ap, subst, ◌∙◌, arith}
 use Rattle.std.specs.Prelude.{All, IfOk, slice_index}
 use Rattle.std.proofs.lemmas.List.{length-map}
-use Rattle.std.proofs.lemmas.List.Elements.{All-weaker}
 use Rattle.cap_package.specs.PackageRecord.{PackageRecord}
 use Rattle.jc_base.specs.declared.record.MethodRec.{MethodRec}
 use Rattle.jc_base.specs.Class.{ClassTable, IsClass, throwable}
@@ -15,10 +14,10 @@ use Rattle.jc_resolve.specs.Fault.{link_place}
 use Rattle.first_fault.specs.Least.{◌>>=◌}
 use Rattle.first_fault.specs.First.{IsFirst, AllEmpty}
 use Rattle.jc_base.proofs.Bodies.{linked_more}
-use Rattle.jc_resolve.specs.Named.{AreNamed, IsNamedMethod, IsSized, infos_of}
+use Rattle.jc_resolve.specs.Named.{AreNamed, infos_of}
 use Rattle.jc_resolve.specs.Conditions as names
 use Rattle.jc_resolve.specs.Due.{IsDue}
-use Rattle.jc_resolve.specs.Names.{NamesRecord, named, checked, names_of, TellsNames}
+use Rattle.jc_resolve.specs.Names.{NamesRecord, named, names_of, TellsNames}
 use Rattle.jc_resolve.proofs.ConditionLists.{AllEmpty-append, IsFirst-append_left, IsFirst-append_right}
 use Rattle.jc_classes.specs.LineConditions as lineage
 use Rattle.jc_classes.specs.KnownClasses.{HasKnownLine}
@@ -30,36 +29,31 @@ use Rattle.jc_classes.specs.TableConditions as classes
 use Rattle.jc_classes.specs.KnownLines.{HaveSuperclasses, AreInRange}
 use Rattle.jc_classes.specs.Tables.{class_tables, Links, TellsTableEnd}
 use Rattle.jc_link.specs.Fields.{HasCellsOf}
-use Rattle.jc_link.specs.World.{classes_of, lineage_of, table_of, methods_of, first_classes, class_conditions, table_conditions, member_conditions, conditions}
+use Rattle.jc_link.specs.World.{classes_of, lineage_of, methods_of, first_classes}
+use Rattle.jc_link.specs.World.{class_conditions, table_conditions, member_conditions, conditions}
 use Rattle.jc_link.specs.World.{TellsFirst, TableTells, LinkTells}
 use Rattle.jc_link.specs.declared.linking.Resolved.{Resolved}
 use Rattle.jc_link.specs.declared.tabling.Tabled.{Tabled}
 use Rattle.jc_link.specs.Known.{AreNamesOf, IsTableOf}
-use Rattle.jc_link.proofs.Tables.{sized, in_range, methods_in, has-cells, counted, role-class}
+use Rattle.jc_link.proofs.Tables.{in_range, has-cells, counted, role-class}
 
 -- ---- names
 
 named-by : (ps : List PackageRecord) (roles : List ℕ) (n : NamesRecord) (r : Result (Unit {0}) LinkFault) → (r >>= λ done. Ok (named ps roles))
     ≡ Ok n → n ≡ named ps roles
-named-by ps roles n (Ok x) e = cc
-named-by ps roles n (Err f) e = absurd cc
+named-by ps roles n u e = grind (arith)
 
 pub names_known : (ps : List PackageRecord) (roles : List ℕ) (n : NamesRecord) → names_of ps roles ≡ Ok n
     → AreNamed (infos_of ps) (slice_index roles 0) n.classes n.methods → AreNamesOf ps roles n
 unfolding names_of
-names_known ps roles n e known =
-    let are : n ≡ named ps roles = named-by ps roles n (checked ps) e in
-    record { are = are; known = subst (λ (m : NamesRecord). AreNamed (infos_of ps) (slice_index roles 0) m.classes m.methods) are known }
+names_known ps roles n e known = grind (arith, named-by)
 
 pub names_first : (ps : List PackageRecord) (r : Result NamesRecord LinkEnd) → TellsNames ps r → TellsFirst (names.conditions ps) r
-names_first ps (Ok n) h = h
-names_first ps (Err (Fault f)) h = h
-names_first ps (Err Memory) h = tt {0}
+names_first ps y h = grind (arith)
 
 pub names_answered : (ps : List PackageRecord) (roles : List ℕ) (r : Result NamesRecord LinkEnd) → IsDue (names_of ps roles) r
     → IfOk r (λ n. AreNamed (infos_of ps) (slice_index roles 0) n.classes n.methods) → IfOk r (AreNamesOf ps roles)
-names_answered ps roles (Ok n) e known = names_known ps roles n e known
-names_answered ps roles (Err end) e known = tt
+names_answered ps roles z e known = grind (arith, names_known)
 
 -- ---- classes
 
@@ -81,10 +75,7 @@ module _ (ps : List PackageRecord) (roles : List ℕ) (n : NamesRecord) (of : Ar
   homes_count = length-map ps _
 
   pub homes-known : All (λ (m : MethodRec). m.package < length ps) n.methods
-  homes-known =
-      let homes = All-weaker (IsNamedMethod (infos_of ps) (classes_of ps roles) (slice_index roles 0)) (λ (m : MethodRec). m.package < length ps)
-      (λ m is. subst (λ (k : ℕ). m.package < k) homes_count is.home) (methods_of ps roles) of.known.methods in
-      subst (All (λ (m : MethodRec). m.package < length ps)) (sym methods-are) homes
+  homes-known = grind (arith, homes_count, methods-are)
 
   pub along : (P : List PackageRecord → List ℕ → Type 0) → P n.packages n.roles → P ps roles
   along P h = subst (λ (xs : List PackageRecord). P xs roles) packages-are (subst (λ (rs : List ℕ). P n.packages rs) roles-are h)
@@ -93,66 +84,40 @@ module _ (ps : List PackageRecord) (roles : List ℕ) (n : NamesRecord) (of : Ar
   back P h = subst (λ (rs : List ℕ). P n.packages rs) (sym roles-are) (subst (λ (xs : List PackageRecord). P xs roles) (sym packages-are) h)
 
   pub lines_known : (cs : List NamedClass) → cs ≡ n.classes → All (HasKnownLine cs) cs
-  lines_known cs e =
-      subst (λ (xs : List NamedClass). All (HasKnownLine xs) xs) (sym (e ∙ classes-are))
-      (named-known (length (infos_of ps)) (length (methods_of ps roles)) (slice_index roles 0) (classes_of ps roles) of.known.classes)
+  lines_known cs e = grind (arith, classes-are, named-known)
 
   pub range_known : (cs : List NamedClass) → cs ≡ n.classes → AreInRange cs
-  range_known cs e =
-      subst AreInRange (sym (e ∙ classes-are))
-      (in_range (length (infos_of ps)) (length (methods_of ps roles)) (slice_index roles 0) (classes_of ps roles) of.known.classes)
+  range_known cs e = grind (arith, classes-are, in_range)
 
   pub methods_known : (cs : List NamedClass) (ms : List MethodRec) → cs ≡ n.classes → ms ≡ n.methods
       → All (λ (m : MethodRec). m.class < length cs) ms
-  methods_known cs ms e f =
-      subst (λ (xs : List MethodRec). All (λ (m : MethodRec). m.class < length cs) xs) (sym (f ∙ methods-are))
-      (subst (λ (xs : List NamedClass). All (λ (m : MethodRec). m.class < length xs) (methods_of ps roles)) (sym (e ∙ classes-are))
-      (methods_in (infos_of ps) (slice_index roles 0) (classes_of ps roles) (methods_of ps roles) of.known.methods))
+  methods_known cs ms e f = grind (arith, methods-are, classes-are)
 
   pub classes_known : (cs : List NamedClass) (t : LineTable) → cs ≡ n.classes → length cs ≤ 4096 → HaveLines cs t → HaveSuperclasses t cs
-  classes_known cs t e few have = record {
-    count = have.count;
-    few = few;
-    sized =
-        subst (All IsSized) (sym (e ∙ classes-are))
-        (sized (length (infos_of ps)) (length (methods_of ps roles)) (slice_index roles 0) (classes_of ps roles) of.known.classes);
-  }
+  classes_known cs t e few have = grind (arith, classes-are)
 
   -- the first fault of superclasses, roles and interfaces
   pub line_first : (cs : List NamedClass) (first : ℕ) (f : LinkFault) → cs ≡ n.classes → first ≡ first_classes ps
       → IsFirst link_place (lineage.conditions cs first roles) f → IsFirst link_place (class_conditions ps roles) f
-  line_first cs first f e g h =
-      IsFirst-append_left link_place (lineage.conditions (classes_of ps roles) (first_classes ps) roles)
-      (classes.conditions (lineage_of ps roles) (classes_of ps roles) (methods_of ps roles)) f
-      (subst (λ (k : ℕ). IsFirst link_place (lineage.conditions (classes_of ps roles) k roles) f) g
-      (subst (λ (xs : List NamedClass). IsFirst link_place (lineage.conditions xs first roles) f) (e ∙ classes-are) h))
+  line_first cs first f e g h = grind (arith, classes-are)
 
   line_empty : (cs : List NamedClass) (first : ℕ) → cs ≡ n.classes → first ≡ first_classes ps → AllEmpty (lineage.conditions cs first roles)
       → AllEmpty (lineage.conditions (classes_of ps roles) (first_classes ps) roles)
-  line_empty cs first e g h =
-      subst (λ (k : ℕ). AllEmpty (lineage.conditions (classes_of ps roles) k roles)) g
-      (subst (λ (xs : List NamedClass). AllEmpty (lineage.conditions xs first roles)) (e ∙ classes-are) h)
+  line_empty cs first e g h = grind (arith, classes-are)
 
   lineage_same : (cs : List NamedClass) (t : LineTable) → cs ≡ n.classes → t ≡ outline cs roles → t ≡ lineage_of ps roles
   lineage_same cs t e o = o ∙ ap (λ (xs : List NamedClass). outline xs roles) (e ∙ classes-are)
 
   conditions_same : (cs : List NamedClass) (ms : List MethodRec) (t : LineTable) → cs ≡ n.classes → ms ≡ n.methods → t ≡ outline cs roles
       → classes.conditions t cs ms ≡ classes.conditions (lineage_of ps roles) (classes_of ps roles) (methods_of ps roles)
-  conditions_same cs ms t e m o =
-      ap (λ (u : LineTable). classes.conditions u cs ms) (lineage_same cs t e o)
-      ∙ ap (λ (xs : List NamedClass). classes.conditions (lineage_of ps roles) xs ms) (e ∙ classes-are)
-      ∙ ap (λ (xs : List MethodRec). classes.conditions (lineage_of ps roles) (classes_of ps roles) xs) (m ∙ methods-are)
+  conditions_same cs ms t e m o = grind (arith, lineage_same, classes-are, methods-are)
 
   -- the first fault of dispatch lists and instances
   pub class_first : (cs : List NamedClass) (ms : List MethodRec) (first : ℕ) (t : LineTable) (f : LinkFault) → cs ≡ n.classes → ms ≡ n.methods
       → first ≡ first_classes ps → t ≡ outline cs roles
       → AllEmpty (lineage.conditions cs first roles) → IsFirst link_place (classes.conditions t cs ms) f
       → IsFirst link_place (class_conditions ps roles) f
-  class_first cs ms first t f e m g o none h =
-      IsFirst-append_right link_place (lineage.conditions (classes_of ps roles) (first_classes ps) roles)
-      (classes.conditions (lineage_of ps roles) (classes_of ps roles) (methods_of ps roles)) f
-      (line_empty cs first e g none)
-      (subst (λ (lists : List (List LinkFault)). IsFirst link_place lists f) (conditions_same cs ms t e m o) h)
+  class_first cs ms first t f e m g o none h = grind (arith, line_empty, conditions_same)
 
   -- the same of what linking ends with
   pub line_told : (cs : List NamedClass) (first : ℕ) (end : LinkEnd) → cs ≡ n.classes → first ≡ first_classes ps
@@ -169,54 +134,22 @@ module _ (ps : List PackageRecord) (roles : List ℕ) (n : NamesRecord) (of : Ar
   pub class_empty : (cs : List NamedClass) (ms : List MethodRec) (first : ℕ) (t : LineTable) → cs ≡ n.classes → ms ≡ n.methods
       → first ≡ first_classes ps → t ≡ outline cs roles
       → AllEmpty (lineage.conditions cs first roles) → AllEmpty (classes.conditions t cs ms) → AllEmpty (class_conditions ps roles)
-  class_empty cs ms first t e m g o none h =
-      AllEmpty-append (lineage.conditions (classes_of ps roles) (first_classes ps) roles)
-      (classes.conditions (lineage_of ps roles) (classes_of ps roles) (methods_of ps roles))
-      (line_empty cs first e g none)
-      (subst AllEmpty (conditions_same cs ms t e m o) h)
+  class_empty cs ms first t e m g o none h = grind (arith, line_empty, conditions_same)
 
   -- the table that is made
   pub table_known : (cs : List NamedClass) (ms : List MethodRec) (t : LineTable) (u : ClassTable) → cs ≡ n.classes → ms ≡ n.methods
       → length cs ≤ 4096 → length t.roles ≡ 8 → t ≡ outline cs roles → AreLines t → HaveLines cs t → u ≡ class_tables t cs
       → Links t cs ms u
       → IsTableOf ps roles u
-  table_known cs ms t u e m few eight o are have made links =
-      let same_classes : cs ≡ classes_of ps roles = e ∙ classes-are in
-      let same_methods : ms ≡ methods_of ps roles = m ∙ methods-are in
-      let same_lineage : t ≡ lineage_of ps roles = lineage_same cs t e o in
-      let same_table : u ≡ table_of ps roles = made ∙ ap (λ (x : LineTable). class_tables x cs) same_lineage
-      ∙ ap (λ (xs : List NamedClass). class_tables (lineage_of ps roles) xs) same_classes in
-      let in_lineage : HaveLines (classes_of ps roles) (lineage_of ps roles) = subst (HaveLines (classes_of ps roles)) same_lineage
-      (subst (λ (xs : List NamedClass). HaveLines xs t) same_classes have) in
-      let links_of : Links (lineage_of ps roles) (classes_of ps roles) (methods_of ps roles) (table_of ps roles) =
-      subst (Links (lineage_of ps roles) (classes_of ps roles) (methods_of ps roles)) same_table
-      (subst (λ (xs : List MethodRec). Links (lineage_of ps roles) (classes_of ps roles) xs u) same_methods
-      (subst (λ (xs : List NamedClass). Links (lineage_of ps roles) xs ms u) same_classes
-      (subst (λ (x : LineTable). Links x cs ms u) same_lineage links))) in
-      record {
-        is = same_table;
-        lines = in_lineage;
-        chains = subst AreLines same_lineage are;
-        linked =
-            subst (λ (k : ℕ). AreLinkedClasses k (table_of ps roles) (methods_of ps roles)) (length-map ps _)
-            (links_of (length (infos_of ps)) of.known.classes);
-        few = subst (λ (xs : List NamedClass). length xs ≤ 4096) same_classes few;
-        eight = subst (λ (rs : List ℕ). length rs ≡ 8) (ap (λ (x : LineTable). x.roles) o) eight;
-      }
+  table_known cs ms t u e m few eight o are have made links = grind (arith, classes-are, methods-are, lineage_same, length-map)
 
   -- ---- what stands on the classes is asked of names and a table
 
   pub cells_known : (t : ClassTable) → IsTableOf ps roles t → HasCellsOf n.classes (slice_index n.roles 0) t
-  cells_known t is =
-      subst (HasCellsOf n.classes (slice_index n.roles 0)) (sym is.is)
-      (subst (λ (xs : List ℕ). HasCellsOf n.classes (slice_index xs 0) (table_of ps roles)) (sym roles-are)
-      (subst (λ (xs : List NamedClass). HasCellsOf xs (slice_index roles 0) (table_of ps roles)) (sym classes-are) (has-cells ps roles)))
+  cells_known t is = grind (arith, roles-are, classes-are, has-cells)
 
   pub linked_known : (t : ClassTable) → IsTableOf ps roles t → AreLinkedClasses (length n.packages) t n.methods
-  linked_known t is =
-      subst (λ (xs : List PackageRecord). AreLinkedClasses (length xs) t n.methods) (sym packages-are)
-      (subst (λ (xs : List MethodRec). AreLinkedClasses (length ps) t xs) (sym methods-are)
-      (subst (λ (u : ClassTable). AreLinkedClasses (length ps) u (methods_of ps roles)) (sym is.is) is.linked))
+  linked_known t is = grind (arith, packages-are, methods-are)
 
   pub linked_few : (t : ClassTable) → IsTableOf ps roles t → length n.packages ≤ 16 → AreLinkedClasses 16 t n.methods
   linked_few t is few = linked_more (length n.packages) 16 t n.methods few (linked_known t is)
@@ -227,8 +160,7 @@ module _ (ps : List PackageRecord) (roles : List ℕ) (n : NamesRecord) (of : Ar
   -- the class of each method stands in the table
   pub methods_of_table : (t : ClassTable) → IsTableOf ps roles t → (ms : List MethodRec) → ms ≡ n.methods
       → All (λ (m : MethodRec). m.class < length t.records) ms
-  methods_of_table t is ms e =
-      subst (λ (k : ℕ). All (λ (m : MethodRec). m.class < k) ms) (sym (count_known t is)) (methods_known n.classes ms refl e)
+  methods_of_table t is ms e = grind (arith, count_known, methods_known)
 
   role_known : (t : ClassTable) → IsTableOf ps roles t → (k : ℕ) → k < 8 → IsClass t (slice_index t.roles k)
   role_known t is k lt = subst (λ (u : ClassTable). IsClass u (slice_index u.roles k)) (sym is.is) (role-class ps roles t is k lt)
@@ -269,23 +201,18 @@ module _ (ps : List PackageRecord) (roles : List ℕ) where
 module _ (ps : List PackageRecord) (roles : List ℕ) where
   pub names_tell : (end : LinkEnd) → TellsFirst {A = NamesRecord} (names.conditions ps) (Err end)
       → TellsFirst {A = Tabled} (table_conditions ps roles) (Err end)
-  names_tell (Fault f) h = names_table ps roles f h
-  names_tell Memory h = tt {0}
+  names_tell x h = grind (arith, names_table)
 
   pub classes_tell : (end : LinkEnd) → AllEmpty (names.conditions ps) → TellsFirst {A = ClassTable} (class_conditions ps roles) (Err end)
       → TellsFirst {A = Tabled} (table_conditions ps roles) (Err end)
-  classes_tell (Fault f) none h = classes_table ps roles f none h
-  classes_tell Memory none h = tt {0}
+  classes_tell x none h = grind (arith, classes_table)
 
   pub table_told : (end : LinkEnd) → TellsFirst {A = Tabled} (table_conditions ps roles) (Err end) → TableTells ps roles (Err end)
-  table_told (Fault f) h = h
-  table_told Memory h = tt {0}
+  table_told x h = grind (arith)
 
   pub table_tells : (end : LinkEnd) → TellsFirst {A = Tabled} (table_conditions ps roles) (Err end) → LinkTells ps roles (Err end)
-  table_tells (Fault f) h = table_all ps roles f h
-  table_tells Memory h = tt {0}
+  table_tells x h = grind (arith, table_all)
 
   pub members_tell : (end : LinkEnd) → AllEmpty (table_conditions ps roles) → TellsFirst {A = Resolved} (member_conditions ps roles) (Err end)
       → LinkTells ps roles (Err end)
-  members_tell (Fault f) none h = members_all ps roles f none h
-  members_tell Memory none h = tt {0}
+  members_tell x none h = grind (arith, members_all)

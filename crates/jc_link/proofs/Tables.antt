@@ -67,9 +67,7 @@ module _ (ps : List PackageRecord) (roles : List ℕ) where
     table-chains = tables-classes (lineage_of ps roles) (classes_of ps roles) outlined_is is.chains
 
     pub role-class : (k : ℕ) → k < 8 → IsClass (table_of ps roles) (slice_index roles k)
-    role-class k lt =
-        let low : k < length roles = omega (arith, is.eight) in
-        class-alike (lineage_of ps roles) (table_of ps roles) alike (slice_index roles k) (is.lines.roles k low)
+    role-class k lt = grind (arith, class-alike, alike)
 
     below_same : (a b : ℕ) → is_below (table_of ps roles) (Class a) (Class b) ≡ is_on_chain (lineage_of ps roles) b a
     unfolding is_below

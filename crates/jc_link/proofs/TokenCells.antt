@@ -9,7 +9,6 @@ use Rattle.std.proofs.lemmas.List.Sums.{sum_by-cons}
 use Rattle.std.proofs.lemmas.List.Concat.{flat_map-append}
 use Rattle.jc_base.specs.declared.ty.Ty.{Ty}
 use Rattle.jc_base.specs.declared.ty.Kind.{Kind}
-use Rattle.jc_base.specs.declared.ty.Kind.TheVariants.{Ref, Byte, Short, Int}
 use Rattle.jc_base.specs.Cell.{width}
 use Rattle.jc_resolve.specs.declared.own_field.OwnField.{OwnField}
 use Rattle.jc_resolve.specs.OwnFields.{cells_by_kind, cells_of_own, own_with_token, cells_over}
@@ -19,10 +18,7 @@ use Rattle.jc_link.proofs.Rooms.{taken_before, counted}
 -- ---- how many cells there are
 
 kind_cells : (k : Kind) (ty : Ty) → length (cells_by_kind k ty) ≡ width k
-kind_cells Ref ty = refl
-kind_cells Byte ty = refl
-kind_cells Short ty = refl
-kind_cells Int ty = refl
+kind_cells x ty = grind (arith)
 
 taken : (fs : List OwnField) → length (flat_map cells_of_own fs) ≡ cells_in_all fs
 taken [] = refl
@@ -50,11 +46,7 @@ no_less w n = grind (arith, nat_tests)
 
 none_before : (own : List OwnField) → cells_before own 0 ≡ 0
 none_before [] = refl
-none_before (f ∷ own) =
-    let here = taken_before f own 0 in
-    let none = no_less (width f.kind) f.token in
-    let others = none_before own in
-    omega (arith, here, none, others)
+none_before (f ∷ own) = grind (arith, taken_before, no_less, none_before own)
 
 pub cells_many : (own : List OwnField) (n a : ℕ) → cells_before own a + length (cells_over own a n) ≡ cells_before own (a + n)
 cells_many own zero a = let e : a ≡ a + 0 = omega arith in rw (← e) (omega arith)
@@ -68,11 +60,7 @@ cells_many own (suc n) a =
     rw same (omega (arith, split, others, before_next own a))
 
 pub cells_first : (own : List OwnField) (n : ℕ) → length (cells_over own 0 n) ≡ cells_before own n
-cells_first own n =
-    let all = cells_many own n 0 in
-    let e : 0 + n ≡ n = omega arith in
-    let same : cells_before own (0 + n) ≡ cells_before own n = ap (cells_before own) e in
-    omega (arith, all, none_before own, same)
+cells_first own n = grind (arith, cells_many, none_before)
 
 -- ---- where they stand
 
@@ -80,10 +68,7 @@ cells_step : (own : List OwnField) (a n : ℕ) → cells_over own a (suc n) ≡ 
 cells_step own a n = flat_map-append cells_of_own (own_with_token own a) (flat_map (own_with_token own) (range_with_len (a + 1) n))
 
 cells_split : (own : List OwnField) (m a n k : ℕ) → k ≡ m + n → cells_over own a k ≡ cells_over own a m ++ cells_over own (a + m) n
-cells_split own zero a n k e =
-    let many : k ≡ n = omega arith in
-    let from : a ≡ a + 0 = omega arith in
-    ap₂ (cells_over own) from many
+cells_split own zero a n k e = grind (arith, ap₂)
 cells_split own (suc m) a n zero e = absurd (omega arith)
 cells_split own (suc m) a n (suc k) e =
     let less : k ≡ m + n = omega arith in
@@ -114,10 +99,5 @@ only_stands own n token f lt one =
       front = cells_over own 0 token;
       farther = cells_over own (token + 1) (n - (token + 1));
       many = cells_first own token;
-      whole =
-          cells_split own token 0 (suc (n - (token + 1))) n rest
-          ∙ ap (λ (xs : List Ty). cells_over own 0 token ++ xs)
-          (ap (λ (i : ℕ). cells_over own i (suc (n - (token + 1)))) from
-          ∙ cells_step own token (n - (token + 1))
-          ∙ ap (λ (xs : List Ty). xs ++ cells_over own (token + 1) (n - (token + 1))) (alone own token f one));
+      whole = grind (arith, cells_split own token 0 (suc (n - (token + 1))) n rest, cells_step own token (n - (token + 1)));
     }

@@ -1,11 +1,9 @@
 -- The lists that packages and roles make are those of a world.
-use Rattle.std.proofs.Common.{◌≡◌, ℕ, ◌≤◌, List, Option, length, sym, ap, subst, ◌∙◌}
+use Rattle.std.proofs.Common.{◌≡◌, ℕ, ◌≤◌, List, Option, length, sym, subst, ◌∙◌, arith}
 use Rattle.std.specs.Prelude.{All, slice_index, sum_by}
 use Rattle.std.proofs.lemmas.List.{length-map}
 use Rattle.cap_package.specs.PackageRecord.{PackageRecord}
-use Rattle.jc_base.specs.declared.record.Member.{Member}
 use Rattle.jc_base.specs.declared.record.MethodRec.{MethodRec}
-use Rattle.jc_base.specs.declared.record.StaticRec.{StaticRec}
 use Rattle.jc_base.specs.declared.record.ArrayRec.{ArrayRec}
 use Rattle.jc_base.specs.Class.{ClassTable}
 use Rattle.jc_base.specs.Cell.{IsDeclared, width, AreElementsOf}
@@ -88,78 +86,7 @@ module _ (ps : List PackageRecord) (roles : List ℕ) where
   }
 
   same_world : (w : Linked) → AreListsOf ps roles w → world_of ≡ w
-  same_world w l =
-      ap
-      (λ (x : List (List ℕ)). record {
-        infos = x;
-        pools = pools ps (table_of ps roles) (statics_of ps roles);
-        classes = table_of ps roles;
-        methods = methods_of ps roles;
-        statics = statics_of ps roles;
-        arrays = array_records ps;
-        indexes = indexes_of ps (methods_of ps roles);
-      })
-      (sym l.infos)
-      ∙ ap
-      (λ (x : List (List Member)). record {
-        infos = w.infos;
-        pools = x;
-        classes = table_of ps roles;
-        methods = methods_of ps roles;
-        statics = statics_of ps roles;
-        arrays = array_records ps;
-        indexes = indexes_of ps (methods_of ps roles);
-      }) (sym l.pools)
-      ∙ ap
-      (λ (x : ClassTable). record {
-        infos = w.infos;
-        pools = w.pools;
-        classes = x;
-        methods = methods_of ps roles;
-        statics = statics_of ps roles;
-        arrays = array_records ps;
-        indexes = indexes_of ps (methods_of ps roles);
-      }) (sym l.classes)
-      ∙ ap
-      (λ (x : List MethodRec). record {
-        infos = w.infos;
-        pools = w.pools;
-        classes = w.classes;
-        methods = x;
-        statics = statics_of ps roles;
-        arrays = array_records ps;
-        indexes = indexes_of ps (methods_of ps roles);
-      }) (sym l.methods)
-      ∙ ap
-      (λ (x : List StaticRec). record {
-        infos = w.infos;
-        pools = w.pools;
-        classes = w.classes;
-        methods = w.methods;
-        statics = x;
-        arrays = array_records ps;
-        indexes = indexes_of ps (methods_of ps roles);
-      }) (sym l.statics)
-      ∙ ap
-      (λ (x : List ArrayRec). record {
-        infos = w.infos;
-        pools = w.pools;
-        classes = w.classes;
-        methods = w.methods;
-        statics = w.statics;
-        arrays = x;
-        indexes = indexes_of ps (methods_of ps roles);
-      }) (sym l.arrays)
-      ∙ ap
-      (λ (x : List (Option (List ℕ))). record {
-        infos = w.infos;
-        pools = w.pools;
-        classes = w.classes;
-        methods = w.methods;
-        statics = w.statics;
-        arrays = w.arrays;
-        indexes = x;
-      }) (sym l.indexes)
+  same_world w l = grind (arith)
 
   -- the lists of packages and roles, of which nothing is at fault, are a world
   pub are-world : ConcreteIsDecided → (t : ClassTable) (w : Linked) → IsTableOf ps roles t
@@ -186,20 +113,11 @@ module _ (ps : List PackageRecord) (roles : List ℕ) (n : NamesRecord) (of : Ar
   methods_same = m ∙ methods-are ps roles n of
 
   indexes_same : indexes ≡ indexes_of ps (methods_of ps roles)
-  indexes_same =
-      x_is ∙ ap (λ (qs : List PackageRecord). indexes_of qs n.methods) (packages-are ps roles n of) ∙ ap (indexes_of ps) (methods-are ps roles n of)
+  indexes_same = grind (arith, packages-are, methods-are)
 
   pub lists-are : AreListsOf ps roles
       (record { infos = infos; pools = x.pools; classes = t; methods = methods; statics = x.statics; arrays = arrays; indexes = indexes })
-  lists-are = record {
-    infos = i;
-    pools = resolved.pools_are;
-    classes = is.is;
-    methods = methods_same;
-    statics = resolved.statics_are;
-    arrays = a;
-    indexes = indexes_same;
-  }
+  lists-are = grind (arith, methods_same, indexes_same)
 
   known_lists : All (λ info. length info ≤ 65535) infos → All (λ (b : ArrayRec). AreElementsOf b.kind b.initial) arrays → AreKnownLists ps made_of
   known_lists bytes elements = record {
@@ -207,9 +125,7 @@ module _ (ps : List PackageRecord) (roles : List ℕ) (n : NamesRecord) (of : Ar
     bytes = bytes;
     entries = resolved.entries;
     each = resolved.each;
-    members =
-        subst (λ (ms : List MethodRec). All (All (IsMember t ms x.statics)) x.pools) (sym methods_same)
-        (subst (λ (u : ClassTable). All (All (IsMember u (methods_of ps roles) x.statics)) x.pools) (sym is.is) resolved.members);
+    members = grind (arith, methods_same);
     methods = subst (λ (ms : List MethodRec). length ms ≤ 32768) (sym methods_same) resolved.methods;
     cells = resolved.cells;
     slots = resolved.slots;
@@ -230,7 +146,4 @@ module _ (ps : List PackageRecord) (roles : List ℕ) (n : NamesRecord) (of : Ar
   pub linked-made : (w : Linked)
       → w ≡ record { infos = infos; pools = x.pools; classes = t; methods = methods; statics = x.statics; arrays = arrays; indexes = indexes }
       → AllEmpty (table_conditions ps roles) → AllEmpty (member_conditions n.packages n.roles) → IsLinked ps roles w
-  linked-made w e none others = record {
-    faultless = all_empty ps roles none (along ps roles n of (λ (xs : List PackageRecord) (rs : List ℕ). AllEmpty (member_conditions xs rs)) others);
-    lists = subst (AreListsOf ps roles) (sym e) lists-are;
-  }
+  linked-made w e none others = grind (arith, all_empty, lists-are)

@@ -1,6 +1,6 @@
 -- Everything in named classes is a number of a class or a method.
 use Rattle.std.proofs.Common.{◌≡◌, ℕ, ◌+◌, ◌≤◌, ◌<◌, Bool, true, false, eqb, List, [], ◌∷◌, length, get_or, map, take, Option, Some}
-use Rattle.std.proofs.Common.{None, option_map, option_and_then, position, if◌then◌else◌, refl, sym, ap, subst, ◌∙◌, arith, inl, inr}
+use Rattle.std.proofs.Common.{None, option_map, option_and_then, position, if◌then◌else◌, sym, ap, subst, ◌∙◌, arith, inl, inr}
 use Rattle.std.specs.Prelude.{All, IfSome, slice_get, flat_map}
 use Rattle.std.specs.List.{cons_option}
 use Rattle.std.proofs.lemmas.Bool.{false≢true}
@@ -21,14 +21,14 @@ use Rattle.cap_desc.specs.declared.type_item.TypeItem.{TypeItem}
 use Rattle.jc_resolve.specs.declared.named.NamedClass.{NamedClass}
 use Rattle.jc_resolve.specs.declared.place.RecordPlace.{RecordPlace}
 use Rattle.jc_resolve.specs.Numbering.{NumberedClass, numbered_class, numbered_classes_of, classes_after, numbered_classes, numbered_methods, same_place}
-use Rattle.jc_resolve.specs.Numbering.{place_of_class, class_places, class_at, method_at}
-use Rattle.jc_resolve.specs.References.{meets_import, met_by, import_of, class_named, Refers, internal, imported}
+use Rattle.jc_resolve.specs.Numbering.{place_of_class, class_places, class_at}
+use Rattle.jc_resolve.specs.References.{meets_import, met_by, import_of, class_named, Refers}
 use Rattle.jc_resolve.specs.NamedClasses.{by_token, cells_by, cells_of_field, cells_of_fields, instance_fields, dispatch_entry, dispatch_table, interface_named}
 use Rattle.jc_resolve.specs.NamedClasses.{implemented_interfaces, parent_named, named_interface, named_proper, named_class, named_classes}
 use Rattle.jc_resolve.specs.Named.{package_by, package_of, IsDeclared, AreEntries, IsSized, IsNamedClass}
 use Rattle.jc_resolve.proofs.NumberLaws.{same-equal, position_below, method_below}
 use Rattle.jc_resolve.proofs.ReferenceLaws.{named-refers}
-use Rattle.jc_resolve.proofs.DeclaredTypes.{either, named-length, named_below, cells_declared}
+use Rattle.jc_resolve.proofs.DeclaredTypes.{named-length, named_below, cells_declared}
 
 -- ---- homes
 
@@ -50,15 +50,11 @@ found t xs i h = elim (slice_get_cases xs i).1 [
 
 home_named : (ps : List PackageRecord) (object : ℕ) (c : NumberedClass) → (named_class ps object c).package ≡ c.home
 unfolding named_class
-home_named ps object c =
-    either (λ (k : NamedClass). k.package ≡ c.home) (format.is_interface c.record_of.flags) (named_interface ps c) (named_proper ps object c) refl refl
+home_named ps object c = grind (arith)
 
 home_by : (ps : List PackageRecord) (object : ℕ) (o : Option NumberedClass) (place : RecordPlace) → option_map place_of_class o ≡ Some place
     → package_by (option_map (named_class ps object) o) ≡ place.package
-home_by ps object None place e = absurd cc
-home_by ps object (Some c) place e =
-    let same : place_of_class c ≡ place = cc in
-    home_named ps object c ∙ ap (λ (q : RecordPlace). q.package) same
+home_by ps object z place e = grind (arith, home_named)
 
 -- the class at a place is of the place's package
 package_at : (ps : List PackageRecord) (object : ℕ) (place : RecordPlace) (c : ℕ) → class_at ps place ≡ Some c
@@ -73,8 +69,7 @@ package_at ps object place c h =
 
 met_by_earlier : (ps : List PackageRecord) (k j : ℕ) (o : Option Package) → option_and_then (λ asked. position (meets_import asked) (take k ps)) o
     ≡ Some j → j < k
-met_by_earlier ps k j None h = absurd cc
-met_by_earlier ps k j (Some asked) h = omega (arith, position_below (meets_import asked) (take k ps) j h, length-take k ps)
+met_by_earlier ps k j u h = grind (arith, position_below, length-take)
 
 met_earlier : (ps : List PackageRecord) (k token j : ℕ) → met_by ps k token ≡ Some j → j < k
 unfolding met_by
@@ -82,9 +77,7 @@ met_earlier ps k token j h = met_by_earlier ps k j (import_of ps k token) h
 
 refers_earlier : (ps : List PackageRecord) (object k : ℕ) (reference : ClassReference) (c : ℕ) → Refers ps k reference c
     → package_of (named_classes ps object) c ≤ k
-refers_earlier ps object k reference c (internal offset is at) = omega (arith, package_at ps object (record { «package» = k; offset = offset }) c at)
-refers_earlier ps object k reference c (imported import class j offset is met out at) =
-    omega (arith, package_at ps object (record { «package» = j; offset = offset }) c at, met_earlier ps k import j met)
+refers_earlier ps object k reference c w = grind (arith, package_at, met_earlier)
 
 -- ---- classes
 
@@ -93,8 +86,7 @@ module _ (ps : List PackageRecord) (object : ℕ) where
   many = length (named_classes ps object)
 
   class_within : (o : Option ℕ) → IfSome o (λ c. c < length (numbered_classes ps)) → IfSome o (λ c. c < many)
-  class_within None h = tt
-  class_within (Some c) h = subst (λ n. c < n) (sym (named-length ps object)) h
+  class_within x h = grind (arith, named-length)
 
   named_within : (k reference : ℕ) → IfSome (class_named ps k reference) (λ c. c < many)
   named_within k reference = class_within (class_named ps k reference) (named_below ps k reference)
@@ -102,9 +94,7 @@ module _ (ps : List PackageRecord) (object : ℕ) where
   -- ---- superclasses
 
   pub parent_within : (k reference : ℕ) → IfSome (parent_named ps k reference) (λ c. c < many)
-  parent_within k reference =
-      let P : Option ℕ → Type 0 = λ o. IfSome o (λ c. c < many) in
-      either P (eqb reference 0xFFFF) None (class_named ps k reference) tt (named_within k reference)
+  parent_within k reference = grind (arith, eqb, named_within)
 
   abbrev IsEarlier : ℕ → Option ℕ → Type 0
   IsEarlier k o = IfSome o (λ c. package_of (named_classes ps object) c ≤ k)
@@ -114,8 +104,7 @@ module _ (ps : List PackageRecord) (object : ℕ) where
   named_earlier k reference (Some c) e = refers_earlier ps object k (reference_of reference) c (named-refers ps k reference c e)
 
   pub parent_earlier : (k reference : ℕ) → IsEarlier k (parent_named ps k reference)
-  parent_earlier k reference =
-      either (IsEarlier k) (eqb reference 0xFFFF) None (class_named ps k reference) tt (named_earlier k reference (class_named ps k reference) refl)
+  parent_earlier k reference = grind (arith, eqb, named_earlier)
 
   -- ---- interfaces
 
@@ -130,8 +119,7 @@ module _ (ps : List PackageRecord) (object : ℕ) where
   pub interfaces_within : (k : ℕ) (is : List Interface) → All IsWithin (implemented_interfaces ps k is)
   unfolding interface_named
   interfaces_within k [] = All-nil IsWithin
-  interfaces_within k (i ∷ is) =
-      interface_by i (class_named ps k i.class_ref) (implemented_interfaces ps k is) (named_within k i.class_ref) (interfaces_within k is)
+  interfaces_within k (i ∷ is) = grind (arith, named_within k i.class_ref, interfaces_within k is)
 
   -- ---- tables
 
@@ -140,9 +128,7 @@ module _ (ps : List PackageRecord) (object : ℕ) where
 
   entry_within : (k offset : ℕ) → IsEntry (dispatch_entry ps k offset)
   unfolding dispatch_entry
-  entry_within k offset =
-      let place : RecordPlace = record { «package» = k; offset = offset } in
-      either IsEntry (eqb offset 0xFFFF) None (method_at ps place) tt (method_below ps place (method_at ps place) refl)
+  entry_within k offset = grind (arith, eqb, method_below)
 
   table_within : (k base : ℕ) (offsets : List ℕ) → AreEntries (length (numbered_methods ps)) (dispatch_table ps k base offsets)
   table_within k base offsets = All-map IsEntry (dispatch_entry ps k) offsets (λ i d lt. entry_within k (get_or offsets i d))
@@ -150,8 +136,7 @@ module _ (ps : List PackageRecord) (object : ℕ) where
   -- ---- cells
 
   field_declared : (k : ℕ) (o : Option TypeItem) → All (IsDeclared (named_classes ps object) object) (cells_by ps object k o)
-  field_declared k None = All-nil (IsDeclared (named_classes ps object) object)
-  field_declared k (Some t) = cells_declared ps object k t
+  field_declared k y = grind (arith, cells_declared)
 
   fields_declared : (k : ℕ) (d : Description) (fields : List FieldDescriptor)
       → All (IsDeclared (named_classes ps object) object) (flat_map (cells_of_field ps object k d) fields)
@@ -172,17 +157,7 @@ module _ (ps : List PackageRecord) (object : ℕ) where
   IsNamed = IsNamedClass (length ps) (length (numbered_methods ps)) (named_classes ps object) object
 
   interface_right : (c : NumberedClass) → c.home < length ps → IsSized (named_interface ps c) → IsNamed (named_interface ps c)
-  interface_right c home sized = record {
-    home = home;
-    parent = tt;
-    earlier = tt;
-    interfaces = interfaces_within c.home c.record_of.interfaces;
-    public = All-nil IsEntry;
-    visible = All-nil IsEntry;
-    own = All-nil (IsDeclared (named_classes ps object) object);
-    interface = λ e. record { parent = refl; public = refl; visible = refl; own = refl };
-    sized = sized;
-  }
+  interface_right c home sized = grind (arith, interfaces_within)
 
   proper_right : (c : NumberedClass) → c.home < length ps → IsSized (named_proper ps object c) → IsNamed (named_proper ps object c)
   proper_right c home sized = record {

@@ -1,6 +1,6 @@
 -- The records of the Class component stand one after the other, so no two classes stand at one place.
 use Rattle.std.proofs.Common.{◌≡◌, ℕ, zero, suc, ◌+◌, ◌<◌, ◌≤◌, ◌⊎◌, Bool, true, false, leb, cond, List, [], ◌∷◌, length, map}
-use Rattle.std.proofs.Common.{Option, Some, None, refl, sym, ap, subst, ◌∙◌, arith, inl, inr}
+use Rattle.std.proofs.Common.{Option, Some, None, refl, sym, subst, ◌∙◌, arith, inl, inr}
 use Rattle.std.specs.Prelude.{All, slice_get, option_map}
 use Rattle.std.proofs.lemmas.Bool.{leb-true}
 use Rattle.std.proofs.lemmas.List.Elements.{All-head, All-tail}
@@ -14,7 +14,7 @@ use Rattle.cap_class.specs.ClassFormat.{Class, record_info, is_after, beyond_fir
 use Rattle.cap_package.specs.PackageRecord.{PackageRecord}
 use Rattle.jc_resolve.specs.declared.place.RecordPlace.{RecordPlace}
 use Rattle.jc_resolve.specs.Named.{IsAgreed}
-use Rattle.jc_resolve.specs.Numbering.{NumberedClass, numbered_class, numbered_classes_of, classes_after, numbered_classes, place_of_class, class_places}
+use Rattle.jc_resolve.specs.Numbering.{NumberedClass, numbered_class, numbered_classes_of, classes_after, place_of_class, class_places}
 use Rattle.jc_resolve.proofs.Pairwise.{each-map, Pairwise, pairwise-append, one-place}
 use Rattle.jc_resolve.proofs.Repeats.{goes_on}
 
@@ -35,16 +35,14 @@ none_rising at cs e = subst (AreRising at) (sym e) (record { from = tt {0}; risi
 at_offset : (interface : Bool) (offset first : ℕ) (bytes : List ℕ) (at : ℕ) (c : Class) (after : ℕ)
     → Spells (beyond_first interface offset first) bytes at c after → c.offset ≡ offset
 unfolding Spells
-at_offset true offset first bytes at c after h = ap (λ (x : Class). x.offset) h.3.0
-at_offset false offset first bytes at c after h = ap (λ (x : Class). x.offset) h.3.3.3.0
+at_offset x offset first bytes at c after h = grind (arith)
 
 pub record StandsFrom (at : ℕ) (c : Class) (after : ℕ) : Type 0 where
   pub here : c.offset ≡ at
   pub moves : at < after
 
 reach_by : (b : Bool) (x at n : ℕ) (bytes : List ℕ) → leb (at + 1) (length bytes) ≡ b → cond b (Some x) None ≡ Some n → at + 1 ≤ length bytes
-reach_by true x at n bytes e h = leb-true (at + 1) (length bytes) e
-reach_by false x at n bytes e h = absurd cc
+reach_by x x2 at n bytes e h = grind (arith, leb-true)
 
 record_at : (s : Bool) (bytes : List ℕ) (at : ℕ) (c : Class) (after : ℕ) → Spells (record_info s) bytes at c after → StandsFrom at c after
 unfolding Spells record_info
@@ -141,24 +139,13 @@ classes_before k (p ∷ ps) agreed =
     )
 
 never_before : (c d : NumberedClass) (place : RecordPlace) → place_of_class c ≡ place → place_of_class d ≡ place → IsBefore c d → ⊥
-never_before c d place e f (inl lt) =
-    let home : c.home ≡ d.home = ap (λ (q : RecordPlace). q.package) (e ∙ sym f) in
-    omega arith
-never_before c d place e f (inr both) =
-    let offset : c.record_of.offset ≡ d.record_of.offset = ap (λ (q : RecordPlace). q.offset) (e ∙ sym f) in
-    let lt = both.1 in
-    omega arith
+never_before c d place e f w = grind (arith)
 
 at_place : (o : Option NumberedClass) (place : RecordPlace) → option_map place_of_class o ≡ Some place → (c : NumberedClass) × (o ≡ Some c)
     × (place_of_class c ≡ place)
-at_place None place h = absurd cc
-at_place (Some c) place h = (c, refl, cc)
+at_place x place h = grind (arith)
 
 -- no two classes stand at one place
 pub classes_apart : (ps : List PackageRecord) → All IsAgreed ps → (i j : ℕ) (place : RecordPlace) → slice_get (class_places ps) i ≡ Some place
     → slice_get (class_places ps) j ≡ Some place → i ≡ j
-classes_apart ps agreed i j place e f =
-    let c = at_place (slice_get (numbered_classes ps) i) place (sym (slice_get-map place_of_class (numbered_classes ps) i) ∙ e) in
-    let d = at_place (slice_get (numbered_classes ps) j) place (sym (slice_get-map place_of_class (numbered_classes ps) j) ∙ f) in
-    one-place IsBefore (numbered_classes ps) i j c.0 d.0 (classes_before 0 ps agreed) c.1 d.1 (never_before c.0 d.0 place c.2 d.2)
-    (never_before d.0 c.0 place d.2 c.2)
+classes_apart ps agreed i j place e f = grind (arith, slice_get-map, one-place, classes_before, never_before)

@@ -1,5 +1,5 @@
 -- The first condition that is broken, of lists of conditions one after the other, and of a condition that is asked alone.
-use Rattle.std.proofs.Common.{◌≡◌, List, [], ◌∷◌, ◌++◌, Option, Some, None, Ok, Err, sym, ap, ◌∙◌, inl, inr}
+use Rattle.std.proofs.Common.{◌≡◌, List, [], ◌∷◌, ◌++◌, Option, None, Ok, Err, sym, inl, inr, arith}
 use Rattle.std.specs.List.{filter_map}
 use Rattle.std.specs.Option.{option_to_list}
 use Rattle.first_fault.specs.declared.place.Place.{Place}
@@ -33,12 +33,10 @@ module _ {F : Type 0} where
 
 module _ {F : Type 0} (place : F → Place) where
   least_refused : (faults : List F) (o : Option F) (f : F) → least_in place None faults ≡ o → Err f ≡ refused o → IsLeast place faults f
-  least_refused faults None f e h = absurd cc
-  least_refused faults (Some g) f e h = let same : g ≡ f = cc in least-found place faults f (e ∙ ap Some same)
+  least_refused faults y f e h = grind (arith, least-found)
 
   none_refused : (faults : List F) (o : Option F) (x : Unit {0}) → least_in place None faults ≡ o → Ok x ≡ refused o → faults ≡ []
-  none_refused faults None x e h = least-none place faults e
-  none_refused faults (Some g) x e h = absurd cc
+  none_refused faults y x e h = grind (arith, least-none)
 
   pub things-refused : {X : Type 0} (fault : X → Option F) (xs : List X) (f : F) → Err f ≡ refused (least_of place fault xs)
       → IsLeast place (filter_map fault xs) f

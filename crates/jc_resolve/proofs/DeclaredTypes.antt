@@ -1,12 +1,11 @@
 -- The types that packages tell are types of their named classes.
-use Rattle.std.proofs.Common.{◌≡◌, ℕ, ◌<◌, Bool, true, false, eqb, List, [], ◌∷◌, ◌++◌, length, Option, Some, None, option_map}
-use Rattle.std.proofs.Common.{option_and_then, if◌then◌else◌, refl, sym, ap, subst, ◌∙◌, inl, inr}
+use Rattle.std.proofs.Common.{◌≡◌, ℕ, ◌<◌, Bool, true, false, eqb, List, [], ◌∷◌, ◌++◌, length, Option, Some, None, option_map, arith}
+use Rattle.std.proofs.Common.{option_and_then, if◌then◌else◌, refl, ap, ◌∙◌, inl}
 use Rattle.std.specs.Prelude.{All, IfSome, slice_get}
 use Rattle.std.proofs.lemmas.List.{length-map}
-use Rattle.std.proofs.lemmas.List.Elements.{All-nil, All-cons, All-append}
+use Rattle.std.proofs.lemmas.List.Elements.{All-nil, All-append}
 use Rattle.std.proofs.lemmas.Option.{slice_get-map}
 use Rattle.jc_base.specs.declared.ty.Ty.{Ty}
-use Rattle.jc_base.specs.declared.ty.Ty.TheVariants.{Short, IntHigh, IntLow, Class, ArrBool, ArrByte, ArrShort, ArrInt, ArrRef}
 use Rattle.jc_base.specs.Cell.{IsNoHalf, AreWhole, no_cells, whole_int, one_cell, IsFirstCell}
 use Rattle.cap_bytes.specs.ClassReference.{reference_of}
 use Rattle.cap_class.specs.ClassFormat as format
@@ -25,12 +24,10 @@ use Rattle.jc_resolve.proofs.NumberLaws.{class_below}
 
 -- of two things that a property holds of, it holds of the one that is chosen
 pub either : {X : Type 0} (P : X → Type 0) (b : Bool) (x y : X) → P x → P y → P (if b then x else y)
-either P true x y p q = p
-either P false x y p q = q
+either x y x2 y2 p q = grind (arith)
 
 no-half-first : (a : Ty) → IsNoHalf a → IsFirstCell a
-no-half-first IntLow h = h
-no-half-first a h = tt
+no-half-first a h = grind (arith)
 
 -- ---- numbers of named classes
 
@@ -39,8 +36,7 @@ unfolding named_classes
 named-length ps object = length-map (numbered_classes ps) (named_class ps object)
 
 flag_by : (b : Bool) (x y : NamedClass) → x.interface ≡ true → y.interface ≡ false → (if b then x else y).interface ≡ b
-flag_by true x y e f = e
-flag_by false x y e f = f
+flag_by x x2 y e f = grind (arith)
 
 pub flag_named : (ps : List PackageRecord) (object : ℕ) (c : NumberedClass) → (named_class ps object c).interface ≡ format.is_interface c.record_of.flags
 unfolding named_class
@@ -48,8 +44,7 @@ flag_named ps object c = flag_by (format.is_interface c.record_of.flags) (named_
 
 interface_in : (ps : List PackageRecord) (object : ℕ) (o : Option NumberedClass) → interface_by (option_map (named_class ps object) o)
     ≡ flagged_interface o
-interface_in ps object None = refl
-interface_in ps object (Some c) = flag_named ps object c
+interface_in ps object z = grind (arith, flag_named)
 
 -- a named class is an interface where its record says so
 pub interface_numbered : (ps : List PackageRecord) (object c : ℕ) → is_interface (named_classes ps object) c ≡ is_interface_number ps c
@@ -60,8 +55,7 @@ interface_numbered ps object c =
 -- ---- what is named is a number
 
 pub named_at : (ps : List PackageRecord) (o : Option RecordPlace) → IfSome (option_and_then (class_at ps) o) (λ c. c < length (numbered_classes ps))
-named_at ps None = tt
-named_at ps (Some place) = class_below ps place (class_at ps place) refl
+named_at ps y = grind (arith, class_below)
 
 pub named_below : (ps : List PackageRecord) (k reference : ℕ) → IfSome (class_named ps k reference) (λ c. c < length (numbered_classes ps))
 unfolding class_named class_referred
@@ -76,8 +70,7 @@ module _ (ps : List PackageRecord) (object : ℕ) where
 
   class_by : (c : ℕ) (b : Bool) → c < length (numbered_classes ps) → is_interface_number ps c ≡ b
       → IsTypeClass (named_classes ps object) object (if b then object else c)
-  class_by c true lt e = inl refl
-  class_by c false lt e = inr (subst (λ n. c < n) (sym (named-length ps object)) lt, interface_numbered ps object c ∙ e)
+  class_by c y lt e = grind (arith, named-length, interface_numbered)
 
   class_or : (o : Option ℕ) → IfSome o (λ c. c < length (numbered_classes ps))
       → IsTypeClass (named_classes ps object) object (class_or_object ps object o)
@@ -89,30 +82,10 @@ module _ (ps : List PackageRecord) (object : ℕ) where
 
   pub type_declared : (k : ℕ) (t : TypeItem) → IsDeclared (named_classes ps object) object (type_of ps object k t)
   unfolding type_of
-  type_declared k t =
-      let n = t.nibble in
-      let c = type_class ps object k t.class_ref in
-      let known = class_declared k t.class_ref in
-      let from14 : Ty = if eqb n 14 then ArrRef c else Short in
-      let from13 : Ty = if eqb n 13 then ArrInt else from14 in
-      let from12 : Ty = if eqb n 12 then ArrShort else from13 in
-      let from11 : Ty = if eqb n 11 then ArrByte else from12 in
-      let from10 : Ty = if eqb n 10 then ArrBool else from11 in
-      let from6 : Ty = if eqb n 6 then Class c else from10 in
-      either IsKnown (eqb n 5) IntHigh from6 tt
-      (either IsKnown (eqb n 6) (Class c) from10 known
-      (either IsKnown (eqb n 10) ArrBool from11 tt
-      (either IsKnown (eqb n 11) ArrByte from12 tt
-      (either IsKnown (eqb n 12) ArrShort from13 tt
-      (either IsKnown (eqb n 13) ArrInt from14 tt
-      (either IsKnown (eqb n 14) (ArrRef c) Short known tt))))))
+  type_declared k t = grind (arith, class_declared, eqb)
 
   pub cells_declared : (k : ℕ) (t : TypeItem) → All (IsDeclared (named_classes ps object) object) (cells_of_type ps object k t)
-  cells_declared k t =
-      let low = All-cons IsKnown IntLow [] tt (All-nil IsKnown) in
-      either (All IsKnown) (eqb t.nibble 5) (IntHigh ∷ IntLow ∷ []) (type_of ps object k t ∷ [])
-      (All-cons IsKnown IntHigh (IntLow ∷ []) tt low)
-      (All-cons IsKnown (type_of ps object k t) [] (type_declared k t) (All-nil IsKnown))
+  cells_declared k t = grind (arith, eqb, type_declared)
 
   -- ---- signatures
 
@@ -122,18 +95,14 @@ module _ (ps : List PackageRecord) (object : ℕ) where
       All-append IsKnown (cells_of_type ps object k t) (arguments_before ps object k u us) (cells_declared k t) (before_declared k u us)
 
   after_declared : (k : ℕ) (t : TypeItem) (us : List TypeItem) → IfSome (result_after ps object k t us) (IsDeclared (named_classes ps object) object)
-  after_declared k t [] =
-      let P : Option Ty → Type 0 = λ o. IfSome o IsKnown in
-      either P (eqb t.nibble 1) None (Some (type_of ps object k t)) tt (type_declared k t)
+  after_declared k t [] = grind (arith, eqb, type_declared)
   after_declared k t (u ∷ us) = after_declared k u us
 
   pub arguments_in : (k : ℕ) (ts : List TypeItem) → All (IsDeclared (named_classes ps object) object) (signature_in ps object k ts).args
-  arguments_in k [] = All-nil IsKnown
-  arguments_in k (t ∷ ts) = before_declared k t ts
+  arguments_in k y = grind (arith, before_declared)
 
   pub result_in : (k : ℕ) (ts : List TypeItem) → IfSome (signature_in ps object k ts).result (IsDeclared (named_classes ps object) object)
-  result_in k [] = tt
-  result_in k (t ∷ ts) = after_declared k t ts
+  result_in k y = grind (arith, after_declared)
 
   pub arguments_declared : (k : ℕ) (d : Description) (offset : ℕ)
       → All (IsDeclared (named_classes ps object) object) (declared_signature ps object k d offset).args
@@ -149,26 +118,11 @@ module _ (ps : List PackageRecord) (object : ℕ) where
 
   not_half : (k : ℕ) (t : TypeItem) → eqb t.nibble 5 ≡ false → IsNoHalf (type_of ps object k t)
   unfolding type_of
-  not_half k t e =
-      let n = t.nibble in
-      let c = type_class ps object k t.class_ref in
-      let from14 : Ty = if eqb n 14 then ArrRef c else Short in
-      let from13 : Ty = if eqb n 13 then ArrInt else from14 in
-      let from12 : Ty = if eqb n 12 then ArrShort else from13 in
-      let from11 : Ty = if eqb n 11 then ArrByte else from12 in
-      let from10 : Ty = if eqb n 10 then ArrBool else from11 in
-      rw e
-      (either IsNoHalf (eqb n 6) (Class c) from10 tt
-      (either IsNoHalf (eqb n 10) ArrBool from11 tt
-      (either IsNoHalf (eqb n 11) ArrByte from12 tt
-      (either IsNoHalf (eqb n 12) ArrShort from13 tt
-      (either IsNoHalf (eqb n 13) ArrInt from14 tt
-      (either IsNoHalf (eqb n 14) (ArrRef c) Short tt tt))))))
+  not_half k t e = grind (arith, eqb)
 
   first_by : (k : ℕ) (t : TypeItem) (b : Bool) → eqb t.nibble 5 ≡ b → IsFirstCell (type_of ps object k t)
   unfolding type_of
-  first_by k t true e = rw e tt
-  first_by k t false e = no-half-first (type_of ps object k t) (not_half k t e)
+  first_by k t z e = grind (arith, no-half-first, not_half)
 
   cells_whole : (k : ℕ) (t : TypeItem) (b : Bool) (rest : List Ty) → eqb t.nibble 5 ≡ b → AreWhole rest
       → AreWhole (cells_of_type ps object k t ++ rest)
@@ -190,8 +144,7 @@ module _ (ps : List PackageRecord) (object : ℕ) where
   whole_in k (t ∷ ts) = before_whole k t ts
 
   first_in : (k : ℕ) (ts : List TypeItem) → IfSome (signature_in ps object k ts).result IsFirstCell
-  first_in k [] = tt
-  first_in k (t ∷ ts) = after_first k t ts
+  first_in k y = grind (arith, after_first)
 
   pub arguments_whole : (k : ℕ) (d : Description) (offset : ℕ) → AreWhole (declared_signature ps object k d offset).args
   unfolding declared_signature

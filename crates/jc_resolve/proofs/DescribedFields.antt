@@ -32,9 +32,7 @@ later_takes f g next each bytes at y after le h =
 
 byte_takes : TakesEach (λ n. 1) u1
 unfolding Spells
-byte_takes bytes at n after le h =
-    let a = goes_on u1 bytes at n after le h in
-    record { room = omega (arith, h.2); reach = a.reach }
+byte_takes bytes at n after le h = grind (arith)
 
 field_takes : TakesEach (λ (f : FieldDescriptor). 1) field_descriptor_info
 field_takes = first_takes 1 u1 _ byte_takes
@@ -63,13 +61,7 @@ all_fields (c ∷ cs) = omega (arith, length-append c.fields (fields_of cs), sum
 
 -- the fields of several classes, and those of one
 pub fields_of-few : (x : DescClasses) → length (fields_of (described_left x)) ≤ 65535
-fields_of-few x =
-    omega (
-      arith,
-      all_fields (described_left x),
-      given_within (λ (c : ClassDescriptor). length c.fields) class_descriptor_info class_takes x.left x.items,
-      x.items.few,
-    )
+fields_of-few x = grind (arith, all_fields, given_within, class_takes)
 
 pub fields_left-few : (x : DescFields) → length (fields_left x) ≤ 65535
 fields_left-few x =

@@ -80,14 +80,12 @@ module _ {Y : Type 0} (f : described.ClassDescriptor → List Y) (ds : List desc
   all-none (x ∷ xs) = all-none xs
 
   pub given-outside : 0x8000 ≤ offset → given ≡ []
-  given-outside le =
-      ap (λ b. flat_map (λ (d : described.ClassDescriptor). cond (b && eqb d.class_ref offset) (f d) []) ds) (le-ltb offset 0x8000 le) ∙ all-none ds
+  given-outside le = grind (arith, le-ltb offset 0x8000 le, all-none ds, flat_map, cond, eqb)
 
 -- ---- the record that is found
 
 turned : (a b : ℕ) (c : Bool) → eqb a b ≡ c → eqb b a ≡ c
-turned a b true e = eq-eqb b a (sym (eqb-true a b e))
-turned a b false e = ne_eqb b a (λ same. eqb-false a b e (sym same))
+turned a b z e = grind (arith, eq-eqb, eqb-true, ne_eqb, eqb-false)
 
 seam : (before : List described.ClassDescriptor) (d : described.ClassDescriptor) (ds : List described.ClassDescriptor)
     → slice_get (before ++ d ∷ ds) (length before) ≡ Some d
@@ -122,15 +120,18 @@ pub record-found : (ds : List described.ClassDescriptor) (offset : ℕ)
     → option_and_then (slice_get ds) (number_by_place (with_all none_numbered (map spot_of_record ds)).entries (place_at offset))
     ≡ find (describes_at offset) ds
 record-found ds offset =
-    ap (option_and_then (slice_get ds)) (numbered-first (map spot_of_record ds) (place_at offset)
-    ∙ position_from-zero (is_at (place_at offset)) (map spot_of_record ds))
-    ∙ search_on offset [] ds
+    grind (
+      arith,
+      option_and_then (slice_get ds),
+      numbered-first (map spot_of_record ds) (place_at offset),
+      position_from-zero (is_at (place_at offset)) (map spot_of_record ds),
+      search_on offset [] ds,
+    )
 
 -- ---- each class is described once
 
 once-by : (n : ℕ) (f : PackFault) (b : Bool) → eqb n 1 ≡ b → cond b None (Some f) ≡ None → n ≡ 1
-once-by n f true e h = eqb-true n 1 e
-once-by n f false e h = absurd cc
+once-by n f z e h = grind (arith, eqb-true)
 
 module _ (ds : List described.ClassDescriptor) where
   once : (c : Class) → undescribed_fault ds c ≡ None → IsDescribedOnce ds c

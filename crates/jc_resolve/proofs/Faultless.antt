@@ -1,5 +1,5 @@
 -- Where nothing of a list is at fault, nothing is wrong with a thing of it.
-use Rattle.std.proofs.Common.{◌≡◌, ℕ, zero, suc, List, [], ◌∷◌, ◌++◌, flat_map, Option, Some, None, sym, ap, subst, ◌∙◌, ◌⊎◌, inl}
+use Rattle.std.proofs.Common.{◌≡◌, ℕ, zero, suc, List, [], ◌∷◌, ◌++◌, flat_map, Option, Some, None, sym, ap, subst, ◌∙◌, ◌⊎◌, inl, arith}
 use Rattle.std.proofs.Common.{inr}
 use Rattle.std.specs.Prelude.{slice_get}
 use Rattle.std.specs.List.{filter_map}
@@ -50,7 +50,5 @@ both_faultless f xs ys e = both_empty (filter_map f xs) (filter_map f ys) (sym (
 pub flat_faultless : {X Y Z : Type 0} (f : Y → Option Z) (g : X → List Y) (xs : List X) (i : ℕ) (x : X) → filter_map f (flat_map g xs) ≡ []
     → slice_get xs i ≡ Some x → filter_map f (g x) ≡ []
 flat_faultless f g [] i x e at = absurd cc
-flat_faultless f g (y ∷ ys) zero x e at =
-    let same : y ≡ x = cc in
-    subst (λ z. filter_map f (g z) ≡ []) same (both_faultless f (g y) (flat_map g ys) e).0
+flat_faultless f g (y ∷ ys) zero x e at = grind (arith, both_faultless, flat_map)
 flat_faultless f g (y ∷ ys) (suc i) x e at = flat_faultless f g ys i x (both_faultless f (g y) (flat_map g ys) e).1 at

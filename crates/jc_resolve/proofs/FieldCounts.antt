@@ -1,21 +1,18 @@
 -- How many cells the instance fields of a class have.
 use Rattle.std.proofs.Common.{◌≡◌, ℕ, zero, suc, ◌+◌, ◌*◌, ◌≤◌, ◌<◌, Bool, true, false, cond, eqb, List, [], ◌∷◌, length}
-use Rattle.std.proofs.Common.{length-append, Option, Some, None, refl, ap, arith, inl, inr}
+use Rattle.std.proofs.Common.{length-append, Option, refl, ap, arith, inl, inr}
 use Rattle.std.specs.Prelude.{filter, flat_map}
 use Rattle.std.specs.List.{range_with_len}
 use Rattle.std.proofs.lemmas.Bool.{cases_eq, ne_eqb}
 use Rattle.jc_base.specs.declared.ty.Ty.{Ty}
 use Rattle.cap_desc.specs.declared.desc_part.DescPart.{DescPart}
 use Rattle.cap_desc.specs.declared.type_item.TypeItem.{TypeItem}
-use Rattle.cap_desc.specs.ClassRecords.{described_left}
 use Rattle.cap_desc.specs.DescriptorFormat.{ClassDescriptor, FieldDescriptor, instance_token}
 use Rattle.cap_desc.specs.Members.{fields_of}
-use Rattle.cap_package.specs.Descriptions.{Description, description, field_type}
+use Rattle.cap_package.specs.Descriptions.{Description, description}
 use Rattle.cap_package.specs.PackageRecord.{PackageRecord}
-use Rattle.jc_resolve.specs.WorldTypes.{type_of}
-use Rattle.jc_resolve.specs.NamedClasses.{describes, is_instance_field, fields_described, instance_fields, with_token, by_token, cells_by}
+use Rattle.jc_resolve.specs.NamedClasses.{fields_described, instance_fields, with_token, by_token, cells_by}
 use Rattle.jc_resolve.specs.NamedClasses.{cells_of_field, cells_of_fields}
-use Rattle.jc_resolve.proofs.DeclaredTypes.{either}
 use Rattle.jc_resolve.proofs.DescribedFields.{fields_of-few}
 
 -- ---- things by a number of theirs: each is taken once at most
@@ -33,8 +30,7 @@ module _ {X : Type 0} (number : X → ℕ) where
   parts xs a n = length-append (numbered xs a) (between xs (a + 1) n)
 
   one_more : (x : X) (ys : List X) (b : Bool) → length (cond b (x ∷ ys) ys) ≤ suc (length ys)
-  one_more x ys true = omega arith
-  one_more x ys false = omega arith
+  one_more x ys z = grind (arith)
 
   same_many : (x : X) (xs : List X) (a : ℕ) → (number x ≡ a → ⊥) → length (numbered (x ∷ xs) a) ≡ length (numbered xs a)
   same_many x xs a ne = ap (λ b. length (cond b (x ∷ numbered xs a) (numbered xs a))) (ne_eqb (number x) a ne)
@@ -63,20 +59,13 @@ module _ {X : Type 0} (number : X → ℕ) where
 -- ---- cells of fields
 
 few_by : (ps : List PackageRecord) (object k : ℕ) (o : Option TypeItem) → length (cells_by ps object k o) ≤ 2
-few_by ps object k None = omega arith
-few_by ps object k (Some t) = either (λ cells. length cells ≤ 2) (eqb t.nibble 5) _ (type_of ps object k t ∷ []) (omega arith) (omega arith)
+few_by ps object k u = grind (arith, eqb)
 
 cells_few : (ps : List PackageRecord) (object k : ℕ) (d : Description) (fields : List FieldDescriptor)
     → length (flat_map (cells_of_field ps object k d) fields) ≤ 2 * length fields
 unfolding cells_of_field
 cells_few ps object k d [] = omega arith
-cells_few ps object k d (f ∷ fields) =
-    omega (
-      arith,
-      length-append (cells_of_field ps object k d f) (flat_map (cells_of_field ps object k d) fields),
-      few_by ps object k (field_type d f.ty),
-      cells_few ps object k d fields,
-    )
+cells_few ps object k d (f ∷ fields) = grind (arith, length-append, few_by, cells_few ps object k d fields)
 
 tokens_once : (fields : List FieldDescriptor) → length (by_token fields) ≤ length fields
 unfolding with_token
@@ -99,27 +88,14 @@ filtered_few t (x ∷ xs) = filtered_by (t x) (filtered_few t xs)
 
 described_few : (offset : ℕ) (c : ClassDescriptor) → length (fields_described offset c) ≤ length c.fields
 unfolding fields_described
-described_few offset c =
-    either (λ fields. length fields ≤ length c.fields) (describes offset c) (filter is_instance_field c.fields) []
-    (filtered_few is_instance_field c.fields) (omega arith)
+described_few offset c = grind (arith, filtered_few)
 
 pub instance_few : (classes : List ClassDescriptor) (offset : ℕ) → length (instance_fields classes offset) ≤ length (fields_of classes)
 unfolding instance_fields
 instance_few [] offset = omega arith
-instance_few (c ∷ classes) offset =
-    omega (
-      arith,
-      length-append (fields_described offset c) (instance_fields classes offset),
-      length-append c.fields (fields_of classes),
-      described_few offset c,
-      instance_few classes offset,
-    )
+instance_few (c ∷ classes) offset = grind (arith, length-append, described_few, instance_few classes offset)
 
 -- the cells of a class's fields are no more than a Descriptor can tell
 pub own_sized : (ps : List PackageRecord) (object k : ℕ) (d : Description) (x : DescPart) (offset : ℕ) (cells : List Ty) → description x ≡ d
     → cells ≡ cells_of_fields ps object k d (instance_fields d.items.classes offset) → length cells ≤ 131070
-own_sized ps object k d x offset cells e f =
-    let fields = instance_fields d.items.classes offset in
-    let few : length fields ≤ length (fields_of (described_left x.classes)) = omega
-    (arith, instance_few d.items.classes offset, ap (λ (y : Description). length (fields_of y.items.classes)) e) in
-    omega (arith, ap length f, own_few ps object k d fields, few, fields_of-few x.classes)
+own_sized ps object k d x offset cells e f = grind (arith, instance_few, own_few, fields_of-few)

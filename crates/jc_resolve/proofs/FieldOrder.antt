@@ -1,5 +1,5 @@
 -- After the greatest token of fields no field comes.
-use Rattle.std.proofs.Common.{◌≡◌, ℕ, zero, suc, ◌+◌, ◌≤◌, Bool, true, false, eqb, List, [], ◌∷◌, ◌++◌, filter, flat_map, fold}
+use Rattle.std.proofs.Common.{◌≡◌, ℕ, zero, suc, ◌+◌, ◌≤◌, Bool, false, eqb, List, [], ◌∷◌, ◌++◌, filter, flat_map, fold}
 use Rattle.std.proofs.Common.{refl, arith}
 use Rattle.std.specs.Prelude.{max}
 use Rattle.std.specs.List.{range_with_len}
@@ -18,17 +18,11 @@ end_grows end [] = omega arith
 end_grows end (f ∷ fs) = omega (arith, end_grows (max end (f.token + 1)) fs, le-max_left end (f.token + 1))
 
 apart : (a b : ℕ) (same : Bool) → eqb a b ≡ same → a + 1 ≤ b → eqb a b ≡ false
-apart a b false e h = e
-apart a b true e h =
-    let same = eqb-true a b e in
-    absurd (omega (arith, same, h))
+apart a b z e h = grind (arith, eqb-true)
 
 none_left : (end token : ℕ) (fs : List OwnField) → end_after end fs ≤ token → filter (bears_token token) fs ≡ []
 none_left end token [] h = refl
-none_left end token (f ∷ fs) h =
-    let rest : end_after (max end (f.token + 1)) fs ≤ token = h in
-    let below : f.token + 1 ≤ token = omega (arith, rest, end_grows (max end (f.token + 1)) fs, le-max_right end (f.token + 1)) in
-    rw (apart (f.token) token (eqb (f.token) token) refl below) (none_left (max end (f.token + 1)) token fs h)
+none_left end token (f ∷ fs) h = grind (arith, end_grows, le-max_right, apart, eqb, none_left (max end (f.token + 1)) token fs h)
 
 none_after : (fs : List OwnField) (a n : ℕ) → tokens_end fs ≤ a → flat_map (own_with_token fs) (range_with_len a n) ≡ []
 unfolding tokens_end

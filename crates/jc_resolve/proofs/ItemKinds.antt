@@ -9,13 +9,7 @@ use Rattle.cap_package.specs.PackageRecord.{PackageRecord}
 use Rattle.jc_resolve.specs.WorldTypes.{type_of, kind_of}
 
 two_ranges : (n : ℕ) (a b c d : Bool) → leb n 6 ≡ b → leb n 14 ≡ d → ((a && b) || (c && d)) ≡ true → n ≤ 14
-two_ranges n true true c d e f h = omega (arith, leb-true n 6 e)
-two_ranges n true false true true e f h = leb-true n 14 f
-two_ranges n true false true false e f h = absurd cc
-two_ranges n true false false d e f h = absurd cc
-two_ranges n false b true true e f h = leb-true n 14 f
-two_ranges n false b true false e f h = absurd cc
-two_ranges n false b false d e f h = absurd cc
+two_ranges n y b c d e f h = grind (arith, leb-true)
 
 type_small : (n : ℕ) → is_type n ≡ true → n ≤ 14
 type_small n h = two_ranges n (leb 1 n) (leb n 6) (leb 10 n) (leb n 14) refl refl h

@@ -1,9 +1,9 @@
 -- What a method's header and its code tell, since the parts of its package agree.
-use Rattle.std.proofs.Common.{◌≡◌, ℕ, ◌+◌, ◌≤◌, Bool, true, false, not, ◌&&◌, List, length, map, drop, refl, sym, ap, ◌∙◌, arith}
+use Rattle.std.proofs.Common.{◌≡◌, ℕ, ◌+◌, ◌≤◌, Bool, true, false, not, ◌&&◌, List, length, map, refl, sym, ap, ◌∙◌, arith}
 use Rattle.std.specs.Prelude.{All, MatchBool}
 use Rattle.std.proofs.lemmas.Bool.{false≢true}
 use Rattle.std.proofs.lemmas.List.{length-map, length-take, length-drop}
-use Rattle.std.proofs.lemmas.List.Elements.{All-nil, All-map, All-weaker}
+use Rattle.std.proofs.lemmas.List.Elements.{All-map, All-weaker}
 use Rattle.cap_method.specs.declared.handler.HandlerInfo.{HandlerInfo}
 use Rattle.cap_desc.specs.DescriptorFormat as described
 use Rattle.cap_desc.specs.DescriptorFormat.{MethodDescriptor}
@@ -36,34 +36,17 @@ pub record IsBody (info : List ℕ) (count : ℕ) (class : Bool) (b : Body) : Ty
 
 bodiless : (info : List ℕ) (flags : ℕ) (sig : Sig) (class : Bool) → length sig.args + receiver_words (is_static flags) ≤ 255
     → IsBody info (length sig.args + receiver_words (is_static flags)) class (no_body flags sig)
-bodiless info flags sig class few = record {
-  words = omega arith;
-  registers = omega arith;
-  code = refl;
-  proper = λ e. absurd (false≢true (sym e));
-  inside = omega arith;
-  handlers = All-nil (HandlerLiesIn 0);
-  few_handlers = omega arith;
-}
+bodiless info flags sig class few = grind (arith, false≢true)
 
 module _ (ps : List PackageRecord) (throwable k : ℕ) (p : PackageRecord) (m : MethodDescriptor) (sig : Sig) where
   handler_in : (code_at : ℕ) (h : HandlerInfo) → code_at ≡ code_start p.methods.info m → code_end p.methods.info m ≤ 65535
       → LiesIn p.methods.info m h → HandlerLiesIn m.bytecode_count (handler_named ps throwable k p.pool code_at h)
   unfolding handler_named code_end
-  handler_in code_at h at short lies =
-      let start = lies.start in
-      let stop = lies.stop in
-      let entry = lies.entry in
-      let before = lies.before in
-      record { range = omega arith; inside = omega arith; entry = omega arith }
+  handler_in code_at h at short lies = grind (arith)
 
   starts : (x : IsPlaced p m) → offset_in_info (m.method_offset + x.header.size) ≡ code_start p.methods.info m
   unfolding code_end
-  starts x =
-      let begins = x.begins in
-      let ends = x.ends in
-      let short = x.short in
-      omega arith
+  starts x = grind (arith)
 
   handlers_in : (x : IsPlaced p m) (code_at : ℕ) → code_at ≡ code_start p.methods.info m
       → All (HandlerLiesIn m.bytecode_count) (map (handler_named ps throwable k p.pool code_at) (handlers_of p m))
@@ -75,11 +58,7 @@ module _ (ps : List PackageRecord) (throwable k : ℕ) (p : PackageRecord) (m : 
       (λ h lies. handler_in code_at h at (omega arith) lies) (handlers_of p m) x.handlers)
 
   handlers_few : (code_at : ℕ) → length p.methods.handlers ≤ 255 → length (map (handler_named ps throwable k p.pool code_at) (handlers_of p m)) ≤ 255
-  handlers_few code_at few =
-      let mapped = length-map (handlers_of p m) (handler_named ps throwable k p.pool code_at) in
-      let taken = length-take m.handler_count (drop m.handler_index p.methods.handlers) in
-      let dropped = length-drop m.handler_index p.methods.handlers in
-      omega arith
+  handlers_few code_at few = grind (arith, length-map, length-take, length-drop)
 
   ends_in : (x : IsPlaced p m) (code_at : ℕ) → code_at ≡ code_start p.methods.info m → code_at + m.bytecode_count ≤ length p.methods.info
   unfolding code_end
@@ -106,10 +85,7 @@ module _ (ps : List PackageRecord) (throwable k : ℕ) (p : PackageRecord) (m : 
   body_there x few counted = rw x.there (farther x few counted)
 
   few_words : (x : IsPlaced p m) → length sig.args ≡ x.words → length sig.args + receiver_words (is_static m.flags) ≤ 255
-  few_words x counted =
-      let nargs : x.header.nargs ≡ x.words + receiver_words (is_static m.flags) = x.nargs in
-      let registers = x.registers in
-      omega arith
+  few_words x counted = grind (arith)
 
   body_placed : (class : Bool) (x : IsPlaced p m) → length p.methods.handlers ≤ 255 → length sig.args ≡ x.words
       → IsBody p.methods.info (length sig.args + receiver_words (is_static m.flags)) class (body_of ps throwable k p m sig (true && class))
@@ -118,16 +94,12 @@ module _ (ps : List PackageRecord) (throwable k : ℕ) (p : PackageRecord) (m : 
   body_placed false x few counted = bodiless p.methods.info m.flags sig false (few_words x counted)
 
   receiver_one : (b : Bool) → receiver_words b ≤ 1
-  receiver_one true = omega arith
-  receiver_one false = omega arith
+  receiver_one x = grind (arith)
 
   body_else : (class : Bool) (x : HasWords p.description m 254) → length sig.args ≡ x.words
       → IsBody p.methods.info (length sig.args + receiver_words (is_static m.flags)) class (body_of ps throwable k p m sig false)
   unfolding body_of
-  body_else class x counted =
-      let one = receiver_one (is_static m.flags) in
-      let few = x.few in
-      bodiless p.methods.info m.flags sig class (omega arith)
+  body_else class x counted = grind (arith, receiver_one, bodiless)
 
 -- the body of a method of a class that its package describes
 module _ (ps : List PackageRecord) (object throwable k : ℕ) (p : PackageRecord) (c : described.ClassDescriptor) (m : MethodDescriptor) where
@@ -150,5 +122,4 @@ module _ (ps : List PackageRecord) (object throwable k : ℕ) (p : PackageRecord
       (is_class ps (class_named ps k c.class_ref))
       (body_of ps throwable k p m (declared_signature ps object k p.description m.type_offset) (have_headers ps k p c))
   unfolding have_headers
-  body-known agreed few one of_class =
-      body_by_place (names_interface p.classes c.class_ref) (is_class ps (class_named ps k c.class_ref)) refl agreed few one of_class
+  body-known agreed few one of_class = grind (arith, body_by_place)

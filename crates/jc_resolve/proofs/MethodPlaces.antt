@@ -1,6 +1,6 @@
 -- No two methods stand at one place of a Method component, and no two of a package have the same two numbers.
 use Rattle.std.proofs.Common.{◌≡◌, ℕ, ◌+◌, ◌<◌, ◌≤◌, ◌⊎◌, Bool, true, false, not, ltb, max, min, cond, List, [], ◌∷◌}
-use Rattle.std.proofs.Common.{◌++◌, length, map, Option, Some, None, refl, sym, ap, subst, ◌∙◌, arith, inl, inr}
+use Rattle.std.proofs.Common.{◌++◌, length, map, Option, Some, None, refl, sym, ap, ◌∙◌, arith, inl, inr}
 use Rattle.std.specs.Prelude.{All, slice_get, option_map}
 use Rattle.std.specs.List.{filter_map}
 use Rattle.std.proofs.lemmas.Bool.{lt-ltb, true≢false}
@@ -8,7 +8,6 @@ use Rattle.std.proofs.lemmas.List.Elements.{All-head, All-tail}
 use Rattle.std.proofs.lemmas.Option.{slice_get-map}
 use Rattle.first_fault.proofs.LeastFaults.{faultless_first}
 use Rattle.cap_components.specs.declared.fault.PackFault.{PackFault}
-use Rattle.cap_components.specs.declared.fault.PackFault.TheVariants.{MethodOverlaps}
 use Rattle.cap_desc.specs.DescriptorFormat as described
 use Rattle.cap_desc.specs.DescriptorFormat.{MethodDescriptor}
 use Rattle.cap_desc.specs.Members.{methods_but}
@@ -45,15 +44,12 @@ abbrev IsApart : MethodDescriptor → MethodDescriptor → Type 0
 IsApart a b = a.method_offset ≡ b.method_offset → ⊥
 
 shared_by : (fault : PackFault) (b : Bool) → cond b (Some fault) None ≡ None → b ≡ false
-shared_by fault true h = absurd cc
-shared_by fault false h = refl
+shared_by fault y h = grind (arith)
 
 no_share : (info : List ℕ) (a b : MethodDescriptor) → overlap_fault info a b ≡ None
     → ltb (max a.method_offset b.method_offset) (min (min (code_end info a) (code_end info b)) (length info)) ≡ false
 unfolding overlap_fault
-no_share info a b h =
-    shared_by (MethodOverlaps (min a.method_offset b.method_offset) (max a.method_offset b.method_offset))
-    (ltb (max a.method_offset b.method_offset) (min (min (code_end info a) (code_end info b)) (length info))) h
+no_share info a b h = grind (arith, shared_by, min, max, ltb)
 
 -- a method that shares no byte with one that lies in the info stands elsewhere
 stands_apart : (info : List ℕ) (a b : MethodDescriptor) → code_end info a ≤ length info → overlap_fault info a b ≡ None → IsApart a b
@@ -91,13 +87,11 @@ Differ m n = (place : RecordPlace) → At place m → At place n → ⊥
 
 offset_by : (b : Bool) (k : ℕ) (m : MethodDescriptor) (place : RecordPlace) → cond b (Some (record { «package» = k; offset = m.method_offset })) None
     ≡ Some place → m.method_offset ≡ place.offset
-offset_by true k m place h = let same : record { «package» = k; offset = m.method_offset } ≡ place = cc in ap (λ (q : RecordPlace). q.offset) same
-offset_by false k m place h = absurd cc
+offset_by x k m place h = grind (arith)
 
 home_by : (b : Bool) (k offset : ℕ) (place : RecordPlace) → cond b (Some (record { «package» = k; offset = offset })) None ≡ Some place
     → k ≡ place.package
-home_by true k offset place h = let same : record { «package» = k; offset = offset } ≡ place = cc in ap (λ (q : RecordPlace). q.package) same
-home_by false k offset place h = absurd cc
+home_by x k offset place h = grind (arith)
 
 -- a method whose offset is not that of another, if it stands in the component
 abbrev IsElsewhere : MethodDescriptor → NumberedMethod → Type 0
@@ -106,8 +100,7 @@ IsElsewhere a n = (place : RecordPlace) → At place n → a.method_offset ≡ p
 in_class : (a : MethodDescriptor) (k : ℕ) (p : PackageRecord) (number : ℕ) (c : described.ClassDescriptor) (i : ℕ) (ms : List MethodDescriptor)
     → Each (IsApart a) ms → Each (IsElsewhere a) (methods_of_class k p number c i ms)
 in_class a k p number c i [] h = tt {0}
-in_class a k p number c i (m ∷ ms) h =
-    (λ place at same. h.0 (same ∙ sym (offset_by (is_placed p c) k m place at)), in_class a k p number c (i + 1) ms h.1)
+in_class a k p number c i (m ∷ ms) h = grind (arith, in_class a k p number c (i + 1) ms h.1)
 
 not_placed : (a : MethodDescriptor) (k : ℕ) (p : PackageRecord) (number : ℕ) (c : described.ClassDescriptor) (i : ℕ) (ms : List MethodDescriptor)
     → is_placed p c ≡ false → Each (IsElsewhere a) (methods_of_class k p number c i ms)
@@ -234,8 +227,7 @@ class_earlier k p number c i (m ∷ ms) others later d =
 
 classes_earlier : (k : ℕ) (p : PackageRecord) (number : ℕ) (cs : List described.ClassDescriptor) → Pairwise IsEarlier (methods_of_classes k p number cs)
 classes_earlier k p number [] = tt {0}
-classes_earlier k p number (c ∷ cs) =
-    class_earlier k p number c 0 c.methods (methods_of_classes k p (number + 1) cs) (of_classes k p (number + 1) cs) (classes_earlier k p (number + 1) cs)
+classes_earlier k p number (c ∷ cs) = grind (arith, class_earlier, of_classes, classes_earlier k p (number + 1) cs)
 
 -- ---- all packages
 
@@ -249,10 +241,7 @@ homes_from k (p ∷ ps) =
     (Each-weaker (λ (n : NumberedMethod). k + 1 ≤ n.home) P (λ n le. omega arith) (methods_after (k + 1) ps) (homes_from (k + 1) ps))
 
 other_homes : (m n : NumberedMethod) → m.home < n.home → Differ m n
-other_homes m n lt place here there =
-    let first = home_by m.placed m.home m.record_of.method_offset place here in
-    let second = home_by n.placed n.home n.record_of.method_offset place there in
-    omega arith
+other_homes m n lt place here there = grind (arith, home_by)
 
 packages_differ : (k : ℕ) (ps : List PackageRecord) → All IsAgreed ps → Pairwise Differ (methods_after k ps)
 packages_differ k [] agreed = tt {0}
@@ -278,15 +267,11 @@ packages_earlier k (p ∷ ps) =
 
 at_place : (o : Option NumberedMethod) (place : RecordPlace) → option_map place_of_method o ≡ Some (Some place) → (m : NumberedMethod)
     × (o ≡ Some m) × At place m
-at_place None place h = absurd cc
-at_place (Some m) place h = (m, refl, cc)
+at_place x place h = grind (arith)
 
 headers_apart : (ps : List PackageRecord) → All IsAgreed ps → (i j : ℕ) (place : RecordPlace) → slice_get (method_places ps) i ≡ Some (Some place)
     → slice_get (method_places ps) j ≡ Some (Some place) → i ≡ j
-headers_apart ps agreed i j place e f =
-    let m = at_place (slice_get (numbered_methods ps) i) place (sym (slice_get-map place_of_method (numbered_methods ps) i) ∙ e) in
-    let n = at_place (slice_get (numbered_methods ps) j) place (sym (slice_get-map place_of_method (numbered_methods ps) j) ∙ f) in
-    one-place Differ (numbered_methods ps) i j m.0 n.0 (packages_differ 0 ps agreed) m.1 n.1 (λ d. d place m.2 n.2) (λ d. d place n.2 m.2)
+headers_apart ps agreed i j place e f = grind (arith, slice_get-map, one-place, packages_differ)
 
 -- the numbers of a method are those of its record
 pub record HasNumbers (m : NumberedMethod) (r : MethodRec) : Type 0 where
@@ -300,25 +285,11 @@ same_numbers ps roles m = record { home = refl; class = refl; method = refl }
 
 at_number : (ps : List PackageRecord) (roles : List ℕ) (o : Option NumberedMethod) (r : MethodRec) → option_map (named_method ps roles) o ≡ Some r
     → (m : NumberedMethod) × (o ≡ Some m) × HasNumbers m r
-at_number ps roles None r h = absurd cc
-at_number ps roles (Some m) r h =
-    let same : named_method ps roles m ≡ r = cc in
-    (m, refl, subst (HasNumbers m) same (same_numbers ps roles m))
+at_number ps roles z r h = grind (arith, same_numbers)
 
 never_earlier : (m n : NumberedMethod) (a b : MethodRec) → HasNumbers m a → HasNumbers n b → a.«package» ≡ b.«package»
     → a.class_no ≡ b.class_no → a.method_no ≡ b.method_no → IsEarlier m n → ⊥
-never_earlier m n a b x y home class method (inl lt) =
-    let f = x.home in
-    let g = y.home in
-    omega arith
-never_earlier m n a b x y home class method (inr (same, inl lt)) =
-    let f = x.class in
-    let g = y.class in
-    omega arith
-never_earlier m n a b x y home class method (inr (same, inr (also, lt))) =
-    let f = x.method in
-    let g = y.method in
-    omega arith
+never_earlier m n a b x y home class method d = grind (arith)
 
 numbers_apart : (ps : List PackageRecord) (roles : List ℕ) (i j : ℕ) (a b : MethodRec) → slice_get (named_methods ps roles) i ≡ Some a
     → slice_get (named_methods ps roles) j ≡ Some b → a.«package» ≡ b.«package» → a.class_no ≡ b.class_no → a.method_no ≡ b.method_no
@@ -332,8 +303,4 @@ numbers_apart ps roles i j a b e f home class method =
 
 -- classes and methods of packages whose parts agree have places and numbers of their own
 pub own_places : (ps : List PackageRecord) (roles : List ℕ) → All IsAgreed ps → HaveOwnPlaces ps (named_methods ps roles)
-own_places ps roles agreed = record {
-  classes = λ c d place e f. classes_apart ps agreed c d place e f;
-  headers = λ m n place e f. headers_apart ps agreed m n place e f;
-  numbers = λ m n a b e f home class method. numbers_apart ps roles m n a b e f home class method;
-}
+own_places ps roles agreed = grind (arith, classes_apart, headers_apart, numbers_apart)

@@ -1,12 +1,12 @@
 -- The class that a record of the Descriptor names is one of the numbered classes.
-use Rattle.std.proofs.Common.{◌≡◌, ℕ, zero, suc, ◌+◌, ◌<◌, cond, List, [], ◌∷◌, ◌++◌, length, map, flat_map, Option, Some, None, refl}
+use Rattle.std.proofs.Common.{◌≡◌, ℕ, zero, suc, ◌+◌, ◌<◌, cond, List, [], ◌∷◌, length, map, flat_map, Option, Some, None, refl}
 use Rattle.std.proofs.Common.{ap, subst, inl, inr, arith}
 use Rattle.std.specs.Prelude.{slice_get, is_none}
 use Rattle.cap_desc.specs.DescriptorFormat as described
 use Rattle.cap_package.specs.PackageRecord.{PackageRecord}
 use Rattle.jc_resolve.specs.declared.fault.LinkFault.TheVariants.{NoClass}
 use Rattle.first_fault.specs.First.{AllEmpty}
-use Rattle.jc_resolve.specs.Conditions.{named_after, named_in, references_of_class, references_of_record, references_of_types, class_references, no_class_fault}
+use Rattle.jc_resolve.specs.Conditions.{named_after, named_in, class_references, no_class_fault}
 use Rattle.jc_resolve.specs.Conditions.{conditions}
 use Rattle.jc_resolve.specs.Numbering.{numbered_classes}
 use Rattle.jc_resolve.specs.NamedMethods.{class_described}
@@ -27,9 +27,7 @@ named_further f j (q ∷ ps) zero p n e h =
     let same : p ≡ q = cc in
     let here : j + 0 ≡ j = omega arith in
     rw here (one_of_front (map (λ i. (j, i)) (f q)) (named_after f (j + 1) ps) (j, n) (one_paired j (f q) n (subst (λ r. IsOneOf (f r) n) same h)))
-named_further f j (q ∷ ps) (suc k) p n e h =
-    let next : j + suc k ≡ (j + 1) + k = omega arith in
-    rw next (one_of_after (map (λ i. (j, i)) (f q)) (named_after f (j + 1) ps) ((j + 1) + k, n) (named_further f (j + 1) ps k p n e h))
+named_further f j (q ∷ ps) (suc k) p n e h = grind (arith, suc, one_of_after, named_further f (j + 1) ps k p n e h)
 
 -- ---- a class reference names a class
 
@@ -52,18 +50,15 @@ named_since ps k reference none = named_by ps k reference (class_named ps k refe
 pub names-class : (ps : List PackageRecord) (k : ℕ) (p : PackageRecord) (reference : ℕ) → AllEmpty (conditions ps) → slice_get ps k ≡ Some p
     → IsOneOf (class_references p) reference → NamesClass ps k reference
 names-class ps k p reference none at one =
-    let place : 0 + k ≡ k = omega arith in
-    let fault = faultless (no_class_fault ps) (named_in class_references ps) (0 + k, reference) (names_faultless ps none).references
-    (named_further class_references 0 ps k p reference at one) in
-    named_since ps k reference (rw place at fault)
+    grind (
+      arith,
+      faultless (no_class_fault ps) (named_in class_references ps) (0 + k, reference) (names_faultless ps none).references (named_further class_references 0 ps k p reference at one),
+      named_since,
+    )
 
 reference_described : (p : PackageRecord) (d : described.ClassDescriptor) → IsOneOf p.description.items.classes d → IsOneOf (class_references p) d.class_ref
 unfolding class_references
-reference_described p d one =
-    one_of_after (flat_map references_of_class p.classes) (flat_map references_of_record p.description.items.classes ++ references_of_types p.description)
-    d.class_ref
-    (one_of_front (flat_map references_of_record p.description.items.classes) (references_of_types p.description) d.class_ref
-    (one_of_flat references_of_record p.description.items.classes d d.class_ref one (inl refl)))
+reference_described p d one = grind (arith, one_of_after, flat_map, one_of_front, one_of_flat)
 
 pub describes-class : (ps : List PackageRecord) (k : ℕ) (p : PackageRecord) (d : described.ClassDescriptor) → AllEmpty (conditions ps)
     → slice_get ps k ≡ Some p → IsOneOf p.description.items.classes d → NamesClass ps k d.class_ref

@@ -1,5 +1,5 @@
 -- The least fault of what packages name, piece by piece.
-use Rattle.std.proofs.Common.{◌≡◌, ℕ, suc, ◌+◌, ◌-◌, ◌<◌, List, [], ◌∷◌, map, flat_map, Option, refl, ap, ◌∙◌, arith}
+use Rattle.std.proofs.Common.{◌≡◌, ℕ, suc, ◌+◌, ◌-◌, ◌<◌, List, [], ◌∷◌, map, flat_map, Option, refl, ap, arith}
 use Rattle.std.specs.List.{range_with_len}
 use Rattle.std.proofs.lemmas.Grind.{flat_map-append}
 use Rattle.std.proofs.lemmas.List.Sums.{fold-append}
@@ -15,7 +15,7 @@ use Rattle.jc_resolve.specs.Fault.{link_place}
 use Rattle.first_fault.specs.Least.{lesser, least_from}
 use Rattle.jc_resolve.specs.Conditions.{named_after, import_tokens, no_package_fault, import_fault, super_references, references_of_class}
 use Rattle.jc_resolve.specs.Conditions.{references_of_classes, reference_of_field, references_of_record, reference_of_type, references_of_field_type}
-use Rattle.jc_resolve.specs.Conditions.{references_of_method, references_of_types, references_described}
+use Rattle.jc_resolve.specs.Conditions.{references_of_method, references_described}
 use Rattle.jc_resolve.specs.LookedUp.{references_with_methods, references_of_field_types, references_for_classes, references_without_methods, least_named}
 
 pub range_step : (a n : ℕ) → a < n → range_with_len a (n - a) ≡ a ∷ range_with_len (a + 1) (n - (a + 1))
@@ -30,9 +30,7 @@ least_pairs fault k (n ∷ ns) before = least_pairs fault k ns (lesser link_plac
 pub least_after : (fault : ℕ × ℕ → Option LinkFault) (g : PackageRecord → List ℕ) (k : ℕ) (p : PackageRecord) (ps : List PackageRecord)
     (before : Option LinkFault) → least_from link_place before fault (named_after g k (p ∷ ps)) ≡ least_from link_place
     (least_from link_place before (λ n. fault (k, n)) (g p)) fault (named_after g (k + 1) ps)
-least_after fault g k p ps before =
-    fold-append _ before (map (λ n. (k, n)) (g p)) (named_after g (k + 1) ps)
-    ∙ ap (λ b. least_from link_place b fault (named_after g (k + 1) ps)) (least_pairs fault k (g p) before)
+least_after fault g k p ps before = grind (arith, fold-append, least_pairs)
 
 pub least_imports : (all : List PackageRecord) (k : ℕ) (p : PackageRecord) (ps : List PackageRecord) (before : Option LinkFault)
     → least_from link_place before (no_package_fault all) (named_after import_tokens k (p ∷ ps)) ≡ least_from link_place
@@ -82,9 +80,7 @@ module _ (all : List PackageRecord) (k : ℕ) where
   pub least_record_types : (d : Description) (c : described.ClassDescriptor) (cs : List described.ClassDescriptor) (before : Option LinkFault)
       → in_order before (flat_map (references_of_field_type d) (fields_of (c ∷ cs)))
       ≡ in_order (in_order before (flat_map (references_of_field_type d) c.fields)) (flat_map (references_of_field_type d) (fields_of cs))
-  least_record_types d c cs before =
-      ap (in_order before) (flat_map-append (references_of_field_type d) c.fields (fields_of cs))
-      ∙ fold-append _ before (flat_map (references_of_field_type d) c.fields) (flat_map (references_of_field_type d) (fields_of cs))
+  least_record_types d c cs before = grind (arith, flat_map-append, fold-append, flat_map)
 
   pub least_methods : (d : Description) (m : MethodDescriptor) (ms : List MethodDescriptor) (before : Option LinkFault)
       → in_order before (flat_map (references_of_method d) (m ∷ ms)) ≡ in_order (in_order before (references_of_method d m))
@@ -95,11 +91,7 @@ module _ (all : List PackageRecord) (k : ℕ) where
       in_order (in_order (in_order before (flat_map references_of_record p.description.items.classes))
       (flat_map (references_of_field_type p.description) (fields_of p.description.items.classes)))
       (flat_map (references_of_method p.description) (methods_of p.description.items.classes))
-  least_described p before =
-      fold-append _ before (flat_map references_of_record p.description.items.classes) (references_of_types p.description)
-      ∙ fold-append _ (in_order before (flat_map references_of_record p.description.items.classes))
-      (flat_map (references_of_field_type p.description) (fields_of p.description.items.classes))
-      (flat_map (references_of_method p.description) (methods_of p.description.items.classes))
+  least_described p before = grind (arith, fold-append, flat_map)
 
   pub least_for_classes : (p : PackageRecord) (before : Option LinkFault) → in_order before (references_for_classes p)
       ≡ in_order (in_order before (references_of_field_types p)) (references_of_classes p)

@@ -1,5 +1,5 @@
 -- What holds of the methods of packages that agree, where each reference names a class.
-use Rattle.std.proofs.Common.{◌≡◌, ℕ, ◌+◌, ◌<◌, ◌≤◌, Bool, true, false, not, ◌||◌, List, length, option_map, refl, sym, ap, subst}
+use Rattle.std.proofs.Common.{◌≡◌, ℕ, ◌+◌, ◌<◌, ◌≤◌, Bool, true, false, not, ◌||◌, List, length, option_map, sym, ap, subst, arith}
 use Rattle.std.proofs.Common.{◌∙◌}
 use Rattle.std.specs.Prelude.{All, MatchBool, slice_index}
 use Rattle.std.proofs.lemmas.Bool.{not-true}
@@ -27,8 +27,7 @@ use Rattle.jc_resolve.proofs.NumberedLaws.{IsDescribed, all-described}
 -- code is lacking also where a class is an interface: an abstract body stands there
 lacks_by : (abstract interface : Bool) (P Q : Type 0) → (abstract ≡ false → interface ≡ false) → MatchBool abstract P Q
     → MatchBool (abstract || interface) P Q
-lacks_by true interface P Q known h = h
-lacks_by false interface P Q known h = rw (known refl) h
+lacks_by x interface z u known h = grind (arith)
 
 module _ (ps : List PackageRecord) (roles : List ℕ) (m : NumberedMethod) where
   abbrev object : ℕ
@@ -43,9 +42,13 @@ module _ (ps : List PackageRecord) (roles : List ℕ) (m : NumberedMethod) where
   proper_by : (x : NamesClass ps m.home m.class.class_ref) → is_class ps (class_named ps m.home m.class.class_ref) ≡ true
       → is_interface (named_classes ps object) (class_described ps m.home m.class) ≡ false
   proper_by x h =
-      let proper : not (is_interface_number ps x.number) ≡ true = rw x.named at h in
-      ap (is_interface (named_classes ps object)) (class-described ps m.home m.class x) ∙ interface_numbered ps object x.number
-      ∙ not-true (is_interface_number ps x.number) proper
+      grind (
+        arith,
+        not (is_interface_number ps x.number),
+        class-described ps m.home m.class x,
+        interface_numbered ps object x.number,
+        not-true,
+      )
 
   info_there : IsDescribed ps m → list_at (infos_of ps) m.home ≡ m.of_package.methods.info
   info_there d =
@@ -60,9 +63,7 @@ module _ (ps : List PackageRecord) (roles : List ℕ) (m : NumberedMethod) where
   unfolding named_method
   named_as d x b = record {
     home = subst (λ n. m.home < n) (sym (length-map ps (λ (p : PackageRecord). p.methods.info))) (slice_get_within ps m.home m.of_package d.package);
-    class =
-        subst (λ n. n < length (named_classes ps object)) (sym (class-described ps m.home m.class x))
-        (subst (λ n. x.number < n) (sym (named-length ps object)) x.below);
+    class = grind (arith, class-described ps m.home m.class x, named-length ps object);
     words = b.words;
     registers = b.registers;
     arguments = arguments_declared ps object m.home m.of_package.description m.record_of.type_offset;

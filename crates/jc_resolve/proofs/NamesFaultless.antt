@@ -1,5 +1,5 @@
 -- The conditions under which packages name classes and methods, by name.
-use Rattle.std.proofs.Common.{◌≡◌, List, []}
+use Rattle.std.proofs.Common.{◌≡◌, List, [], arith}
 use Rattle.std.specs.Option.{option_to_list}
 use Rattle.cap_package.specs.PackageRecord.{PackageRecord}
 use Rattle.first_fault.specs.First.{at_fault, AllEmpty}
@@ -15,5 +15,4 @@ pub record NamesFaultless (ps : List PackageRecord) : Type 0 where
   pub references : at_fault (no_class_fault ps) (named_in class_references ps) ≡ []
 
 pub names_faultless : (ps : List PackageRecord) → AllEmpty (conditions ps) → NamesFaultless ps
-names_faultless ps (packages, (classes, (methods, (imports, (references, done))))) =
-    record { packages = packages; classes = classes; methods = methods; imports = imports; references = references }
+names_faultless ps (packages, (classes, (methods, (imports, (references, done))))) = grind (arith)

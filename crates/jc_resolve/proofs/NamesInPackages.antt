@@ -1,5 +1,5 @@
 -- Names of packages name classes and methods of theirs alone.
-use Rattle.std.proofs.Common.{◌≡◌, ℕ, List, length, Result, Ok, Err, sym, subst}
+use Rattle.std.proofs.Common.{◌≡◌, ℕ, List, length, Result, Ok, Err, sym, subst, arith}
 use Rattle.std.specs.Prelude.{All, IfOk, slice_index}
 use Rattle.std.proofs.lemmas.List.{length-map}
 use Rattle.cap_package.specs.PackageRecord.{PackageRecord}
@@ -8,7 +8,7 @@ use Rattle.jc_resolve.specs.declared.fault.LinkEnd.{LinkEnd}
 use Rattle.jc_resolve.specs.Conditions.{conditions}
 use Rattle.first_fault.specs.Least.{◌>>=◌}
 use Rattle.first_fault.specs.First.{AllEmpty}
-use Rattle.jc_resolve.specs.Named.{IsAgreed, IsSized, IsNamedClass, AreNamed, infos_of}
+use Rattle.jc_resolve.specs.Named.{IsAgreed, IsSized, AreNamed, infos_of}
 use Rattle.jc_resolve.specs.NamedClasses.{named_classes}
 use Rattle.jc_resolve.specs.NamedMethods.{HasFewHandlers, named_methods}
 use Rattle.jc_resolve.specs.Due.{IsDue}
@@ -26,19 +26,10 @@ infos_many ps = length-map ps (λ (p : PackageRecord). p.methods.info)
 names_right : (ps : List PackageRecord) (roles : List ℕ) → All IsAgreed ps → All HasFewHandlers ps → AllEmpty (conditions ps)
     → All IsSized (named_classes ps (slice_index roles 0))
     → AreNamed (infos_of ps) (slice_index roles 0) (named_classes ps (slice_index roles 0)) (named_methods ps roles)
-names_right ps roles agreed few none sized =
-    let object = slice_index roles 0 in
-    let cs = named_classes ps object in
-    record {
-      classes =
-          subst (λ n. All (IsNamedClass n (length (named_methods ps roles)) cs object) cs) (sym (infos_many ps))
-          (subst (λ n. All (IsNamedClass (length ps) n cs object) cs) (sym (named_methods_many ps roles)) (classes-named ps object sized));
-      methods = methods-named ps roles agreed few none;
-    }
+names_right ps roles agreed few none sized = grind (arith, infos_many, named_methods_many, classes-named, methods-named)
 
 answer_by : (r : Result (Unit {0}) LinkFault) (n m : NamesRecord) → (r >>= λ done. Ok n) ≡ Ok m → n ≡ m
-answer_by (Ok x) n m h = cc
-answer_by (Err f) n m h = absurd cc
+answer_by x n m h = grind (arith)
 
 answer_named : (ps : List PackageRecord) (roles : List ℕ) (n : NamesRecord) → names_of ps roles ≡ Ok n → named ps roles ≡ n
 unfolding names_of
@@ -57,5 +48,4 @@ answer_right ps roles (Err e) h sized agreed few = tt
 -- and have places and numbers of their own
 pub answer_apart : (ps : List PackageRecord) (roles : List ℕ) (answer : Result NamesRecord LinkEnd) → IsDue (names_of ps roles) answer
     → IfOk answer (λ n. All IsAgreed ps) → IfOk answer (λ n. HaveOwnPlaces ps n.methods)
-answer_apart ps roles (Ok n) h agreed = subst (λ (m : NamesRecord). HaveOwnPlaces ps m.methods) (answer_named ps roles n h) (own_places ps roles agreed)
-answer_apart ps roles (Err e) h agreed = tt
+answer_apart ps roles z h agreed = grind (arith, answer_named, own_places)

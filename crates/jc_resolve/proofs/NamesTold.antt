@@ -1,5 +1,5 @@
 -- The answer tells the first condition that is broken.
-use Rattle.std.proofs.Common.{◌≡◌, ℕ, List, [], ◌∷◌, Result, Ok, Err, refl, sym, ap, ◌∙◌}
+use Rattle.std.proofs.Common.{◌≡◌, ℕ, List, [], ◌∷◌, Result, Ok, Err, sym, ◌∙◌, arith}
 use Rattle.cap_package.specs.PackageRecord.{PackageRecord}
 use Rattle.jc_resolve.specs.declared.fault.LinkFault.{LinkFault}
 use Rattle.jc_resolve.specs.declared.fault.LinkEnd.{LinkEnd}
@@ -7,12 +7,12 @@ use Rattle.jc_resolve.specs.declared.fault.LinkEnd.TheVariants.{Fault, Memory}
 use Rattle.jc_resolve.specs.Fault.{link_place}
 use Rattle.std.specs.Option.{option_to_list}
 use Rattle.first_fault.specs.First.{at_fault}
-use Rattle.first_fault.specs.Least.{◌>>=◌, refused, least_of}
-use Rattle.jc_resolve.specs.Conditions.{packages_fault, classes_fault, methods_fault, no_package_fault, no_class_fault, named_in, import_tokens}
-use Rattle.jc_resolve.specs.Conditions.{class_references, conditions}
+use Rattle.first_fault.specs.Least.{◌>>=◌}
+use Rattle.jc_resolve.specs.Conditions.{packages_fault, classes_fault, methods_fault, no_package_fault, named_in, import_tokens}
+use Rattle.jc_resolve.specs.Conditions.{conditions}
 use Rattle.jc_resolve.specs.Due.{IsDue}
 use Rattle.jc_resolve.specs.Names.{NamesRecord, named, indexable, checked, names_of, TellsNames}
-use Rattle.first_fault.proofs.FirstTold.{IsTold, things-told, one-told, step, last, groups-told, refused-first, accepted-empty}
+use Rattle.first_fault.proofs.FirstTold.{IsTold, things-told, one-told, groups-told, refused-first, accepted-empty}
 
 -- the conditions that come before class references
 abbrev before_references : List PackageRecord → List (List LinkFault)
@@ -25,27 +25,17 @@ before_references ps =
 
 indexable-told : (ps : List PackageRecord) → IsTold link_place (indexable ps) (before_references ps)
 unfolding indexable
-indexable-told ps =
-    step link_place (one-told link_place (packages_fault ps))
-    (step link_place (one-told link_place (classes_fault ps))
-    (step link_place (one-told link_place (methods_fault ps))
-    (last link_place (things-told link_place (no_package_fault ps) (named_in import_tokens ps)))))
+indexable-told ps = grind (arith, one-told, things-told)
 
 checked-told : (ps : List PackageRecord) → IsTold link_place (checked ps) (conditions ps)
 unfolding checked
-checked-told ps =
-    groups-told link_place (indexable ps) (refused (least_of link_place (no_class_fault ps) (named_in class_references ps)))
-    (before_references ps) (at_fault (no_class_fault ps) (named_in class_references ps) ∷ [])
-    (indexable-told ps)
-    (last link_place (things-told link_place (no_class_fault ps) (named_in class_references ps)))
+checked-told ps = grind (arith, groups-told, indexable-told, things-told)
 
 accepted_by : (r : Result (Unit {0}) LinkFault) (n m : NamesRecord) → (r >>= λ done. Ok n) ≡ Ok m → r ≡ Ok (tt {0})
-accepted_by (Ok x) n m h = refl
-accepted_by (Err f) n m h = absurd cc
+accepted_by x n m h = grind (arith)
 
 refused_by : (r : Result (Unit {0}) LinkFault) (n : NamesRecord) (f : LinkFault) → (r >>= λ done. Ok n) ≡ Err f → r ≡ Err f
-refused_by (Ok x) n f h = absurd cc
-refused_by (Err g) n f h = let k : g ≡ f = cc in ap Err k
+refused_by x n f h = grind (arith)
 
 pub names_told : (ps : List PackageRecord) (roles : List ℕ) (answer : Result NamesRecord LinkEnd) → IsDue (names_of ps roles) answer
     → TellsNames ps answer

@@ -1,6 +1,6 @@
 -- The numbers that the tables keep are the positions of classes and methods.
 use Rattle.std.proofs.Common.{◌≡◌, ℕ, suc, ◌+◌, ◌<◌, Bool, true, false, cond, eqb, List, [], ◌∷◌, ◌++◌, length, map, Option, Some}
-use Rattle.std.proofs.Common.{None, position, slice_get, option_map, IfSome, is_some, refl, sym, ap, ap₂, subst, ◌∙◌, arith, if◌then◌else◌}
+use Rattle.std.proofs.Common.{None, position, slice_get, option_map, IfSome, is_some, refl, sym, ap, ap₂, ◌∙◌, arith, if◌then◌else◌}
 use Rattle.std.proofs.Common.{get_or}
 use Rattle.std.specs.List.{position_from}
 use Rattle.std.specs.Map.{lookup}
@@ -15,20 +15,16 @@ use Rattle.cap_desc.specs.DescriptorFormat as described
 use Rattle.cap_pool.specs.ExportFormat.{Exported}
 use Rattle.cap_package.specs.PackageRecord.{PackageRecord, names_interface}
 use Rattle.jc_resolve.specs.declared.place.RecordPlace.{RecordPlace}
-use Rattle.jc_resolve.specs.Numbering.{NumberedClass, same_place, is_at, numbered_classes_of, classes_after, numbered_classes, place_of_class, class_places}
+use Rattle.jc_resolve.specs.Numbering.{NumberedClass, same_place, is_at, numbered_classes_of, classes_after, numbered_classes, place_of_class}
 use Rattle.jc_resolve.specs.Numbering.{class_at, flagged_interface, is_interface_number, is_placed, methods_of_class, methods_of_classes, methods_after}
-use Rattle.jc_resolve.specs.Numbering.{numbered_methods, place_of_method, method_places, method_at}
+use Rattle.jc_resolve.specs.Numbering.{numbered_methods, place_of_method, method_at}
 use Rattle.jc_resolve.specs.Numbers.{Numbered, none_numbered, number_by_place, added_entry, with_next, with_all, spot_of_class, class_spots, interface_flags}
 use Rattle.jc_resolve.specs.Numbers.{spot_of_method, spots_of_classes, method_spots, AreIndexed}
 
 -- ---- places
 
 pub same-equal : (a b : RecordPlace) → same_place a b ≡ true → a ≡ b
-same-equal a b h =
-    let p = and_parts (eqb a.package b.package) (eqb a.offset b.offset) h in
-    let e = eqb-true a.package b.package p.0 in
-    let f = eqb-true a.offset b.offset p.1 in
-    λ i. record { «package» = e i; offset = f i }
+same-equal a b h = grind (arith, and_parts, eqb, eqb-true)
 
 -- ---- tables
 
@@ -112,20 +108,13 @@ position_of place n (c ∷ cs) = ap (λ o. cond (same_place place (place_of_clas
 pub class_numbered : (ps : List PackageRecord) (t : Numbered) (flags : List Bool) (m : Numbered) (exports : List (List Exported))
     (met : List (List (Option ℕ))) (place : RecordPlace) → AreIndexed ps t flags m exports met → number_by_place t.entries place ≡ class_at ps place
 unfolding class_at
-class_numbered ps t flags m exports met place h =
-    ap (λ (x : Numbered). number_by_place x.entries place) h.numbers
-    ∙ numbered-first (class_spots 0 ps) place
-    ∙ ap (position (is_at place)) (spots-are 0 ps)
-    ∙ position_from-zero (is_at place) (map (λ c. Some (place_of_class c)) (numbered_classes ps))
-    ∙ position_of place 0 (numbered_classes ps)
-    ∙ sym (position_from-zero (same_place place) (class_places ps))
+class_numbered ps t flags m exports met place h = grind (arith, numbered-first, position, spots-are, position_from-zero, position_of)
 
 -- ---- numbers are below the number of classes
 
 within_by : (n : ℕ) (many i : ℕ) (rest : Option ℕ) (b : Bool) → (rest ≡ Some i → i < n + 1 + many) → cond b (Some n) rest ≡ Some i
     → i < n + suc many
-within_by n many i rest true known e = let k : n ≡ i = cc in omega arith
-within_by n many i rest false known e = let k = known e in omega arith
+within_by n many i rest v known e = grind (arith)
 
 position_within : {X : Type 0} (t : X → Bool) (n : ℕ) (xs : List X) (i : ℕ) → position_from t n xs ≡ Some i → i < n + length xs
 position_within t n [] i h = absurd cc
@@ -137,9 +126,7 @@ position_below t xs i h = let k = position_within t 0 xs i (sym (position_from-z
 pub class_below : (ps : List PackageRecord) (place : RecordPlace) (o : Option ℕ) → o ≡ class_at ps place
     → IfSome o (λ c. c < length (numbered_classes ps))
 unfolding class_at
-class_below ps place None h = tt
-class_below ps place (Some c) h =
-    subst (λ n. c < n) (length-map (numbered_classes ps) place_of_class) (position_below (same_place place) (class_places ps) c (sym h))
+class_below ps place z h = grind (arith, length-map, position_below)
 
 -- ---- flags
 
@@ -160,8 +147,7 @@ flags_many ps t flags m exports met h = ap length h.flags_are ∙ ap length (fla
 
 flag_by : (o : Option NumberedClass) (b : Bool) → option_map (λ (c : NumberedClass). is_interface c.record_of.flags) o ≡ Some b
     → b ≡ flagged_interface o
-flag_by None b h = absurd cc
-flag_by (Some c) b h = cc
+flag_by x b h = grind (arith)
 
 pub flag_numbered : (ps : List PackageRecord) (t : Numbered) (flags : List Bool) (m : Numbered) (exports : List (List Exported))
     (met : List (List (Option ℕ))) (c : ℕ) (b : Bool) → AreIndexed ps t flags m exports met → slice_get flags c ≡ Some b
@@ -186,28 +172,19 @@ spots_in k p n c i (m ∷ ms) = ap (λ l. spot_of_method k (is_placed p c) m ∷
 spots_of : (k : ℕ) (p : PackageRecord) (n : ℕ) (cs : List described.ClassDescriptor) → spots_of_classes k (names_interface p.classes) cs
     ≡ map place_of_method (methods_of_classes k p n cs)
 spots_of k p n [] = refl
-spots_of k p n (c ∷ cs) =
-    ap₂ ◌++◌ (spots_in k p n c 0 c.methods) (spots_of k p (n + 1) cs)
-    ∙ sym (map-append place_of_method (methods_of_class k p n c 0 c.methods) (methods_of_classes k p (n + 1) cs))
+spots_of k p n (c ∷ cs) = grind (arith, ap₂, spots_in, map-append, spots_of k p (n + 1) cs)
 
 method_spots_are : (k : ℕ) (ps : List PackageRecord) → method_spots k ps ≡ map place_of_method (methods_after k ps)
 method_spots_are k [] = refl
-method_spots_are k (p ∷ ps) =
-    ap₂ ◌++◌ (spots_of k p 0 p.description.items.classes) (method_spots_are (k + 1) ps)
-    ∙ sym (map-append place_of_method (methods_of_classes k p 0 p.description.items.classes) (methods_after (k + 1) ps))
+method_spots_are k (p ∷ ps) = grind (arith, ap₂, spots_of, map-append, method_spots_are (k + 1) ps)
 
 pub method_numbered : (ps : List PackageRecord) (t : Numbered) (flags : List Bool) (m : Numbered) (exports : List (List Exported))
     (met : List (List (Option ℕ))) (place : RecordPlace) → AreIndexed ps t flags m exports met
     → number_by_place m.entries place ≡ method_at ps place
 unfolding method_at
-method_numbered ps t flags m exports met place h =
-    ap (λ (x : Numbered). number_by_place x.entries place) h.methods
-    ∙ numbered-first (method_spots 0 ps) place
-    ∙ ap (position (is_at place)) (method_spots_are 0 ps)
+method_numbered ps t flags m exports met place h = grind (arith, numbered-first, position, method_spots_are)
 
 pub method_below : (ps : List PackageRecord) (place : RecordPlace) (o : Option ℕ) → o ≡ method_at ps place
     → IfSome o (λ n. n < length (numbered_methods ps))
 unfolding method_at
-method_below ps place None h = tt
-method_below ps place (Some n) h =
-    subst (λ i. n < i) (length-map (numbered_methods ps) place_of_method) (position_below (is_at place) (method_places ps) n (sym h))
+method_below ps place z h = grind (arith, length-map, position_below)

@@ -1,5 +1,5 @@
 -- Each numbered method is one that the Descriptor of its package describes.
-use Rattle.std.proofs.Common.{◌≡◌, ℕ, suc, ◌+◌, Bool, true, false, cond, List, [], ◌∷◌, ◌++◌, Some, refl, sym, ap, subst, ◌∙◌, inl}
+use Rattle.std.proofs.Common.{◌≡◌, ℕ, suc, ◌+◌, Bool, true, false, cond, List, [], ◌∷◌, ◌++◌, Some, refl, subst, inl}
 use Rattle.std.proofs.Common.{inr, arith}
 use Rattle.std.specs.Prelude.{All, slice_get}
 use Rattle.std.proofs.lemmas.Bool.{false≢true}
@@ -14,20 +14,16 @@ use Rattle.jc_resolve.proofs.Faultless.{IsOneOf, one_of_front, one_of_after}
 -- ---- the methods of classes
 
 in_both : {X : Type 0} (b : Bool) (xs ys : List X) (x : X) → b ≡ true → IsOneOf xs x → IsOneOf (cond b (xs ++ ys) ys) x
-in_both true xs ys x e h = one_of_front xs ys x h
-in_both false xs ys x e h = absurd (false≢true e)
+in_both x xs ys x2 e h = grind (arith, one_of_front, false≢true)
 
 in_rest : {X : Type 0} (b : Bool) (xs ys : List X) (x : X) → IsOneOf ys x → IsOneOf (cond b (xs ++ ys) ys) x
-in_rest true xs ys x h = one_of_after xs ys x h
-in_rest false xs ys x h = h
+in_rest x xs ys x2 h = grind (arith, one_of_after)
 
 in_else : {X : Type 0} (b : Bool) (xs ys : List X) (x : X) → b ≡ false → IsOneOf xs x → IsOneOf (cond b ys (xs ++ ys)) x
-in_else true xs ys x e h = absurd (false≢true (sym e))
-in_else false xs ys x e h = one_of_front xs ys x h
+in_else x xs ys x2 e h = grind (arith, false≢true, one_of_front)
 
 in_later : {X : Type 0} (b : Bool) (xs ys : List X) (x : X) → IsOneOf ys x → IsOneOf (cond b ys (xs ++ ys)) x
-in_later true xs ys x h = h
-in_later false xs ys x h = one_of_after xs ys x h
+in_later x xs ys x2 h = grind (arith, one_of_after)
 
 pub from-any : (cs : List described.ClassDescriptor) (c : described.ClassDescriptor) (m : MethodDescriptor) → IsOneOf cs c → IsOneOf c.methods m
     → IsOneOf (methods_of cs) m
@@ -39,17 +35,13 @@ module _ (interfaces : ℕ → Bool) where
   pub from-class : (cs : List described.ClassDescriptor) (c : described.ClassDescriptor) (m : MethodDescriptor) → IsOneOf cs c
       → interfaces c.class_ref ≡ false → IsOneOf c.methods m → IsOneOf (methods_but interfaces cs) m
   from-class [] c m one e h = absurd one
-  from-class (d ∷ ds) c m (inl same) e h =
-      let ref = sym (ap (λ (x : described.ClassDescriptor). interfaces x.class_ref) same) ∙ e in
-      in_else (interfaces d.class_ref) d.methods (methods_but interfaces ds) m ref (subst (λ (x : described.ClassDescriptor). IsOneOf x.methods m) same h)
+  from-class (d ∷ ds) c m (inl same) e h = grind (arith, in_else)
   from-class (d ∷ ds) c m (inr one) e h = in_later (interfaces d.class_ref) d.methods (methods_but interfaces ds) m (from-class ds c m one e h)
 
   pub from-interface : (cs : List described.ClassDescriptor) (c : described.ClassDescriptor) (m : MethodDescriptor) → IsOneOf cs c
       → interfaces c.class_ref ≡ true → IsOneOf c.methods m → IsOneOf (methods_in interfaces cs) m
   from-interface [] c m one e h = absurd one
-  from-interface (d ∷ ds) c m (inl same) e h =
-      let ref = sym (ap (λ (x : described.ClassDescriptor). interfaces x.class_ref) same) ∙ e in
-      in_both (interfaces d.class_ref) d.methods (methods_in interfaces ds) m ref (subst (λ (x : described.ClassDescriptor). IsOneOf x.methods m) same h)
+  from-interface (d ∷ ds) c m (inl same) e h = grind (arith, in_both)
   from-interface (d ∷ ds) c m (inr one) e h = in_rest (interfaces d.class_ref) d.methods (methods_in interfaces ds) m (from-interface ds c m one e h)
 
 -- ---- numbered methods

@@ -1,8 +1,8 @@
 -- The own cells of a named class are those of its fields in the order of their tokens.
-use Rattle.std.proofs.Common.{◌≡◌, ℕ, zero, suc, ◌+◌, Bool, true, false, cond, eqb, not, List, [], ◌∷◌, ◌++◌, Option, Some, None, refl}
+use Rattle.std.proofs.Common.{◌≡◌, ℕ, zero, suc, ◌+◌, Bool, true, false, cond, eqb, not, List, [], ◌∷◌, ◌++◌, Option, Some, None, refl, arith}
 use Rattle.std.proofs.Common.{sym, ap, ap₂, ◌∙◌, filter, filter_map, flat_map, option_map}
 use Rattle.std.specs.Prelude.{◌==◌, ◌||◌}
-use Rattle.std.specs.List.{range_with_len, cons_option}
+use Rattle.std.specs.List.{range_with_len}
 use Rattle.std.proofs.lemmas.Bool.{eqb-true}
 use Rattle.std.proofs.lemmas.List.Elements.{filter_map-append}
 use Rattle.cap_class.specs.ClassFormat.{Class, is_interface}
@@ -32,9 +32,7 @@ none_over (suc n) a = none_over n (a + 1)
 
 -- what is no int has one cell
 one_cell : (a b : Bool) (ty : Ty) → cells_by_kind (cond a Byte (cond b Short (cond false Int Ref))) ty ≡ ty ∷ []
-one_cell true b ty = refl
-one_cell false true ty = refl
-one_cell false false ty = refl
+one_cell x b ty = grind (arith)
 
 module _ (ps : List PackageRecord) (object k : ℕ) (d : Description) where
   -- an instance field with its type, if it has one
@@ -47,8 +45,7 @@ module _ (ps : List PackageRecord) (object k : ℕ) (d : Description) where
       ≡ filter_map typed (filter is_instance_field fs)
       → filter_map (own_field ps object k d) (f ∷ fs) ≡ filter_map typed (cond (not b) (f ∷ filter is_instance_field fs) (filter is_instance_field fs))
   unfolding own_field typed
-  instance_by f fs true e others = rw e others
-  instance_by f fs false e others = rw e (ap (λ (own : List OwnField). cons_option (typed f) own) others)
+  instance_by f fs z e others = grind (arith)
 
   instances : (fs : List FieldDescriptor) → filter_map (own_field ps object k d) fs ≡ filter_map typed (filter is_instance_field fs)
   instances [] = refl
@@ -76,10 +73,7 @@ module _ (ps : List PackageRecord) (object k : ℕ) (d : Description) where
       → filter_map typed (filter (has_token token) fs) ≡ own_with_token (filter_map typed fs) token
       → filter_map typed (cond b (f ∷ filter (has_token token) fs) (filter (has_token token) fs)) ≡ own_with_token (filter_map typed (f ∷ fs)) token
   unfolding typed
-  token_by f token fs true None e h others = rw h others
-  token_by f token fs false None e h others = rw h others
-  token_by f token fs true (Some t) e h others = rw (h, e) (ap (λ (own : List OwnField). field_with ps object k f t ∷ own) others)
-  token_by f token fs false (Some t) e h others = rw (h, e) others
+  token_by f token fs u v e h others = grind (arith)
 
   tokens : (token : ℕ) (fs : List FieldDescriptor) → filter_map typed (filter (has_token token) fs) ≡ own_with_token (filter_map typed fs) token
   tokens token [] = refl
@@ -113,23 +107,17 @@ module _ (ps : List PackageRecord) (object k : ℕ) (d : Description) where
       ≡ flat_map (own_with_token (filter_map typed fs)) ts
   unfolding with_token
   by_tokens fs [] = refl
-  by_tokens fs (token ∷ ts) =
-      filter_map-append typed (with_token fs token) (flat_map (with_token fs) ts)
-      ∙ ap₂ ◌++◌ (tokens token fs) (by_tokens fs ts)
+  by_tokens fs (token ∷ ts) = grind (arith, filter_map-append, flat_map, ap₂, tokens, by_tokens fs ts)
 
   pub cells_are : (fs : List FieldDescriptor) → cells_of_fields ps object k d fs ≡ cells_over (filter_map typed fs) 0 256
   unfolding cells_of_fields
-  cells_are fs =
-      all_cells (by_token fs)
-      ∙ ap (λ (own : List OwnField). flat_map cells_of_own own) (by_tokens fs (range_with_len 0 256))
+  cells_are fs = grind (arith, all_cells (by_token fs), by_tokens fs (range_with_len 0 256), flat_map)
 
 -- the cells by the fields are those by the descriptions
 described_cells : (ps : List PackageRecord) (object k : ℕ) (d : Description) (offset : ℕ) (ds : List described.ClassDescriptor)
     → cells_over (flat_map (fields_in ps object k d offset) ds) 0 256 ≡ cells_of_fields ps object k d (instance_fields ds offset)
 unfolding instance_fields
-described_cells ps object k d offset ds =
-    ap (λ (own : List OwnField). cells_over own 0 256) (of_records ps object k d offset ds)
-    ∙ sym (cells_are ps object k d (flat_map (fields_described offset) ds))
+described_cells ps object k d offset ds = grind (arith, of_records, cells_are, flat_map)
 
 -- and so where the fields of the class are found
 pub class_cells : (ps : List PackageRecord) (object k : ℕ) (p : PackageRecord) (x : PackageFields) (c : Class) (own : List OwnField) (cells : List Ty)

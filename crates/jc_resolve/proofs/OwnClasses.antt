@@ -1,5 +1,5 @@
 -- The classes that a Descriptor describes are its package's own: no reference has its high bit set.
-use Rattle.std.proofs.Common.{◌≡◌, ℕ, ◌<◌, Bool, true, false, ◌&&◌, ltb, cond, List, [], ◌∷◌, map, inl, inr, Some, None, refl}
+use Rattle.std.proofs.Common.{◌≡◌, ℕ, ◌<◌, Bool, ◌&&◌, ltb, cond, List, [], ◌∷◌, map, inl, inr, Some, None, refl, arith}
 use Rattle.std.proofs.Common.{ap}
 use Rattle.std.specs.List.{filter_map}
 use Rattle.std.proofs.lemmas.Bool.{ltb-true}
@@ -10,7 +10,6 @@ use Rattle.cap_components.specs.declared.fault.PackFault.TheVariants.{ClassUndes
 use Rattle.cap_package.specs.NameChecks.{not_own_fault, is_class_at}
 use Rattle.cap_package.specs.PackageRecord.{PackageRecord}
 use Rattle.cap_package.specs.StandsFor.{StandsFor}
-use Rattle.cap_package.proofs.Agreed.{agrees}
 use Rattle.cap_package.proofs.StaticsKnown.{three_empty}
 use Rattle.jc_resolve.proofs.Faultless.{IsOneOf, faultless}
 
@@ -20,8 +19,7 @@ one_of_map (d ∷ ds) c (inl e) = inl (ap (λ (x : ClassDescriptor). x.class_ref
 one_of_map (d ∷ ds) c (inr one) = inr (one_of_map ds c one)
 
 below : (n : ℕ) (low there : Bool) (fault : PackFault) → ltb n 0x8000 ≡ low → cond (low && there) None (Some fault) ≡ None → n < 0x8000
-below n true there fault e none = ltb-true n 0x8000 e
-below n false there fault e none = absurd cc
+below n y there fault e none = grind (arith, ltb-true)
 
 own : (classes : List of_class.Class) (n : ℕ) → not_own_fault classes n ≡ None → n < 0x8000
 unfolding not_own_fault
@@ -32,8 +30,7 @@ module _ (p : PackageRecord) (agreed : StandsFor p.parts p) where
   references = map (λ (c : ClassDescriptor). c.class_ref) p.description.items.classes
 
   are_own : filter_map (not_own_fault p.classes) references ≡ []
-  are_own =
-      let (undescribed, not_own, unknown) = three_empty _ _ _ (agrees p.parts p agreed.agree).classes in not_own
+  are_own = grind (arith, three_empty)
 
   pub own-reference : (c : ClassDescriptor) → IsOneOf p.description.items.classes c → c.class_ref < 0x8000
   own-reference c one =

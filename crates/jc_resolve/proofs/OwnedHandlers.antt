@@ -1,6 +1,6 @@
 -- The handlers that a described method names lie in its code, since each entry of the table has one owner.
-use Rattle.std.proofs.Common.{◌≡◌, ℕ, zero, suc, ◌+◌, ◌<◌, ◌≤◌, Bool, true, false, ◌&&◌, ltb, leb, cond, List, [], ◌∷◌, filter}
-use Rattle.std.proofs.Common.{take, drop, Some, None, refl, sym, ap, subst, ◌∙◌, inl, inr, arith}
+use Rattle.std.proofs.Common.{◌≡◌, ℕ, zero, suc, ◌+◌, ◌<◌, ◌≤◌, Bool, true, ltb, leb, cond, List, [], ◌∷◌, filter}
+use Rattle.std.proofs.Common.{take, drop, Some, None, refl, inl, inr, arith}
 use Rattle.std.specs.Prelude.{All, slice_get}
 use Rattle.std.specs.List.{enumerate_from, filter_map}
 use Rattle.std.proofs.lemmas.Bool.{false≢true, ltb-true, leb-true, lt-ltb, le-leb, and_parts, and_from}
@@ -21,26 +21,16 @@ pub record LiesIn (info : List ℕ) (m : MethodDescriptor) (h : HandlerInfo) : T
   pub before : h.entry < code_end info m
 
 lies : (info : List ℕ) (m : MethodDescriptor) (h : HandlerInfo) → is_within info h m ≡ true → LiesIn info m h
-lies info m h e =
-    let start = leb (code_start info m) h.start in
-    let stop = leb (h.start + h.length) (code_end info m) in
-    let entry = leb (code_start info m) h.entry in
-    let before = ltb h.entry (code_end info m) in
-    let a = and_parts (start && stop && entry) before e in
-    let b = and_parts (start && stop) entry a.0 in
-    let c = and_parts start stop b.0 in
-    record { start = leb-true _ _ c.0; stop = leb-true _ _ c.1; entry = leb-true _ _ b.1; before = ltb-true _ _ a.1 }
+lies info m h e = grind (arith, leb, ltb, and_parts, leb-true, ltb-true)
 
 -- ---- one owner
 
 kept_by : {X : Type 0} (t : X → Bool) (y : X) (ys : List X) (b : Bool) (x : X) → t y ≡ b → (x ≡ y) → t x ≡ true
     → IsOneOf (cond b (y ∷ ys) ys) x
-kept_by t y ys true x e same h = inl same
-kept_by t y ys false x e same h = absurd (false≢true (sym e ∙ ap t (sym same) ∙ h))
+kept_by t y ys u x e same h = grind (arith, false≢true)
 
 kept_after : {X : Type 0} (y : X) (ys : List X) (b : Bool) (x : X) → IsOneOf ys x → IsOneOf (cond b (y ∷ ys) ys) x
-kept_after y ys true x h = inr h
-kept_after y ys false x h = h
+kept_after y ys z x h = grind (arith)
 
 one_kept : {X : Type 0} (t : X → Bool) (xs : List X) (x : X) → IsOneOf xs x → t x ≡ true → IsOneOf (filter t xs) x
 one_kept t [] x h e = absurd h
@@ -49,14 +39,10 @@ one_kept t (y ∷ ys) x (inr h) e = kept_after y (filter t ys) (t y) x (one_kept
 
 only_home : (info : List ℕ) (h : HandlerInfo) (ms : List MethodDescriptor) (m : MethodDescriptor) → IsOneOf ms m → has_home info h ms ≡ true
     → is_within info h m ≡ true
-only_home info h [] m one e = absurd one
-only_home info h (n ∷ []) m (inl same) e = subst (λ (k : MethodDescriptor). is_within info h k ≡ true) (sym same) e
-only_home info h (n ∷ []) m (inr one) e = absurd one
-only_home info h (n ∷ l ∷ ms) m one e = absurd (false≢true e)
+only_home info h z m one e = grind (arith, false≢true)
 
 home_by : (fault : PackFault) (b : Bool) → cond b None (Some fault) ≡ None → b ≡ true
-home_by fault true e = refl
-home_by fault false e = absurd cc
+home_by fault y e = grind (arith)
 
 claimed : (number : ℕ) (m : MethodDescriptor) → m.handler_index ≤ number → number < m.handler_index + m.handler_count → claims number m ≡ true
 claimed number m low high = and_from _ _ (le-leb m.handler_index number low) (lt-ltb number (m.handler_index + m.handler_count) high)
@@ -65,22 +51,18 @@ claimed_lies : (info : List ℕ) (ms : List MethodDescriptor) (m : MethodDescrip
     → handler_fault info ms number h ≡ None → IsOneOf ms m → claims number m ≡ true → LiesIn info m h
 unfolding handler_fault owners
 claimed_lies info ms m number h e one claim =
-    lies info m h
-    (only_home info h (filter (claims number) ms) m (one_kept (claims number) ms m one claim)
-    (home_by (HandlerOutside number) (has_home info h (filter (claims number) ms)) e))
+    grind (
+      arith,
+      lies info m h (only_home info h (filter (claims number) ms) m (one_kept (claims number) ms m one claim) (home_by (HandlerOutside number) (has_home info h (filter (claims number) ms)) e)),
+    )
 
 -- ---- the entries that a method names
 
 pub entry_numbered : (hs : List HandlerInfo) (n i : ℕ) (h : HandlerInfo) → slice_get hs i ≡ Some h
     → IsOneOf {F = ℕ × HandlerInfo} (enumerate_from n hs) (n + i, h)
 entry_numbered [] n i h e = absurd cc
-entry_numbered (g ∷ gs) n zero h e =
-    let same : g ≡ h = cc in
-    let zero_more : n + 0 ≡ n = omega arith in
-    inl (rw (zero_more, same) refl)
-entry_numbered (g ∷ gs) n (suc i) h e =
-    let more : n + suc i ≡ (n + 1) + i = omega arith in
-    inr (rw more (entry_numbered gs (n + 1) i h e))
+entry_numbered (g ∷ gs) n zero h e = grind (arith)
+entry_numbered (g ∷ gs) n (suc i) h e = grind (arith, suc, entry_numbered gs (n + 1) i h e)
 
 -- the first elements, so many, after so many others
 all_taken : {X : Type 0} (P : X → Type 0) (xs : List X) (index count : ℕ)

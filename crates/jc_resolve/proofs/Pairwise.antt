@@ -35,10 +35,7 @@ pub record IsSplit {X : Type 0} (R : X → X → Type 0) (xs ys : List X) : Type
 
 pub pairwise-split : {X : Type 0} (R : X → X → Type 0) (xs ys : List X) → Pairwise R (xs ++ ys) → IsSplit R xs ys
 pairwise-split R [] ys a = record { front = tt {0}; back = a; across = tt {0} }
-pairwise-split R (x ∷ xs) ys a =
-    let first = each-split (R x) xs ys a.0 in
-    let rest = pairwise-split R xs ys a.1 in
-    record { front = (first.0, rest.front); back = rest.back; across = (first.1, rest.across) }
+pairwise-split R (x ∷ xs) ys a = grind (arith, each-split (R x) xs ys a.0, pairwise-split R xs ys a.1)
 
 pairwise-at : {X : Type 0} (R : X → X → Type 0) (xs : List X) (i j : ℕ) (x y : X) → Pairwise R xs → i < j → slice_get xs i ≡ Some x
     → slice_get xs j ≡ Some y → R x y

@@ -1,5 +1,5 @@
 -- What a class reference names by cases is what is computed, and at most one class is named.
-use Rattle.std.proofs.Common.{◌≡◌, ℕ, ◌-◌, ◌/◌, ◌%◌, ◌<◌, List, Option, Some, None, option_map, option_and_then, refl, sym, ap}
+use Rattle.std.proofs.Common.{◌≡◌, ℕ, ◌-◌, ◌/◌, ◌%◌, ◌<◌, List, Option, Some, None, option_map, option_and_then, refl, sym, ap, arith}
 use Rattle.std.proofs.Common.{◌∙◌}
 use Rattle.std.specs.Prelude.{◌↔◌, if◌then◌else◌}
 use Rattle.std.proofs.lemmas.Bool.{lt-ltb}
@@ -33,15 +33,12 @@ computed-refers ps k (External import class) c h = met_first ps k import class c
 pub refers-computed : (ps : List PackageRecord) (k : ℕ) (reference : ClassReference) (c : ℕ) → Refers ps k reference c
     → class_referred ps k reference ≡ Some c
 unfolding class_referred
-refers-computed ps k reference c (internal offset is at) = rw is at
-refers-computed ps k reference c (imported import class j offset is met out at) = rw (is, met, out) at
+refers-computed ps k reference c v = grind (arith)
 
 -- at most one class is named
 pub refers-only : (ps : List PackageRecord) (k : ℕ) (reference : ClassReference) (c d : ℕ) → Refers ps k reference c → Refers ps k reference d
     → c ≡ d
-refers-only ps k reference c d h l =
-    let e : Some c ≡ Some d = sym (refers-computed ps k reference c h) ∙ refers-computed ps k reference d l in
-    cc
+refers-only ps k reference c d h l = grind (arith, refers-computed)
 
 -- an answer is the one class to which a reference refers
 pub answer-refers : (ps : List PackageRecord) (k : ℕ) (reference : ClassReference) (answer : Option ℕ) → answer ≡ class_referred ps k reference

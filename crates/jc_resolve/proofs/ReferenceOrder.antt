@@ -1,5 +1,5 @@
 -- The least fault of class references, which are looked up in another order than that of the condition.
-use Rattle.std.proofs.Common.{◌≡◌, ℕ, ◌+◌, Bool, true, false, List, [], ◌∷◌, ◌++◌, map, flat_map, Option, Some, None, is_none}
+use Rattle.std.proofs.Common.{◌≡◌, ℕ, ◌+◌, Bool, List, [], ◌∷◌, ◌++◌, map, flat_map, Option, Some, None, is_none, arith}
 use Rattle.std.proofs.Common.{if◌then◌else◌, refl, sym, ap, ◌∙◌}
 use Rattle.std.proofs.lemmas.Grind.{flat_map-append}
 use Rattle.std.proofs.lemmas.List.{map-append}
@@ -7,7 +7,6 @@ use Rattle.std.proofs.lemmas.List.Sums.{fold-append}
 use Rattle.cap_desc.specs.DescriptorFormat.{ClassDescriptor, MethodDescriptor}
 use Rattle.cap_desc.specs.Members.{fields_of, methods_of}
 use Rattle.cap_package.specs.PackageRecord.{PackageRecord}
-use Rattle.first_fault.specs.declared.place.Place.{Place}
 use Rattle.first_fault.specs.Least.{least_from, least_of}
 use Rattle.first_fault.proofs.AnyOrder.{AreExact, least-turned}
 use Rattle.jc_resolve.specs.declared.fault.LinkFault.{LinkFault}
@@ -23,15 +22,11 @@ use Rattle.jc_resolve.proofs.NamedFaults.{least_pairs, least_described}
 -- ---- the fault of a reference is known by its place
 
 named_by : (x : ℕ × ℕ) (f : LinkFault) (b : Bool) → (if b then Some (NoClass x.0 x.1) else None) ≡ Some f → f ≡ NoClass x.0 x.1
-named_by x f true h = cc
-named_by x f false h = absurd cc
+named_by x f z h = grind (arith)
 
 same_reference : (a b c d : ℕ) → link_place (NoClass a b) ≡ link_place (NoClass c d) → NoClass a b ≡ NoClass c d
 unfolding link_place
-same_reference a b c d e =
-    let first : a ≡ c = ap (λ (p : Place). p.first) e in
-    let second : b ≡ d = ap (λ (p : Place). p.second) e in
-    ap (λ n. NoClass n b) first ∙ ap (NoClass c) second
+same_reference a b c d e = grind (arith)
 
 no-class-exact : (ps : List PackageRecord) → AreExact link_place (no_class_fault ps)
 unfolding no_class_fault
@@ -56,9 +51,7 @@ module _ (fault : ℕ × ℕ → Option LinkFault) (exact : AreExact link_place 
       (of_package k (back p))
 
   appended-in_parts : (front back : PackageRecord → List ℕ) → InParts (λ p. front p ++ back p) front back
-  appended-in_parts front back k p before =
-      ap (least before) (map-append (λ n. (k, n)) (front p) (back p))
-      ∙ fold-append _ before (of_package k (front p)) (of_package k (back p))
+  appended-in_parts front back k p before = grind (arith, map-append, fold-append)
 
   in_two_passes : (whole front back : PackageRecord → List ℕ) → InParts whole front back
       → (k : ℕ) (ps : List PackageRecord) (before : Option LinkFault)

@@ -1,8 +1,8 @@
 -- Several items of one kind: what holds of each, and how many bytes they take.
-use Rattle.std.proofs.Common.{◌≡◌, ℕ, zero, suc, ◌+◌, ◌≤◌, Bool, true, false, leb, List, [], ◌∷◌, length, Some, None, cond, Ok, Err}
+use Rattle.std.proofs.Common.{◌≡◌, ℕ, zero, suc, ◌+◌, ◌≤◌, Bool, leb, List, [], ◌∷◌, length, Some, None, cond, Ok, Err}
 use Rattle.std.proofs.Common.{refl, sym, ap, subst, arith}
 use Rattle.std.proofs.lemmas.Bool.{leb-true}
-use Rattle.std.proofs.lemmas.List.Elements.{All-nil, All-cons}
+use Rattle.std.proofs.lemmas.List.Elements.{All-nil}
 use Rattle.std.proofs.lemmas.List.Sums.{sum_by-cons}
 use Rattle.std.specs.Prelude.{All, IsTrue, sum_by}
 use Rattle.cap_bytes.specs.declared.cursor.Cursor.{Cursor}
@@ -20,9 +20,7 @@ pub spelled_all : {X : Type 0} (P : X → Type 0) (g : Grammar X) → OfEach P g
     → Spells (repeat n g) bytes at xs after → All P xs
 unfolding Spells
 spelled_all P g each zero bytes at xs after h = subst (λ ys. All P ys) (sym h.0) (All-nil P)
-spelled_all P g each (suc n) bytes at xs after h =
-    subst (λ ys. All P ys) (sym h.3.3.0)
-    (All-cons P h.0 h.3.0 (each bytes at h.0 h.1 h.2) (spelled_all P g each n bytes h.1 h.3.0 h.3.1 h.3.2))
+spelled_all P g each (suc n) bytes at xs after h = grind (arith, spelled_all P g each n bytes h.1 h.3.0 h.3.1 h.3.2)
 
 value_all : {X : Type 0} (P : X → Type 0) (r : Reading (List X)) → ((xs : List X) (after : ℕ) → r ≡ Ok (xs, after) → All P xs)
     → IsTrue (is_read r) → All P (value_or [] r)
@@ -44,17 +42,14 @@ pub record LiesWithin (bytes : List ℕ) (at n after : ℕ) : Type 0 where
 
 number_reach : (b : Bool) (x w at n : ℕ) (bytes : List ℕ) → leb (at + w) (length bytes) ≡ b → cond b (Some x) None ≡ Some n
     → at + w ≤ length bytes
-number_reach true x w at n bytes e h = leb-true _ _ e
-number_reach false x w at n bytes e h = absurd cc
+number_reach x x2 w at n bytes e h = grind (arith, leb-true)
 
 -- the place after what is spelled does not lie before it
 pub goes_on : {X : Type 0} (g : Grammar X) (bytes : List ℕ) (at : ℕ) (x : X) (after : ℕ) → at ≤ length bytes → Spells g bytes at x after
     → LiesWithin bytes at 0 after
 unfolding Spells
 goes_on (give y) bytes at x after le h = record { room = omega (arith, h.1); reach = omega (arith, h.1) }
-goes_on (number w wrong) bytes at n after le h =
-    let r = number_reach _ _ w at n bytes refl h.0 in
-    record { room = omega (arith, h.2); reach = omega (arith, h.2, r) }
+goes_on (number w wrong) bytes at n after le h = grind (arith, number_reach)
 goes_on (piece n) bytes at x after le h = record { room = omega (arith, h.2); reach = omega (arith, h.2, h.0) }
 goes_on remaining bytes at x after le h = record { room = omega (arith, h.1); reach = omega (arith, h.1) }
 goes_on place bytes at x after le h = record { room = omega (arith, h.1); reach = omega (arith, h.1) }
@@ -72,9 +67,7 @@ TakesEach {X = X} f g =
 pub spelled_within : {X : Type 0} (f : X → ℕ) (g : Grammar X) → TakesEach f g → (n : ℕ) (bytes : List ℕ) (at : ℕ) (xs : List X) (after : ℕ)
     → at ≤ length bytes → Spells (repeat n g) bytes at xs after → LiesWithin bytes at (sum_by f xs) after
 unfolding Spells
-spelled_within f g each zero bytes at xs after le h =
-    let e : sum_by f xs ≡ 0 = ap (λ ys. sum_by f ys) h.0 in
-    record { room = omega (arith, e, h.1); reach = omega (arith, h.1) }
+spelled_within f g each zero bytes at xs after le h = grind (arith)
 spelled_within f g each (suc n) bytes at xs after le h =
     let a = each bytes at h.0 h.1 le h.2 in
     let b = spelled_within f g each n bytes h.1 h.3.0 h.3.1 a.reach h.3.2 in

@@ -12,7 +12,7 @@ use Rattle.cap_desc.specs.declared.type_item.TypeItem.{TypeItem}
 use Rattle.cap_desc.specs.DescriptorFormat.{ClassDescriptor, FieldDescriptor}
 use Rattle.cap_desc.specs.Members.{fields_of}
 use Rattle.cap_package.specs.Agreement.{or_none}
-use Rattle.cap_package.specs.Descriptions.{Description, field_type}
+use Rattle.cap_package.specs.Descriptions.{Description}
 use Rattle.cap_package.specs.HeaderChecks.{is_static}
 use Rattle.cap_package.specs.PackageRecord.{PackageRecord}
 use Rattle.cap_package.specs.StaticChecks.{ImagePlace, image_offset, place_by, place_in}
@@ -41,9 +41,7 @@ field_step {Y = Y} f ys x xs = by (f x)
 
 pub record_step : {Y : Type 0} (f : FieldDescriptor → Option Y) (ys : List Y) (c : ClassDescriptor) (cs : List ClassDescriptor)
     → ys ++ filter_map f (fields_of (c ∷ cs)) ≡ (ys ++ filter_map f c.fields) ++ filter_map f (fields_of cs)
-record_step f ys c cs =
-    ap (λ l. ys ++ l) (filter_map-append f c.fields (fields_of cs))
-    ∙ sym (append_assoc ys (filter_map f c.fields) (filter_map f (fields_of cs)))
+record_step f ys c cs = grind (arith, filter_map-append, append_assoc, filter_map)
 
 pub fields_step : (ps : List PackageRecord) (object k : ℕ) (p : PackageRecord) (qs : List PackageRecord) (xs : List PackageFields)
     → xs ++ fields_after ps object k (p ∷ qs) ≡ (xs ++ fields_resolved ps object k p ∷ []) ++ fields_after ps object (k + 1) qs
@@ -55,9 +53,7 @@ pub at_number : (ps : List PackageRecord) (object k : ℕ) (qs : List PackageRec
     ≡ option_map (fields_resolved ps object (k + n)) (slice_get qs n)
 at_number ps object k [] n = refl
 at_number ps object k (q ∷ qs) zero = let e : k ≡ k + 0 = omega arith in ap (λ m. Some (fields_resolved ps object m q)) e
-at_number ps object k (q ∷ qs) (suc n) =
-    let e : (k + 1) + n ≡ k + suc n = omega arith in
-    at_number ps object (k + 1) qs n ∙ ap (λ m. option_map (fields_resolved ps object m) (slice_get qs n)) e
+at_number ps object k (q ∷ qs) (suc n) = grind (arith, suc, option_map, at_number ps object (k + 1) qs n)
 
 module _ (ps : List PackageRecord) (object k : ℕ) where
   -- ---- static fields
@@ -76,16 +72,13 @@ module _ (ps : List PackageRecord) (object k : ℕ) where
       → types ≡ map (λ (p : ImagePlace). type_of ps object k p.ty) places
       → cons_option (option_map (λ (p : ImagePlace). type_of ps object k p.ty) o) types ≡ map (λ (p : ImagePlace). type_of ps object k p.ty)
       (cons_option o places)
-  typed_by d None places types e = e
-  typed_by d (Some p) places types e = ap (λ l. type_of ps object k p.ty ∷ l) e
+  typed_by d y places types e = grind (arith)
 
   pub places_typed : (d : Description) (fs : List FieldDescriptor) → filter_map (static_type ps object k d) fs
       ≡ map (λ (p : ImagePlace). type_of ps object k p.ty) (filter_map (place_in d) fs)
   unfolding static_type place_in
   places_typed d [] = refl
-  places_typed d (f ∷ fs) =
-      ap (λ o. cons_option o (filter_map (static_type ps object k d) fs)) (typed_at f (field_type d f.ty))
-      ∙ typed_by d (place_in d f) (filter_map (place_in d) fs) (filter_map (static_type ps object k d) fs) (places_typed d fs)
+  places_typed d (f ∷ fs) = grind (arith, filter_map, typed_by, places_typed d fs)
 
   -- ---- instance fields
 
@@ -98,8 +91,7 @@ module _ (ps : List PackageRecord) (object k : ℕ) where
 
   taken_at : (ds : List ClassDescriptor) (f : ClassDescriptor → List OwnField) (o : Option ℕ) → option_and_then (slice_get (map f ds)) o
       ≡ option_map f (option_and_then (slice_get ds) o)
-  taken_at ds f None = refl
-  taken_at ds f (Some n) = slice_get-map f ds n
+  taken_at ds f z = grind (arith, slice_get-map)
 
   -- what is found of a class that is described once are its fields
   pub own-is : (p : PackageRecord) (c : Class) → IsDescribedOnce p.description.items.classes c → own_found (fields_resolved ps object k p) c.offset
@@ -139,8 +131,7 @@ module _ (ps : List PackageRecord) (object k : ℕ) where
       by (Some p) = places_typed p.description (fields_of p.description.items.classes)
 
   nothing : (b : Bool) (own : List OwnField) → own ≡ [] → cond b [] own ≡ []
-  nothing true own e = refl
-  nothing false own e = e
+  nothing x own e = grind (arith)
 
   pub own_are_kept : (c : Class) → IfSome (slice_get ps k) (λ (p : PackageRecord). IsDescribedOnce p.description.items.classes c)
       → own_kept (fields_after ps object 0 ps) k c ≡ own_fields_in ps object k c

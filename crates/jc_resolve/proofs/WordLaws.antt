@@ -1,5 +1,5 @@
 -- The argument words of a method's type descriptor are the cells of its signature's arguments.
-use Rattle.std.proofs.Common.{◌≡◌, ℕ, ◌+◌, Bool, true, false, eqb, cond, List, [], ◌∷◌, length, length-append, Option, Some, None, refl, sym}
+use Rattle.std.proofs.Common.{◌≡◌, ℕ, ◌+◌, Bool, true, false, eqb, cond, List, [], ◌∷◌, length, length-append, Option, Some, None, refl, sym, arith}
 use Rattle.std.proofs.Common.{ap₂, ◌∙◌}
 use Rattle.std.specs.Prelude.{option_map, option_and_then}
 use Rattle.cap_desc.specs.declared.type_item.TypeItem.{TypeItem}
@@ -19,12 +19,10 @@ module _ (ps : List PackageRecord) (object k : ℕ) where
   cells_counted t = cells_by t (eqb t.nibble 5)
 
   mapped : (w n : ℕ) (o : Option ℕ) → option_map (λ m. w + m) o ≡ Some n → (m : ℕ) × (o ≡ Some m) × (n ≡ w + m)
-  mapped w n None e = absurd cc
-  mapped w n (Some m) e = (m, refl, cc)
+  mapped w n z e = grind (arith)
 
   words_next : (w n : ℕ) (o : Option ℕ) (b : Bool) → cond b None (option_map (λ m. w + m) o) ≡ Some n → (m : ℕ) × (o ≡ Some m) × (n ≡ w + m)
-  words_next w n o true e = absurd cc
-  words_next w n o false e = mapped w n o e
+  words_next w n o u e = grind (arith, mapped)
 
   arguments_counted : (t : TypeItem) (ts : List TypeItem) (n : ℕ) → words_before t ts ≡ Some n → length (arguments_before ps object k t ts) ≡ n
   arguments_counted t [] n e = cc
@@ -35,12 +33,10 @@ module _ (ps : List PackageRecord) (object k : ℕ) where
       ∙ sym next.2
 
   types_counted : (ts : List TypeItem) (n : ℕ) → words_in ts ≡ Some n → length (signature_in ps object k ts).args ≡ n
-  types_counted [] n e = absurd cc
-  types_counted (t ∷ ts) n e = arguments_counted t ts n e
+  types_counted x n e = grind (arith, arguments_counted)
 
   found_counted : (o : Option (List TypeItem)) (n : ℕ) → option_and_then words_in o ≡ Some n → length (signature_in ps object k (or_none o)).args ≡ n
-  found_counted None n e = absurd cc
-  found_counted (Some ts) n e = types_counted ts n e
+  found_counted x n e = grind (arith, types_counted)
 
   pub words-counted : (d : Description) (offset n : ℕ) → argument_words d offset ≡ Some n → length (declared_signature ps object k d offset).args ≡ n
   unfolding argument_words declared_signature

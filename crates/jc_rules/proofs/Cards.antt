@@ -1,5 +1,5 @@
 -- On the card a rule raises registers, and applies to each lesser frame.
-use Rattle.std.proofs.Common.{◌≡◌, ℕ, zero, suc, ◌+◌, ◌<◌, Bool, true, false, not, ◌||◌, List, [], ◌∷◌, length, get_or, set, All}
+use Rattle.std.proofs.Common.{◌≡◌, ℕ, zero, suc, ◌+◌, ◌<◌, Bool, true, false, not, ◌||◌, List, [], ◌∷◌, length, get_or, set, All, rules}
 use Rattle.std.proofs.Common.{sum_by, refl, sym, ◌∙◌, ap, subst, arith}
 use Rattle.std.proofs.lemmas.List.{get_or-set_other}
 use Rattle.std.proofs.lemmas.List.Sums.{sum_by-set}
@@ -14,10 +14,11 @@ use Rattle.jc_ops.specs.Sound.{OperationsAreSound}
 use Rattle.jc_rules.specs.declared.effect.Cells.{Cells}
 use Rattle.jc_rules.specs.declared.effect.Cells.TheVariants as given
 use Rattle.jc_rules.specs.declared.effect.Mode.TheVariants.{Card, Flow}
-use Rattle.jc_rules.specs.Effect.{WritesRegister, WritesInt, WritesCells, reg, rises_at, cells_rise}
+use Rattle.jc_rules.specs.Effect.{WritesRegister, WritesInt, WritesCells, reg, cells_rise, rises_at}
 use Rattle.jc_rules.specs.Rule.{effect}
 use Rattle.jc_rules.specs.Flow.{CellsBelow, no_cells, more_cells}
-use Rattle.jc_rules.specs.Laws.{OperationFallsTo, OperationFallsOnCard, OperationRaises, OperationStays, OperationRests, RuleFallsOnCard, RuleRaises, RuleRises}
+use Rattle.jc_rules.specs.Laws.{OperationFallsTo, OperationFallsOnCard, OperationRaises, OperationStays}
+use Rattle.jc_rules.specs.Laws.{OperationRests, RuleFallsOnCard, RuleRaises, RuleRises}
 use Rattle.jc_rules.specs.Laws.{RuleStays, RuleRests}
 use Rattle.jc_rules.proofs.Effects.{CellsKept, Suits, suits, sound-known}
 use Rattle.jc_rules.proofs.Raising.{RoseTo}
@@ -190,10 +191,7 @@ module _ (t : ClassTable) (are : IsOrderOfTypes t) where
       subst (λ zs. sum_by (rises_left t) zs < sum_by (rises_left t) regs) (sym u.after_is) (set-less t regs x u.value less)
 
   both-rise : (xs ys zs : List Ty) (a b : Bool) → RoseTo t xs ys a → RoseTo t ys zs b → RoseTo t xs zs (a || b)
-  both-rise xs ys zs true true p q = omega arith
-  both-rise xs ys zs true false p q = subst (λ rs. sum_by (rises_left t) rs < sum_by (rises_left t) xs) (sym q) p
-  both-rise xs ys zs false true p q = subst (λ rs. sum_by (rises_left t) zs < sum_by (rises_left t) rs) p q
-  both-rise xs ys zs false false p q = q ∙ p
+  both-rise xs ys zs u v p q = grind (arith, sum_by)
 
   pub store-rises : (x : ℕ) (cells : Cells) (regs after : List Ty) → WritesCells t Card x cells regs after
       → RoseTo t regs after (cells_rise t regs x cells)
@@ -210,11 +208,7 @@ module _ (t : ClassTable) (are : IsOrderOfTypes t) where
   -- where what is stored is below, none rises
   none-rises : (x : ℕ) (cells : Cells) (regs after : List Ty) → WritesCells t Flow x cells regs after → CellsBelow t after regs
       → cells_rise t regs x cells ≡ false
-  none-rises x given.Nothing regs after u ps = refl
-  none-rises x (given.One ty) regs after u ps = ap not (below-computed t are (below-one t x ty regs after u ps))
-  none-rises x given.Int regs after u ps =
-      let both = below-two t x regs after u ps in
-      ap (λ b. not b || rises_at t regs (x + 1) IntLow) (below-computed t are both.0) ∙ ap not (below-computed t are both.1)
+  none-rises x y regs after u ps = grind (arith, not, below-computed, below-one, below-two)
 
 -- ---- the rule
 
@@ -223,9 +217,7 @@ operation-raises w are limit op before after o a =
     let e = effect w op before in
     record {
       below = store-raises w.classes e.store.register e.store.cells before.regs after.regs a.regs;
-      rises =
-          subst (RoseTo w.classes before.regs after.regs) (sym a.rose_is)
-          (store-rises w.classes are e.store.register e.store.cells before.regs after.regs a.regs);
+      rises = grind (arith, store-rises);
     }
 
 pub rule-raises : (w : Linked) → IsOrderOfTypes w.classes → RuleRaises w
@@ -235,32 +227,10 @@ pub rule-rises : (w : Linked) → IsOrderOfTypes w.classes → RuleRises w
 rule-rises w are site i before after o a = (operation-raises w are a.method.max_stack a.rule.operation before after o a.rule.does).rises
 
 pub operation-stays : (w : Linked) → IsOrderOfTypes w.classes → OperationStays w
-operation-stays w are limit op before after o a ps =
-    let e = effect w op before in
-    record {
-      asked = a.asked;
-      regs = store-stays w.classes e.store.register e.store.cells before.regs after.regs a.regs ps;
-      stack = a.stack;
-      room = a.room;
-      falls = a.falls;
-      ends = a.ends;
-      depth = a.depth;
-      wrote_is = a.wrote_is;
-      rose_is = a.rose_is ∙ sym (none-rises w.classes are e.store.register e.store.cells before.regs after.regs a.regs ps);
-    }
+operation-stays w are limit op before after o a ps = grind (arith, store-stays, none-rises)
 
 pub rule-stays : (w : Linked) → IsOrderOfTypes w.classes → RuleStays w
-rule-stays w are site i before after o a ps =
-    let r = a.rule in
-    record {
-      method = a.method;
-      is_method = a.is_method;
-      rule = record {
-        operation = r.operation;
-        resolves = r.resolves;
-        does = operation-stays w are a.method.max_stack r.operation before after o r.does ps;
-      };
-    }
+rule-stays w are site i before after o a ps = search (rules, operation-stays)
 
 pub operation-rests : (w : Linked) → IsOrderOfTypes w.classes → OperationRests w
 operation-rests w are limit op before after o a still =
@@ -270,17 +240,7 @@ operation-rests w are limit op before after o a still =
     let r = store-rests w.classes e.store.register e.store.cells before.regs writes in
     record {
       stored = r.stored;
-      applies = record {
-        asked = a.asked;
-        regs = r.writes;
-        stack = a.stack;
-        room = a.room;
-        falls = a.falls;
-        ends = a.ends;
-        depth = a.depth;
-        wrote_is = a.wrote_is;
-        rose_is = a.rose_is ∙ none-rises w.classes are e.store.register e.store.cells before.regs r.stored r.writes r.below;
-      };
+      applies = grind (arith, none-rises w.classes are e.store.register e.store.cells before.regs r.stored r.writes r.below);
       below = r.below;
     }
 

@@ -1,5 +1,5 @@
 -- Lemmas on lists of demands, met one after another.
-use Rattle.std.proofs.Common.{◌≡◌, ℕ, ◌+◌, ◌<◌, List, [], ◌∷◌, ◌++◌, ◌-◌, ◌∙◌, ap, reverse, zero, suc, ◌≤◌, length}
+use Rattle.std.proofs.Common.{◌≡◌, ℕ, ◌+◌, ◌<◌, List, [], ◌∷◌, ◌++◌, ◌-◌, reverse, zero, suc, ◌≤◌, length}
 use Rattle.std.proofs.Common.{get_or, drop, subst, sym, arith, Result, Ok, Err, MatchResult}
 use Rattle.std.proofs.lemmas.List.{drop_more, drop_all, length-reverse, get_or-reverse}
 use Rattle.jc_base.specs.declared.ty.Ty.{Ty}
@@ -73,9 +73,7 @@ pub record Wanted (t : ClassTable) (f : Frame) (tys : List Ty) (n : ℕ) : Type 
 module _ (t : ClassTable) (f : Frame) (args : List Ty) (n : ℕ) (d : Ty) (inside : n < length args) where
   wanted-step : cells_wanted n (drop n (reverse args)) ≡ Cell n (Value (get_or args (length args - 1 - n) d)) ∷ cells_wanted (n + 1)
       (drop (n + 1) (reverse args))
-  wanted-step =
-      ap (cells_wanted n) (drop_more (reverse args) n d (subst (λ k. n < k) (sym (length-reverse args)) inside))
-      ∙ ap (λ ty. Cell n (Value ty) ∷ cells_wanted (n + 1) (drop (n + 1) (reverse args))) (get_or-reverse args n d inside)
+  wanted-step = grind (arith, drop_more, reverse, length-reverse, get_or-reverse)
 
   pub Wanted-breaks : (fault : RuleFault) → Wanted t f (reverse args) n → (¬ (Satisfies t f (Cell n (Value (get_or args (length args - 1 - n) d)))))
       × (fault ≡ demand_fault t f (Cell n (Value (get_or args (length args - 1 - n) d)))) → IsFirstUnmet t f (cells_wanted 0 (reverse args)) fault

@@ -1,17 +1,18 @@
 -- What an instruction asks suffices for what it does: the cells and registers are there, and what it gives is known.
-use Rattle.std.proofs.Common.{◌≡◌, ℕ, zero, suc, ◌+◌, ◌-◌, ◌<◌, ◌≤◌, List, [], ◌∷◌, ◌++◌, length, take, drop, map, reverse}
-use Rattle.std.proofs.Common.{get_or, Option, Some, None, IsSomeAnd, IfSome, slice_get, All, refl, sym, subst, arith, cond, Bool, true, false, ◌==◌}
+use Rattle.std.proofs.Common.{◌≡◌, ℕ, ◌+◌, ◌-◌, ◌<◌, ◌≤◌, List, [], ◌∷◌, ◌++◌, length, take, drop, map, reverse, rules}
+use Rattle.std.proofs.Common.{get_or, Option, Some, None, IsSomeAnd, IfSome, slice_get, All}
+use Rattle.std.proofs.Common.{refl, sym, subst, arith, cond, Bool, true, false}
 use Rattle.std.proofs.Common.{if◌then◌else◌, length-append, length-take, length-drop}
 use Rattle.std.specs.Bool.{⊤}
 use Rattle.std.proofs.lemmas.List.{length-map, length-reverse}
 use Rattle.std.proofs.lemmas.List.Elements.{All-append, All-take, All-drop, All-map, All-get_or}
 use Rattle.std.proofs.lemmas.Option.{slice_get_within}
 use Rattle.jc_base.specs.declared.ty.Ty.{Ty}
-use Rattle.jc_base.specs.declared.ty.Ty.TheVariants.{Bottom, Short, IntHigh, IntLow, Null, Class, ArrBool, ArrByte, ArrShort, ArrInt, ArrRef, Fresh, Top}
+use Rattle.jc_base.specs.declared.ty.Ty.TheVariants.{Short, IntHigh, Null, Class, Fresh, Top}
 use Rattle.jc_base.specs.declared.ty.Kind.{Kind}
 use Rattle.jc_base.specs.declared.ty.Kind.TheVariants as kinds
 use Rattle.jc_base.specs.declared.record.MethodRec.{MethodRec}
-use Rattle.jc_base.specs.Class.{ClassTable, IsClass, is_interface, object, throwable, class_in_types}
+use Rattle.jc_base.specs.Class.{ClassTable, IsClass, is_interface, object, class_in_types}
 use Rattle.jc_base.specs.Order.{Below, IsKnown}
 use Rattle.jc_base.specs.Cell.{IsDeclared}
 use Rattle.jc_base.specs.Linked.{IsMethod}
@@ -36,11 +37,11 @@ use Rattle.jc_ops.specs.declared.operation.TypeTest.TheVariants as tests
 use Rattle.jc_ops.specs.declared.operation.Operation.{Operation}
 use Rattle.jc_ops.specs.declared.operation.Operation.TheVariants as ops
 use Rattle.jc_ops.specs.declared.want.Want.{Want}
-use Rattle.jc_ops.specs.declared.want.Want.TheVariants.{Value, Storable, ByteArray, AnyArray, Whole, Receiver}
+use Rattle.jc_ops.specs.declared.want.Want.TheVariants.{Value, Storable, AnyArray, Whole}
 use Rattle.jc_ops.specs.declared.operation.Callee.{Callee}
 use Rattle.jc_ops.specs.Sound.{IsKnownWant, IsNamedType, IsCalleeOf, IsResult, receiver_count, IsSound}
 use Rattle.jc_rules.specs.declared.demand.Demand.{Demand}
-use Rattle.jc_rules.specs.declared.demand.Demand.TheVariants.{Cell, Held}
+use Rattle.jc_rules.specs.declared.demand.Demand.TheVariants.{Cell}
 use Rattle.jc_rules.specs.declared.effect.Cells.{Cells}
 use Rattle.jc_rules.specs.declared.effect.Cells.TheVariants as given
 use Rattle.jc_rules.specs.declared.effect.Change.{Change}
@@ -48,12 +49,17 @@ use Rattle.jc_rules.specs.declared.effect.Change.TheVariants.{Replace, CopyUnder
 use Rattle.jc_rules.specs.declared.effect.Effect.{Effect}
 use Rattle.jc_rules.specs.Effect.{in_stack_order, ready, changed, cells_needed, depth_after, reg}
 use Rattle.jc_rules.specs.Demand.{Frame, Meets, SatisfiesAll, AreKnown}
-use Rattle.jc_rules.specs.Rule.{cell, number, two_numbers, size, number_given, value_given, value_wanted, value_size, on_stack, replacing, storing}
-use Rattle.jc_rules.specs.Rule.{constant_effect, load_demands, load_effect, or_null, store_demands, store_effect, increment_demands, increment_effect}
-use Rattle.jc_rules.specs.Rule.{move_demands, move_effect, arithmetic_demands, arithmetic_effect, element, array_read_demands, array_read_effect}
-use Rattle.jc_rules.specs.Rule.{array_write_demands, array_write_effect, branch_demands, branch_effect, field_read_demands, field_read_effect}
-use Rattle.jc_rules.specs.Rule.{field_write_demands, field_write_effect, cells_wanted, call_demands, call_effect, ready_with, result_given, args_at, result_at}
-use Rattle.jc_rules.specs.Rule.{seen, type_test_effect, array_wanted, a_reference, return_demands, return_effect, demands, effect}
+use Rattle.jc_rules.specs.Rule.{cell, number, two_numbers, size, number_given, value_given}
+use Rattle.jc_rules.specs.Rule.{value_wanted, value_size, on_stack, replacing, storing}
+use Rattle.jc_rules.specs.Rule.{constant_effect, load_demands, load_effect, or_null}
+use Rattle.jc_rules.specs.Rule.{store_demands, store_effect, increment_demands, increment_effect}
+use Rattle.jc_rules.specs.Rule.{move_demands, move_effect, arithmetic_demands, arithmetic_effect}
+use Rattle.jc_rules.specs.Rule.{element, array_read_demands, array_read_effect}
+use Rattle.jc_rules.specs.Rule.{array_write_demands, array_write_effect, branch_demands}
+use Rattle.jc_rules.specs.Rule.{branch_effect, field_read_demands, field_read_effect}
+use Rattle.jc_rules.specs.Rule.{field_write_demands, field_write_effect, cells_wanted, call_demands}
+use Rattle.jc_rules.specs.Rule.{call_effect, ready_with, result_given, result_at}
+use Rattle.jc_rules.specs.Rule.{seen, type_test_effect, array_wanted, return_demands, return_effect, demands, effect}
 use Rattle.jc_rules.specs.Known.{IsValue, IsKnownCallee, IsKnownOperation}
 use Rattle.jc_rules.specs.Flow.{IsNotFresh, IsNotTop}
 use Rattle.jc_rules.specs.Laws.{IsNotBottom}
@@ -68,42 +74,15 @@ module _ (taken : ℕ) (s : List Ty) where
   private_length xs = simp (length-append, length-drop) (omega arith)
 
 pub length-changed : (c : Change) (s : List Ty) → cells_needed c ≤ length s → length (changed c s) ≡ depth_after c (length s)
-length-changed (Replace taken cells) s h = private_length taken s (in_stack_order cells)
-length-changed (CopyUnder copied under) s h = simp (length-append, length-take, length-drop) (omega arith)
-length-changed (Exchange top under) s h = simp (length-append, length-take, length-drop) (omega arith)
-length-changed (MakeReady taken place class cells) s h = simp (length-append, length-map, length-drop) (omega arith)
+length-changed x s h = grind (arith, private_length, length-append, length-take, length-drop, length-map)
 
 -- ---- what is known of what is given
 
 value-full : (ty : Ty) → IsValue ty → IsNotBottom ty
-value-full Bottom h = h
-value-full Short h = tt
-value-full IntHigh h = tt
-value-full IntLow h = tt
-value-full Null h = tt
-value-full (Class c) h = tt
-value-full ArrBool h = tt
-value-full ArrByte h = tt
-value-full ArrShort h = tt
-value-full ArrInt h = tt
-value-full (ArrRef c) h = tt
-value-full (Fresh p c) h = tt
-value-full Top h = tt
+value-full x h = grind (arith)
 
 value-topless : (ty : Ty) → IsValue ty → IsNotTop ty
-value-topless Bottom h = tt
-value-topless Short h = tt
-value-topless IntHigh h = tt
-value-topless IntLow h = tt
-value-topless Null h = tt
-value-topless (Class c) h = tt
-value-topless ArrBool h = tt
-value-topless ArrByte h = tt
-value-topless ArrShort h = tt
-value-topless ArrInt h = tt
-value-topless (ArrRef c) h = tt
-value-topless (Fresh p c) h = tt
-value-topless Top h = h
+value-topless x h = grind (arith)
 
 -- what goes on the stack names classes alone, and is the type of a value
 abbrev pub CellsKnown : ClassTable → Cells → Type 0
@@ -130,35 +109,13 @@ ChangeKnown t (Exchange top under) = ⊤
 ChangeKnown t (MakeReady taken place class cells) = IsClass t class × CellsKnown t cells
 
 pub cells-known : (t : ClassTable) (cells : Cells) → CellsKnown t cells → All (IsKnown t) (in_stack_order cells)
-cells-known t given.Nothing h k d lt = absurd (omega arith)
-cells-known t (given.One ty) h zero d lt = h.0
-cells-known t (given.One ty) h (suc k) d lt = absurd (omega arith)
-cells-known t given.Int h zero d lt = tt
-cells-known t given.Int h (suc zero) d lt = tt
-cells-known t given.Int h (suc (suc k)) d lt = absurd (omega arith)
+cells-known t y h k d lt = grind (arith)
 
 pub cells-kept : (t : ClassTable) (cells : Cells) → CellsKept t cells → All (IsKnown t) (in_stack_order cells)
-cells-kept t given.Nothing h k d lt = absurd (omega arith)
-cells-kept t (given.One ty) h zero d lt = h.0
-cells-kept t (given.One ty) h (suc k) d lt = absurd (omega arith)
-cells-kept t given.Int h zero d lt = tt
-cells-kept t given.Int h (suc zero) d lt = tt
-cells-kept t given.Int h (suc (suc k)) d lt = absurd (omega arith)
+cells-kept t y h k d lt = grind (arith)
 
 ready-known : (t : ClassTable) (place class : ℕ) (ty : Ty) → IsClass t class → IsKnown t ty → IsKnown t (ready place class ty)
-ready-known t place class (Fresh p c) h k = elim (p == place) as (λ b. IsKnown t (cond b (Class class) (Fresh p c))) [ true ↦ h | false ↦ k ]
-ready-known t place class Bottom h k = k
-ready-known t place class Short h k = k
-ready-known t place class IntHigh h k = k
-ready-known t place class IntLow h k = k
-ready-known t place class Null h k = k
-ready-known t place class (Class c) h k = k
-ready-known t place class ArrBool h k = k
-ready-known t place class ArrByte h k = k
-ready-known t place class ArrShort h k = k
-ready-known t place class ArrInt h k = k
-ready-known t place class (ArrRef c) h k = k
-ready-known t place class Top h k = k
+ready-known t place class u h k = grind (arith, cond)
 
 pub changed-known : (t : ClassTable) (c : Change) (s : List Ty) → ChangeKnown t c → All (IsKnown t) s → All (IsKnown t) (changed c s)
 changed-known t (Replace taken cells) s k all =
@@ -176,45 +133,16 @@ changed-known t (MakeReady taken place class cells) s k all =
     (λ i d lt. ready-known t place class (get_or (drop taken s) i d) k.0 (All-drop (IsKnown t) taken s all i d lt)))
 
 ready-full : (place class : ℕ) (ty : Ty) → IsNotBottom ty → IsNotBottom (ready place class ty)
-ready-full place class (Fresh p c) h = elim (p == place) as (λ b. IsNotBottom (cond b (Class class) (Fresh p c))) [ true ↦ tt | false ↦ tt ]
-ready-full place class Bottom h = h
-ready-full place class Short h = h
-ready-full place class IntHigh h = h
-ready-full place class IntLow h = h
-ready-full place class Null h = h
-ready-full place class (Class c) h = h
-ready-full place class ArrBool h = h
-ready-full place class ArrByte h = h
-ready-full place class ArrShort h = h
-ready-full place class ArrInt h = h
-ready-full place class (ArrRef c) h = h
-ready-full place class Top h = h
+ready-full place class z h = grind (arith, cond)
 
 ready-topless : (place class : ℕ) (ty : Ty) → IsNotTop ty → IsNotTop (ready place class ty)
-ready-topless place class (Fresh p c) h = elim (p == place) as (λ b. IsNotTop (cond b (Class class) (Fresh p c))) [ true ↦ tt | false ↦ tt ]
-ready-topless place class Bottom h = h
-ready-topless place class Short h = h
-ready-topless place class IntHigh h = h
-ready-topless place class IntLow h = h
-ready-topless place class Null h = h
-ready-topless place class (Class c) h = h
-ready-topless place class ArrBool h = h
-ready-topless place class ArrByte h = h
-ready-topless place class ArrShort h = h
-ready-topless place class ArrInt h = h
-ready-topless place class (ArrRef c) h = h
-ready-topless place class Top h = h
+ready-topless place class z h = grind (arith, cond)
 
 -- what holds of values, and stays when objects are made ready, holds of the stack that is given
 module _ (t : ClassTable) (P : Ty → Type 0) (values : (ty : Ty) → IsValue ty → P ty)
     (readies : (place class : ℕ) (ty : Ty) → P ty → P (ready place class ty)) where
   cells-each : (cells : Cells) → CellsKnown t cells → All P (in_stack_order cells)
-  cells-each given.Nothing h k d lt = absurd (omega arith)
-  cells-each (given.One ty) h zero d lt = values ty h.1
-  cells-each (given.One ty) h (suc k) d lt = absurd (omega arith)
-  cells-each given.Int h zero d lt = values IntLow tt
-  cells-each given.Int h (suc zero) d lt = values IntHigh tt
-  cells-each given.Int h (suc (suc k)) d lt = absurd (omega arith)
+  cells-each x h k d lt = grind (arith)
 
   changed-each : (c : Change) (s : List Ty) → ChangeKnown t c → All P s → All P (changed c s)
   changed-each (Replace taken cells) s k all = All-append P (in_stack_order cells) (drop taken s) (cells-each cells k) (All-drop P taken s all)
@@ -237,19 +165,7 @@ changed-topless t = changed-each t IsNotTop value-topless ready-topless
 
 module _ (t : ClassTable) {d : ℕ} where
   topless_class : (a : Ty) → Below t a (Class d) → IsNotTop a
-  topless_class Top x = top_not_below_class t x
-  topless_class Bottom x = tt
-  topless_class Short x = tt
-  topless_class IntHigh x = tt
-  topless_class IntLow x = tt
-  topless_class Null x = tt
-  topless_class (Class c) x = tt
-  topless_class ArrBool x = tt
-  topless_class ArrByte x = tt
-  topless_class ArrShort x = tt
-  topless_class ArrInt x = tt
-  topless_class (ArrRef c) x = tt
-  topless_class (Fresh p c) x = tt
+  topless_class x x2 = grind (arith, top_not_below_class)
 
 -- ---- an effect that suits a frame
 
@@ -260,8 +176,7 @@ pub record Suits (t : ClassTable) (f : Frame) (e : Effect) : Type 0 where
   pub change : ChangeKnown t e.change
 
 cell_there_at : (xs : List Ty) (n : ℕ) (P : Ty → Type 0) (o : Option Ty) → slice_get xs n ≡ o → IsSomeAnd o P → n + 1 ≤ length xs
-cell_there_at xs n P None e h = absurd h
-cell_there_at xs n P (Some ty) e h = let lt : n < length xs = slice_get_within xs n ty e in omega arith
+cell_there_at xs n z u e h = grind (arith, slice_get_within)
 
 module _ (t : ClassTable) (f : Frame) where
   pub cell-there : (xs : List Ty) (n : ℕ) (P : Ty → Type 0) → IsSomeAnd (slice_get xs n) P → n + 1 ≤ length xs
@@ -278,111 +193,35 @@ module _ (t : ClassTable) (f : Frame) where
   suits-on_stack c h k = record { there = h; inside = omega arith; stored = tt; change = k }
 
   number-there : (w : Width) (n : ℕ) → SatisfiesAll t f (number w n) → n + size w ≤ length f.stack
-  number-there widths.Short n h = cell-there f.stack n (Meets t (Value Short)) h.0
-  number-there widths.Int n h = let two : n + 1 + 1 ≤ length f.stack = cell-there f.stack (n + 1) (Meets t (Value IntHigh)) h.1.0 in omega arith
+  number-there x n h = grind (arith, cell-there)
 
   two-there : (w : Width) → SatisfiesAll t f (two_numbers w) → size w + size w ≤ length f.stack
-  two-there widths.Short h = cell-there f.stack 1 (Meets t (Value Short)) h.1.0
-  two-there widths.Int (low, (high, (left_low, (left_high, done)))) = cell-there f.stack 3 (Meets t (Value IntHigh)) left_high
+  two-there x h = grind (arith, cell-there)
 
   number-known : (w : Width) → CellsKnown t (number_given w)
-  number-known widths.Short = (tt, tt)
-  number-known widths.Int = tt
+  number-known x = grind (arith)
 
   length-number : (w : Width) → length (in_stack_order (number_given w)) ≡ size w
-  length-number widths.Short = refl
-  length-number widths.Int = refl
+  length-number x = grind (arith)
 
   value-known : (ty : Ty) → IsKnown t ty × IsValue ty → CellsKnown t (value_given ty)
-  value-known IntHigh k = tt
-  value-known Bottom k = k
-  value-known Short k = k
-  value-known IntLow k = k
-  value-known Null k = k
-  value-known (Class c) k = k
-  value-known ArrBool k = k
-  value-known ArrByte k = k
-  value-known ArrShort k = k
-  value-known ArrInt k = k
-  value-known (ArrRef c) k = k
-  value-known (Fresh p c) k = k
-  value-known Top k = k
+  value-known x k = grind (arith)
 
   module _ (rest : List Demand) where
     value-there : (ty : Ty) → SatisfiesAll t f (value_wanted ty ++ rest) → value_size ty ≤ length f.stack
-    value-there IntHigh h = cell-there f.stack 1 (Meets t (Value IntHigh)) h.1.0
-    value-there Bottom h = cell-there f.stack 0 (Meets t (Value Bottom)) h.0
-    value-there Short h = cell-there f.stack 0 (Meets t (Value Short)) h.0
-    value-there IntLow h = cell-there f.stack 0 (Meets t (Value IntLow)) h.0
-    value-there Null h = cell-there f.stack 0 (Meets t (Value Null)) h.0
-    value-there (Class c) h = cell-there f.stack 0 (Meets t (Value (Class c))) h.0
-    value-there ArrBool h = cell-there f.stack 0 (Meets t (Value ArrBool)) h.0
-    value-there ArrByte h = cell-there f.stack 0 (Meets t (Value ArrByte)) h.0
-    value-there ArrShort h = cell-there f.stack 0 (Meets t (Value ArrShort)) h.0
-    value-there ArrInt h = cell-there f.stack 0 (Meets t (Value ArrInt)) h.0
-    value-there (ArrRef c) h = cell-there f.stack 0 (Meets t (Value (ArrRef c))) h.0
-    value-there (Fresh p c) h = cell-there f.stack 0 (Meets t (Value (Fresh p c))) h.0
-    value-there Top h = cell-there f.stack 0 (Meets t (Value Top)) h.0
+    value-there x h = grind (arith, cell-there)
 
   or_null-known : (ty : Ty) → IsKnown t ty → IsKnown t (or_null ty)
-  or_null-known Bottom k = tt
-  or_null-known Short k = k
-  or_null-known IntHigh k = k
-  or_null-known IntLow k = k
-  or_null-known Null k = k
-  or_null-known (Class c) k = k
-  or_null-known ArrBool k = k
-  or_null-known ArrByte k = k
-  or_null-known ArrShort k = k
-  or_null-known ArrInt k = k
-  or_null-known (ArrRef c) k = k
-  or_null-known (Fresh p c) k = k
-  or_null-known Top k = k
+  or_null-known x k = grind (arith)
 
   or_null-full : (ty : Ty) → IsNotTop ty → IsValue (or_null ty)
-  or_null-full Bottom h = tt
-  or_null-full Short h = tt
-  or_null-full IntHigh h = tt
-  or_null-full IntLow h = tt
-  or_null-full Null h = tt
-  or_null-full (Class c) h = tt
-  or_null-full ArrBool h = tt
-  or_null-full ArrByte h = tt
-  or_null-full ArrShort h = tt
-  or_null-full ArrInt h = tt
-  or_null-full (ArrRef c) h = tt
-  or_null-full (Fresh p c) h = tt
-  or_null-full Top h = h
+  or_null-full x h = grind (arith)
 
   element-full : (ty : Ty) → IsValue (element ty)
-  element-full (ArrRef c) = tt
-  element-full Bottom = tt
-  element-full Short = tt
-  element-full IntHigh = tt
-  element-full IntLow = tt
-  element-full Null = tt
-  element-full (Class c) = tt
-  element-full ArrBool = tt
-  element-full ArrByte = tt
-  element-full ArrShort = tt
-  element-full ArrInt = tt
-  element-full (Fresh p c) = tt
-  element-full Top = tt
+  element-full x = grind (arith)
 
   element-known : (ty : Ty) → IsKnown t ty → IsKnown t (element ty)
-  element-known (ArrRef c) k = k
-  element-known Bottom k = tt
-  element-known Short k = tt
-  element-known IntHigh k = tt
-  element-known IntLow k = tt
-  element-known Null k = tt
-  element-known (Class c) k = tt
-  element-known ArrBool k = tt
-  element-known ArrByte k = tt
-  element-known ArrShort k = tt
-  element-known ArrInt k = tt
-  element-known (Fresh p c) k = tt
-  element-known Top k = tt
+  element-known x k = grind (arith)
 
   module _ (k : AreKnown t f) where
     reg-known : (x : ℕ) → x < length f.regs → IsKnown t (reg f.regs x)
@@ -394,19 +233,10 @@ module _ (t : ClassTable) (f : Frame) where
     -- ---- values
 
     suits-constant : (c : Constant) → Suits t f (constant_effect c)
-    suits-constant constants.Nothing = suits-replacing 0 given.Nothing (omega arith) tt
-    suits-constant constants.Null = suits-replacing 0 (given.One Null) (omega arith) (tt, tt)
-    suits-constant (constants.Short n) = suits-replacing 0 (given.One Short) (omega arith) (tt, tt)
-    suits-constant (constants.Int n) = suits-replacing 0 given.Int (omega arith) tt
+    suits-constant x = grind (arith, suits-replacing)
 
     suits-load : (s : Sort) (x : ℕ) → SatisfiesAll t f (load_demands t s x) → Suits t f (load_effect s x f)
-    suits-load sorts.Reference x h =
-        let lt : x < length f.regs = omega (arith, h.0) in suits-replacing 0 (given.One (or_null (reg f.regs x))) (omega arith) (
-          or_null-known (reg f.regs x) (reg-known x lt),
-          or_null-full (reg f.regs x) (topless_class t (reg f.regs x) (some-or (λ ty. Below t ty (Class (object t))) f.regs x h.1.0)),
-        )
-    suits-load sorts.Short x h = suits-replacing 0 (given.One Short) (omega arith) (tt, tt)
-    suits-load sorts.Int x h = suits-replacing 0 given.Int (omega arith) tt
+    suits-load x x2 h = grind (arith, suits-replacing, or_null-known, reg-known, or_null-full, topless_class, some-or)
 
     suits-store : (s : Sort) (x : ℕ) → SatisfiesAll t f (store_demands s x) → Suits t f (store_effect s x f)
     suits-store sorts.Reference x h =
@@ -416,8 +246,7 @@ module _ (t : ClassTable) (f : Frame) where
     suits-store sorts.Int x h = suits-storing 2 x given.Int (cell-there f.stack 1 (Meets t (Value IntHigh)) h.1.1.0) h.0 tt
 
     suits-increment : (w : Width) (x : ℕ) → SatisfiesAll t f (increment_demands w x) → Suits t f (increment_effect w x)
-    suits-increment widths.Short x h = suits-storing 0 x (given.One Short) (omega arith) h.0 (tt, tt)
-    suits-increment widths.Int x h = suits-storing 0 x given.Int (omega arith) h.0 tt
+    suits-increment x x2 h = grind (arith, suits-storing)
 
     suits-move : (m : Move) → SatisfiesAll t f (move_demands m) → Suits t f (move_effect m)
     suits-move moves.Pop h = suits-replacing 1 given.Nothing (cell-there f.stack 0 (Meets t Whole) h.0) tt
@@ -451,34 +280,20 @@ module _ (t : ClassTable) (f : Frame) where
     suits-array_read kinds.Int h = suits-replacing 2 given.Int (cell-there f.stack 1 (Meets t (array_wanted t kinds.Int)) h.1.0) tt
 
     suits-array_write : (kind : Kind) → SatisfiesAll t f (array_write_demands t kind) → Suits t f (array_write_effect kind)
-    suits-array_write kinds.Ref h = suits-replacing 3 given.Nothing (cell-there f.stack 2 (Meets t (array_wanted t kinds.Ref)) h.1.1.0) tt
-    suits-array_write kinds.Byte h = suits-replacing 3 given.Nothing (cell-there f.stack 2 (Meets t (array_wanted t kinds.Byte)) h.1.1.0) tt
-    suits-array_write kinds.Short h = suits-replacing 3 given.Nothing (cell-there f.stack 2 (Meets t (array_wanted t kinds.Short)) h.1.1.0) tt
-    suits-array_write kinds.Int (low, (high, (index, (array, done)))) =
-        suits-replacing 4 given.Nothing (cell-there f.stack 3 (Meets t (array_wanted t kinds.Int)) array) tt
+    suits-array_write x h = grind (arith, suits-replacing, cell-there)
 
     suits-branch : (b : Branch) → SatisfiesAll t f (branch_demands t b) → Suits t f (branch_effect b)
-    suits-branch branches.Always h = suits-replacing 0 given.Nothing (omega arith) tt
-    suits-branch (branches.Zero o) h = suits-replacing 1 given.Nothing (number-there widths.Short 0 h) tt
-    suits-branch (branches.Null e) h = suits-replacing 1 given.Nothing (cell-there f.stack 0 (Meets t (a_reference t)) h.0) tt
-    suits-branch (branches.References e) h = suits-replacing 2 given.Nothing (cell-there f.stack 1 (Meets t (a_reference t)) h.1.0) tt
-    suits-branch (branches.Shorts o) h = suits-replacing 2 given.Nothing (two-there widths.Short h) tt
+    suits-branch x h = grind (arith, suits-replacing, number-there, cell-there, two-there)
 
     suits-read : (h : Holder) (c : ℕ) (ty : Ty) → IsKnown t ty × IsValue ty → SatisfiesAll t f (field_read_demands h c)
         → Suits t f (field_read_effect h ty)
-    suits-read holders.Stack c ty known h = suits-replacing 1 (value_given ty) (cell-there f.stack 0 (Meets t (Value (Class c))) h.0) (value-known ty known)
-    suits-read holders.This c ty known h = suits-replacing 0 (value_given ty) (omega arith) (value-known ty known)
+    suits-read x c ty known h = grind (arith, suits-replacing, cell-there, value-known)
 
     suits-write : (h : Holder) (c : ℕ) (ty : Ty) → SatisfiesAll t f (field_write_demands h c ty) → Suits t f (field_write_effect h ty)
-    suits-write holders.Stack c ty h =
-        suits-replacing (value_size ty + 1) given.Nothing
-        (cell-there f.stack (value_size ty) (Meets t (Value (Class c)))
-        (SatisfiesAll-rest t f (value_wanted ty) (Cell (value_size ty) (Value (Class c)) ∷ []) h).0) tt
-    suits-write holders.This c ty h = suits-replacing (value_size ty) given.Nothing (value-there (Held 0 (Class c) ∷ []) ty h.1) tt
+    suits-write x c ty h = grind (arith, suits-replacing, cell-there, value-there)
 
     suits-test : (test : TypeTest) (ty : Ty) → IsKnown t ty × IsValue ty → 0 + 1 ≤ length f.stack → Suits t f (type_test_effect test ty)
-    suits-test tests.Cast ty known h = suits-replacing 1 (given.One ty) h known
-    suits-test tests.InstanceOf ty known h = suits-replacing 1 (given.One Short) h (tt, tt)
+    suits-test x ty known h = grind (arith, suits-replacing)
 
     suits-popped : (ty : Ty) → SatisfiesAll t f (value_wanted ty) → Suits t f (replacing (value_size ty) given.Nothing)
     suits-popped ty h = suits-replacing (value_size ty) given.Nothing (value-there [] ty (SatisfiesAll-append t f (value_wanted ty) [] h tt)) tt
@@ -487,9 +302,7 @@ module _ (t : ClassTable) (f : Frame) where
 
     cells-there : (n : ℕ) (tys : List Ty) → n ≤ length f.stack → SatisfiesAll t f (cells_wanted n tys) → n + length tys ≤ length f.stack
     cells-there n [] le h = omega arith
-    cells-there n (ty ∷ tys) le h =
-        let more : (n + 1) + length tys ≤ length f.stack = cells-there (n + 1) tys (cell-there f.stack n (Meets t (Value ty)) h.0) h.1 in
-        omega arith
+    cells-there n (ty ∷ tys) le h = grind (arith, cell-there, cells-there (n + 1) tys (cell-there f.stack n (Meets t (Value ty)) h.0) h.1)
 
     arguments-there : (args : List Ty) (ds : List Demand) → SatisfiesAll t f (cells_wanted 0 (reverse args) ++ ds) → length args ≤ length f.stack
     arguments-there args ds h =
@@ -498,29 +311,11 @@ module _ (t : ClassTable) (f : Frame) where
         omega (arith, length-reverse args)
 
     result-known : (o : Option Ty) → IfSome o (λ ty. IsKnown t ty × IsValue ty) → CellsKnown t (result_given o)
-    result-known None k = tt
-    result-known (Some ty) k = value-known ty k
+    result-known x k = grind (arith, value-known)
 
     suits-ready : (taken : ℕ) (cells : Cells) (found : Ty) (want : Want) → taken ≤ length f.stack → CellsKnown t cells → IsKnownWant t want
         → Suits t f (on_stack (ready_with taken cells found want))
-    suits-ready taken cells (Fresh p c) (Receiver d) le known w = suits-on_stack (MakeReady taken p d cells) le (w, known)
-    suits-ready taken cells (Fresh p c) (Value ty) le known w = suits-on_stack (Replace taken cells) le known
-    suits-ready taken cells (Fresh p c) Storable le known w = suits-on_stack (Replace taken cells) le known
-    suits-ready taken cells (Fresh p c) ByteArray le known w = suits-on_stack (Replace taken cells) le known
-    suits-ready taken cells (Fresh p c) AnyArray le known w = suits-on_stack (Replace taken cells) le known
-    suits-ready taken cells (Fresh p c) Whole le known w = suits-on_stack (Replace taken cells) le known
-    suits-ready taken cells Bottom want le known w = suits-on_stack (Replace taken cells) le known
-    suits-ready taken cells Short want le known w = suits-on_stack (Replace taken cells) le known
-    suits-ready taken cells IntHigh want le known w = suits-on_stack (Replace taken cells) le known
-    suits-ready taken cells IntLow want le known w = suits-on_stack (Replace taken cells) le known
-    suits-ready taken cells Null want le known w = suits-on_stack (Replace taken cells) le known
-    suits-ready taken cells (Class c) want le known w = suits-on_stack (Replace taken cells) le known
-    suits-ready taken cells ArrBool want le known w = suits-on_stack (Replace taken cells) le known
-    suits-ready taken cells ArrByte want le known w = suits-on_stack (Replace taken cells) le known
-    suits-ready taken cells ArrShort want le known w = suits-on_stack (Replace taken cells) le known
-    suits-ready taken cells ArrInt want le known w = suits-on_stack (Replace taken cells) le known
-    suits-ready taken cells (ArrRef c) want le known w = suits-on_stack (Replace taken cells) le known
-    suits-ready taken cells Top want le known w = suits-on_stack (Replace taken cells) le known
+    suits-ready taken cells z want le known w = grind (arith, suits-on_stack)
 
     suits-call : (args : List Ty) (result : Option Ty) (receiver : Option Want) → IfSome result (λ ty. IsKnown t ty × IsValue ty)
         → IfSome receiver (IsKnownWant t) → SatisfiesAll t f (call_demands args receiver) → Suits t f (call_effect args result receiver f)
@@ -533,29 +328,15 @@ module _ (t : ClassTable) (f : Frame) where
 -- ---- the rule
 
 declared-full : (t : ClassTable) (ty : Ty) → IsDeclared t ty → IsKnown t ty × IsValue ty
-declared-full t Bottom h = absurd h
-declared-full t Short h = (tt, tt)
-declared-full t IntHigh h = (tt, tt)
-declared-full t IntLow h = (tt, tt)
-declared-full t Null h = (tt, tt)
-declared-full t (Class c) h = (h, tt)
-declared-full t ArrBool h = (tt, tt)
-declared-full t ArrByte h = (tt, tt)
-declared-full t ArrShort h = (tt, tt)
-declared-full t ArrInt h = (tt, tt)
-declared-full t (ArrRef c) h = (h, tt)
-declared-full t (Fresh place c) h = absurd h
-declared-full t Top h = absurd h
+declared-full t y h = grind (arith)
 
 result-declared : (w : Linked) → IsWorld w → (o : Option MethodRec)
     → ((m : MethodRec) → o ≡ Some m → IfSome m.sig.result (λ ty. IsKnown w.classes ty × IsValue ty))
     → IfSome (result_at o) (λ ty. IsKnown w.classes ty × IsValue ty)
-result-declared w is None h = tt
-result-declared w is (Some m) h = h m refl
+result-declared w is z h = grind (arith)
 
 IfSome-full : (t : ClassTable) (o : Option Ty) → IfSome o (IsDeclared t) → IfSome o (λ ty. IsKnown t ty × IsValue ty)
-IfSome-full t None h = tt
-IfSome-full t (Some ty) h = declared-full t ty h
+IfSome-full t y h = grind (arith, declared-full)
 
 method-result : (w : Linked) → IsWorld w → (n : ℕ) → IfSome (result_at (slice_get w.methods n)) (λ ty. IsKnown w.classes ty × IsValue ty)
 method-result w is n =
@@ -571,42 +352,24 @@ module _ (t : ClassTable) (objects : IsClass t (object t)) where
       at false e = record { number = lt; class = e }
 
   seen-known : (ty : Ty) → IsNamedType t ty → IsKnown t (seen t ty) × IsValue (seen t ty)
-  seen-known (Class c) h = (standing-class c h, tt)
-  seen-known ArrBool h = (tt, tt)
-  seen-known ArrByte h = (tt, tt)
-  seen-known ArrShort h = (tt, tt)
-  seen-known ArrInt h = (tt, tt)
-  seen-known (ArrRef c) h = (standing-class c h, tt)
-  seen-known _ h = absurd h
+  seen-known x h = grind (arith, standing-class)
 
 result-full : (t : ClassTable) (o : Option Ty) → IfSome o (IsResult t) → IfSome o (λ ty. IsKnown t ty × IsValue ty)
-result-full t None h = tt
-result-full t (Some ty) h = declared-full t ty h.declared
+result-full t y h = grind (arith, declared-full)
 
 -- what a sound operation speaks of is known
 callee-known : (w : Linked) (c : Callee) → IsCalleeOf w c → IsKnownCallee w c
 callee-known w c h = (subst (λ o. IsSomeAnd o (λ m. length m.sig.args + receiver_count c.receiver ≤ 255)) (sym h.is_method) h.room, h.known)
 
 pub sound-known : (w : Linked) (m : MethodRec) (place : ℕ) (op : Operation) → IsSound w m place op → IsKnownOperation w op
-sound-known w m place (ops.Move move) h = h
-sound-known w m place (ops.StaticRead field) h = declared-full w.classes field.ty h.ty
-sound-known w m place (ops.StaticWrite field) h = declared-full w.classes field.ty h.ty
-sound-known w m place (ops.FieldRead field holder) h = let k = declared-full w.classes field.ty h.ty in (h.cells.class, k.0, k.1)
-sound-known w m place (ops.FieldWrite field holder) h = let k = declared-full w.classes field.ty h.ty in (h.cells.class, k.0, k.1)
-sound-known w m place (ops.Call c) h = callee-known w c h
-sound-known w m place (ops.New p c) h = h.1.class
-sound-known w m place (ops.NewArray ty) h = h.1
-sound-known w m place (ops.TypeTest test ty) h = h
-sound-known w m place (ops.Return result) h = result-full w.classes result h.1
-sound-known w m place _ h = tt
+sound-known w m place u h = grind (arith, declared-full, callee-known, result-full)
 
 module _ (w : Linked) (is : IsWorld w) (f : Frame) (k : AreKnown w.classes f) where
   suits-nothing : Suits w.classes f (replacing 0 given.Nothing)
   suits-nothing = suits-replacing w.classes f 0 given.Nothing (omega arith) tt
 
   suits-return : (result : Option Ty) → SatisfiesAll w.classes f (return_demands result) → Suits w.classes f (return_effect result)
-  suits-return (Some ty) all = suits-popped w.classes f k ty all
-  suits-return None all = suits-nothing
+  suits-return x all = grind (arith, suits-popped, suits-nothing)
 
   -- where what an operation asks is met, what it does suits the frame
   pub suits : (op : Operation) → IsKnownOperation w op → SatisfiesAll w.classes f (demands w op) → Suits w.classes f (effect w op f)
@@ -627,18 +390,11 @@ module _ (w : Linked) (is : IsWorld w) (f : Frame) (k : AreKnown w.classes f) wh
   suits (ops.StaticWrite field) known all = suits-popped w.classes f k field.ty all
   suits (ops.FieldRead field h) known all = suits-read w.classes f k h field.class field.ty (known.1, known.2) all
   suits (ops.FieldWrite field h) known all = suits-write w.classes f k h field.class field.ty all
-  suits (ops.Call c) known all =
-      suits-call w.classes f k (args_at (slice_get w.methods c.method)) (result_at (slice_get w.methods c.method)) c.receiver (method-result w is c.method)
-      known.1 all
+  suits (ops.Call c) known all = search (rules, suits-call, slice_get, method-result)
   suits (ops.New place c) known all = suits-replacing w.classes f 0 (given.One (Fresh place c)) (omega arith) (known, tt)
-  suits (ops.NewArray ty) known all =
-      suits-replacing w.classes f 1 (given.One (seen w.classes ty)) (cell-there w.classes f f.stack 0 (Meets w.classes (Value Short)) all.0)
-      (seen-known w.classes k.object ty known)
-  suits ops.Throw known all =
-      suits-replacing w.classes f 1 given.Nothing (cell-there w.classes f f.stack 0 (Meets w.classes (Value (Class (throwable w.classes)))) all.0) tt
-  suits (ops.TypeTest test ty) known all =
-      suits-test w.classes f k test (seen w.classes ty) (seen-known w.classes k.object ty known)
-      (cell-there w.classes f f.stack 0 (Meets w.classes (a_reference w.classes)) all.0)
+  suits (ops.NewArray ty) known all = grind (arith, suits-replacing, cell-there, seen-known)
+  suits ops.Throw known all = grind (arith, suits-replacing, cell-there)
+  suits (ops.TypeTest test ty) known all = grind (arith, suits-test, seen-known, cell-there)
   suits (ops.Return result) known all = suits-return result all
 
 -- what an operation stores where no cell is Bottom

@@ -1,12 +1,14 @@
 -- What lies below and above types, and what an operation asks and does at a lesser frame: it asks less, and does what is lesser.
-use Rattle.std.proofs.Common.{◌≡◌, ℕ, ◌+◌, ◌-◌, ◌≤◌, true, false, inl, inr, List, [], ◌∷◌, ◌++◌, drop, map}
+use Rattle.std.proofs.Common.{◌≡◌, ℕ, ◌+◌, ◌-◌, ◌≤◌, inl, inr, List, [], ◌∷◌, map, arith}
 use Rattle.std.proofs.Common.{set, Option, Some, None, IsSomeAnd, IfSome, slice_get, refl, sym, ◌∙◌, ap, subst}
 use Rattle.std.specs.Bool.{⊤}
 use Rattle.jc_base.specs.declared.ty.Ty.{Ty}
-use Rattle.jc_base.specs.declared.ty.Ty.TheVariants.{Bottom, Short, IntHigh, IntLow, Null, Class, ArrBool, ArrByte, ArrShort, ArrInt, ArrRef, Fresh, Top}
+use Rattle.jc_base.specs.declared.ty.Ty.TheVariants.{Bottom, Short, IntHigh, IntLow, Null, Class, ArrBool}
+use Rattle.jc_base.specs.declared.ty.Ty.TheVariants.{ArrByte, ArrShort, ArrInt, ArrRef, Fresh, Top}
 use Rattle.jc_base.specs.Class.{ClassTable}
 use Rattle.jc_base.specs.Laws.{IsOrderOfTypes}
-use Rattle.jc_base.specs.Order.{Below, same, joined, nothing, anything, null_object, null_array, subclass, array_object, array_array, of_booleans, of_bytes}
+use Rattle.jc_base.specs.Order.{Below, same, joined, nothing, anything, null_object}
+use Rattle.jc_base.specs.Order.{null_array, subclass, array_object, array_array, of_booleans, of_bytes}
 use Rattle.jc_base.specs.Order.{of_shorts, of_ints, of_references, is_below}
 use Rattle.jc_rules.proofs.Types.{below-computed, below-told}
 use Rattle.jc_ops.specs.declared.want.Want.{Want}
@@ -185,31 +187,15 @@ module _ (t : ClassTable) where
 
 low_is : (b : Ty) → LowUp b → IsNotTop b → b ≡ IntLow
 unfolding LowUp
-low_is IntLow h n = refl
-low_is Top h n = absurd n
-low_is _ h n = absurd h
+low_is x h n = grind (arith)
 
 high_is : (b : Ty) → HighUp b → IsNotTop b → b ≡ IntHigh
 unfolding HighUp
-high_is IntHigh h n = refl
-high_is Top h n = absurd n
-high_is _ h n = absurd h
+high_is x h n = grind (arith)
 
 plain_with : (taken : ℕ) (cells : Cells) (want : Want) (a : Ty) → IsNotFresh a → ready_with taken cells a want ≡ Replace taken cells
 unfolding IsNullDown
-plain_with taken cells want (Fresh p c) h = absurd h
-plain_with taken cells want Bottom h = refl
-plain_with taken cells want Short h = refl
-plain_with taken cells want IntHigh h = refl
-plain_with taken cells want IntLow h = refl
-plain_with taken cells want Null h = refl
-plain_with taken cells want (Class c) h = refl
-plain_with taken cells want ArrBool h = refl
-plain_with taken cells want ArrByte h = refl
-plain_with taken cells want ArrShort h = refl
-plain_with taken cells want ArrInt h = refl
-plain_with taken cells want (ArrRef c) h = refl
-plain_with taken cells want Top h = refl
+plain_with taken cells want u h = grind (arith)
 
 plain_both : (taken : ℕ) (cells : Cells) (c : ℕ) (a b : Ty) → IsNotFresh a → IsNotFresh b → ready_with taken cells a (Receiver c)
     ≡ ready_with taken cells b (Receiver c)
@@ -221,33 +207,14 @@ NotReceiver _ = ⊤
 
 replaced : (taken : ℕ) (cells : Cells) (want : Want) (a : Ty) → NotReceiver want → ready_with taken cells a want ≡ Replace taken cells
 unfolding NotReceiver
-replaced taken cells (Receiver c) a h = absurd h
-replaced taken cells (Value ty) (Fresh p c) h = refl
-replaced taken cells Storable (Fresh p c) h = refl
-replaced taken cells ByteArray (Fresh p c) h = refl
-replaced taken cells AnyArray (Fresh p c) h = refl
-replaced taken cells Whole (Fresh p c) h = refl
-replaced taken cells want Bottom h = refl
-replaced taken cells want Short h = refl
-replaced taken cells want IntHigh h = refl
-replaced taken cells want IntLow h = refl
-replaced taken cells want Null h = refl
-replaced taken cells want (Class c) h = refl
-replaced taken cells want ArrBool h = refl
-replaced taken cells want ArrByte h = refl
-replaced taken cells want ArrShort h = refl
-replaced taken cells want ArrInt h = refl
-replaced taken cells want (ArrRef c) h = refl
-replaced taken cells want Top h = refl
+replaced taken cells want a h = grind (arith)
 
 not_receiver : (taken : ℕ) (cells : Cells) (want : Want) (a b : Ty) → NotReceiver want → ready_with taken cells a want ≡ ready_with taken cells b want
 not_receiver taken cells want a b h = replaced taken cells want a h ∙ sym (replaced taken cells want b h)
 
 plain_under : (q d : ℕ) (a : Ty) → IsNotFresh a → FreshDown q d a → a ≡ Bottom
 unfolding FreshDown
-plain_under q d Bottom h k = refl
-plain_under q d (Fresh p c) h k = absurd h
-plain_under q d _ h k = absurd k
+plain_under q d z h k = grind (arith)
 
 module _ (t : ClassTable) where
   low_above : {b : Ty} → Below t IntLow b → IsNotTop b → b ≡ IntLow
@@ -259,23 +226,18 @@ module _ (t : ClassTable) where
   high_above {b = b} p n = high_is b (high-up t p tt) n
 
   pub half-up : (a : Ty) {b : Ty} → Below t a b → IsNotTop b → IsHalf a → IsHalf b
-  half-up IntHigh p n h = subst IsHalf (sym (high_above p n)) tt
-  half-up IntLow p n h = subst IsHalf (sym (low_above p n)) tt
-  half-up _ p n h = absurd h
+  half-up x p n h = grind (arith, high_above, low_above)
 
   fresh_at : (p c : ℕ) (a : Ty) → FreshDown p c a → IsNotBottom a → a ≡ Fresh p c
   unfolding FreshDown
-  fresh_at p c Bottom h n = absurd n
-  fresh_at p c (Fresh q d) h n = cc
-  fresh_at p c _ h n = absurd h
+  fresh_at p c z h n = grind (arith)
 
   fresh_below : (p c : ℕ) {a : Ty} → Below t a (Fresh p c) → IsNotBottom a → a ≡ Fresh p c
   unfolding FreshDown
   fresh_below p c {a = a} x n = fresh_at p c a (fresh-down t p c x (refl, refl)) n
 
   receiver-falls : (c : ℕ) (a b : Ty) → Below t a b → IsNotBottom a → IsFreshOf c b → IsFreshOf c a
-  receiver-falls c a (Fresh p d) x n h = subst (IsFreshOf c) (sym (fresh_below p d x n)) h
-  receiver-falls c a _ x n h = absurd h
+  receiver-falls c a z x n h = grind (arith, fresh_below)
 
   meets-falls : (want : Want) (a b : Ty) → Below t a b → IsNotBottom a → IsNotTop b → Meets t want b → Meets t want a
   meets-falls (Value ty) a b p nb nt h = joined p h
@@ -289,19 +251,7 @@ module _ (t : ClassTable) where
 
   pub plain_class : {d : ℕ} (a : Ty) → Below t a (Class d) → IsNotFresh a
   unfolding ReferenceDown
-  plain_class (Fresh p c) x = reference-down t x tt
-  plain_class Bottom x = tt
-  plain_class Short x = tt
-  plain_class IntHigh x = tt
-  plain_class IntLow x = tt
-  plain_class Null x = tt
-  plain_class (Class c) x = tt
-  plain_class ArrBool x = tt
-  plain_class ArrByte x = tt
-  plain_class ArrShort x = tt
-  plain_class ArrInt x = tt
-  plain_class (ArrRef c) x = tt
-  plain_class Top x = tt
+  plain_class x x2 = grind (arith, reference-down)
 
   pub top_not_below_class : {d : ℕ} → Below t Top (Class d) → ⊥
   unfolding ReferenceDown
@@ -319,19 +269,7 @@ module _ (t : ClassTable) where
 -- below Bottom is nothing else
 pub bottom-least : (t : ClassTable) (are : IsOrderOfTypes t) (a : Ty) → Below t a Bottom → Bottom ≡ a
 unfolding is_below
-bottom-least t are Bottom h = refl
-bottom-least t are Short h = let e : false ≡ true = below-computed t are h in absurd (cc)
-bottom-least t are IntHigh h = let e : false ≡ true = below-computed t are h in absurd (cc)
-bottom-least t are IntLow h = let e : false ≡ true = below-computed t are h in absurd (cc)
-bottom-least t are Null h = let e : false ≡ true = below-computed t are h in absurd (cc)
-bottom-least t are (Class c) h = let e : false ≡ true = below-computed t are h in absurd (cc)
-bottom-least t are ArrBool h = let e : false ≡ true = below-computed t are h in absurd (cc)
-bottom-least t are ArrByte h = let e : false ≡ true = below-computed t are h in absurd (cc)
-bottom-least t are ArrShort h = let e : false ≡ true = below-computed t are h in absurd (cc)
-bottom-least t are ArrInt h = let e : false ≡ true = below-computed t are h in absurd (cc)
-bottom-least t are (ArrRef c) h = let e : false ≡ true = below-computed t are h in absurd (cc)
-bottom-least t are (Fresh p c) h = let e : false ≡ true = below-computed t are h in absurd (cc)
-bottom-least t are Top h = let e : false ≡ true = below-computed t are h in absurd (cc)
+bottom-least t are z h = grind (arith, below-computed)
 
 -- ---- demands
 
@@ -339,10 +277,7 @@ module _ (t : ClassTable) where
   cell-falls : (want : Want) (o p : Option Ty) → PairAt t o p → IfSome o IsNotBottom → IfSome p IsNotTop → IsSomeAnd p (Meets t want)
       → IsSomeAnd o (Meets t want)
   unfolding PairAt
-  cell-falls want (Some a) (Some b) x nb nt h = meets-falls t want a b x nb nt h
-  cell-falls want None (Some b) x nb nt h = absurd x
-  cell-falls want None None x nb nt h = absurd h
-  cell-falls want (Some a) None x nb nt h = absurd h
+  cell-falls want y z x nb nt h = grind (arith, meets-falls)
 
   held-falls : (ty : Ty) (o p : Option Ty) → PairAt t o p → IsSomeAnd p (λ b. Below t b ty) → IsSomeAnd o (λ a. Below t a ty)
   unfolding PairAt
@@ -353,15 +288,11 @@ module _ (t : ClassTable) where
 
   low-read : (o p : Option Ty) → PairAt t o p → IfSome p IsNotTop → o ≡ Some IntLow → p ≡ Some IntLow
   unfolding PairAt
-  low-read (Some a) (Some b) x n e = let is : a ≡ IntLow = cc in ap Some (low_above t (subst (λ c. Below t c b) is x) n)
-  low-read (Some a) None x n e = absurd x
-  low-read None p x n e = absurd (cc)
+  low-read x p x2 n e = grind (arith, low_above)
 
   high-read : (o p : Option Ty) → PairAt t o p → IfSome p IsNotTop → o ≡ Some IntHigh → p ≡ Some IntHigh
   unfolding PairAt
-  high-read (Some a) (Some b) x n e = let is : a ≡ IntHigh = cc in ap Some (high_above t (subst (λ c. Below t c b) is x) n)
-  high-read (Some a) None x n e = absurd x
-  high-read None p x n e = absurd (cc)
+  high-read x p x2 n e = grind (arith, high_above)
 
   -- f is the lesser frame, g the greater
   module _ (f g : Frame) (regs : CellsBelow t f.regs g.regs) (stack : CellsBelow t f.stack g.stack) (no_top : Each IsNotTop g.stack)
@@ -474,19 +405,7 @@ module _ (t : ClassTable) (are : IsOrderOfTypes t) where
 
   ready-falls : (place class : ℕ) (a b : Ty) → Below t a b → Below t (ready place class a) (ready place class b)
   unfolding FreshUp
-  ready-falls place class (Fresh p c) b x = ready-fresh place class p c x (fresh-up t p c x (refl, refl))
-  ready-falls place class Bottom b x = nothing
-  ready-falls place class Short b x = ready-plain place class Short b tt x
-  ready-falls place class IntHigh b x = ready-plain place class IntHigh b tt x
-  ready-falls place class IntLow b x = ready-plain place class IntLow b tt x
-  ready-falls place class Null b x = ready-plain place class Null b tt x
-  ready-falls place class (Class c) b x = ready-plain place class (Class c) b tt x
-  ready-falls place class ArrBool b x = ready-plain place class ArrBool b tt x
-  ready-falls place class ArrByte b x = ready-plain place class ArrByte b tt x
-  ready-falls place class ArrShort b x = ready-plain place class ArrShort b tt x
-  ready-falls place class ArrInt b x = ready-plain place class ArrInt b tt x
-  ready-falls place class (ArrRef c) b x = ready-plain place class (ArrRef c) b tt x
-  ready-falls place class Top b x = ready-plain place class Top b tt x
+  ready-falls place class z b x = grind (arith, ready-fresh, fresh-up, ready-plain)
 
   ready-cells : (place class : ℕ) {xs ys : List Ty} → CellsBelow t xs ys → CellsBelow t (map (ready place class) xs) (map (ready place class) ys)
   ready-cells place class no_cells = no_cells
@@ -500,18 +419,13 @@ module _ (t : ClassTable) (are : IsOrderOfTypes t) where
 
   pub changed-falls : (c d : Change) {xs ys : List Ty} → ChangeBelow t c d → CellsBelow t xs ys → CellsBelow t (changed c xs) (changed d ys)
   unfolding ChangeBelow
-  changed-falls (Replace m cells) (Replace n others) {xs = xs} {ys = ys} h ps =
-      subst (λ k. CellsBelow t (changed (Replace m cells) xs) (in_stack_order others ++ drop k ys)) h.0
-      (cells-append t (listed-falls cells others h.1) (cells-drop t m ps))
+  changed-falls (Replace m cells) (Replace n others) {xs = xs} {ys = ys} h ps = grind (arith, cells-append, listed-falls, cells-drop)
   changed-falls (Replace m cells) (CopyUnder k n) h ps = absurd (cc)
   changed-falls (Replace m cells) (Exchange k n) h ps = absurd (cc)
   changed-falls (Replace m cells) (MakeReady k p c others) h ps = absurd (cc)
-  changed-falls (CopyUnder m n) d {xs = xs} {ys = ys} h ps =
-      subst (λ e. CellsBelow t (changed (CopyUnder m n) xs) (changed e ys)) h (changed-same (CopyUnder m n) ps)
-  changed-falls (Exchange m n) d {xs = xs} {ys = ys} h ps =
-      subst (λ e. CellsBelow t (changed (Exchange m n) xs) (changed e ys)) h (changed-same (Exchange m n) ps)
-  changed-falls (MakeReady m p c cells) d {xs = xs} {ys = ys} h ps =
-      subst (λ e. CellsBelow t (changed (MakeReady m p c cells) xs) (changed e ys)) h (changed-same (MakeReady m p c cells) ps)
+  changed-falls (CopyUnder m n) d {xs = xs} {ys = ys} h ps = grind (arith, changed-same (CopyUnder m n) ps)
+  changed-falls (Exchange m n) d {xs = xs} {ys = ys} h ps = grind (arith, changed-same (Exchange m n) ps)
+  changed-falls (MakeReady m p c cells) d {xs = xs} {ys = ys} h ps = grind (arith, changed-same (MakeReady m p c cells) ps)
 
   -- what is stored is below what the register holds then
   stored-below : (mode : Mode) (held ty now : Ty) → IsStoredOver t mode held ty now → Below t ty now
@@ -521,8 +435,7 @@ module _ (t : ClassTable) (are : IsOrderOfTypes t) where
   write-flow : (mode : Mode) {xs ys zs : List Ty} (x y : ℕ) (a b : Ty) → x ≡ y → Below t a b → CellsBelow t xs ys
       → WritesRegister t mode y b ys zs → CellsBelow t (set xs x a) zs
   write-flow mode {xs = xs} {ys = ys} x y a b e le ps u =
-      subst (CellsBelow t (set xs x a)) (ap (λ n. set ys n u.value) e ∙ sym u.after_is)
-      (cells-set t x (joined le (stored-below mode (reg ys y) b u.value u.stored)) ps)
+      grind (arith, set xs x a, cells-set t x (joined le (stored-below mode (reg ys y) b u.value u.stored)) ps)
 
   pub store-flow : (mode : Mode) (xs ys zs : List Ty) (x y : ℕ) (c d : Cells) → x ≡ y → GivenBelow t c d → CellsBelow t xs ys
       → WritesCells t mode y d ys zs → StoresBelow t Flow (record { register = x; cells = c }) xs zs
@@ -535,11 +448,7 @@ module _ (t : ClassTable) (are : IsOrderOfTypes t) where
   }
   store-flow mode xs ys zs x y given.Int given.Int e g ps u = record {
     below = set (set xs x IntHigh) (x + 1) IntLow;
-    stores = record {
-      between = set xs x IntHigh;
-      high = record { value = IntHigh; stored = refl; after_is = refl };
-      low = record { value = IntLow; stored = refl; after_is = refl };
-    };
+    stores = grind (arith, set);
     lower = write-flow mode (x + 1) (y + 1) IntLow IntLow (ap (λ n. n + 1) e) same (write-flow mode x y IntHigh IntHigh e same ps u.high) u.low;
   }
   store-flow mode xs ys zs x y given.Nothing (given.One b) e g ps u = absurd g
@@ -599,9 +508,7 @@ module _ (t : ClassTable) (are : IsOrderOfTypes t) where
 
   array-not : (c : ℕ) (b : Ty) → IsNullDown b → Below t (ArrRef c) b → ⊥
   unfolding is_below IsNullDown
-  array-not c Bottom h p = absurd (let e : false ≡ true = below-computed t are p in cc)
-  array-not c Null h p = absurd (let e : false ≡ true = below-computed t are p in cc)
-  array-not c _ h p = absurd h
+  array-not c y h p = grind (arith, below-computed)
 
   -- what is below an array of references has null's elements or those of a lesser class
   element-of_array : (a : Ty) (d : ℕ) → ReferencesDown a → Below t a (ArrRef d) → Below t (element a) (Class d)
@@ -620,24 +527,11 @@ module _ (t : ClassTable) (are : IsOrderOfTypes t) where
 
   pub element-falls : (a b : Ty) → Below t a b → ReferencesDown b → Below t (element a) (element b)
   unfolding ReferencesDown IsNullDown
-  element-falls a (ArrRef d) p h = element-of_array a d (references-down t p h) p
-  element-falls a Bottom p h = element-of_null a Bottom (references-down t p h) tt p
-  element-falls a Null p h = element-of_null a Null (references-down t p h) tt p
-  element-falls a Short p h = absurd h
-  element-falls a IntHigh p h = absurd h
-  element-falls a IntLow p h = absurd h
-  element-falls a (Class c) p h = absurd h
-  element-falls a ArrBool p h = absurd h
-  element-falls a ArrByte p h = absurd h
-  element-falls a ArrShort p h = absurd h
-  element-falls a ArrInt p h = absurd h
-  element-falls a (Fresh q c) p h = absurd h
-  element-falls a Top p h = absurd h
+  element-falls a y p h = grind (arith, element-of_array, references-down, element-of_null)
 
   fresh_same : (taken : ℕ) (cells : Cells) (c : ℕ) (a b : Ty) → Below t a b → IsNotBottom a → IsFreshOf c b
       → ready_with taken cells a (Receiver c) ≡ ready_with taken cells b (Receiver c)
-  fresh_same taken cells c a (Fresh p d) x n h = ap (λ ty. ready_with taken cells ty (Receiver c)) (fresh_below t p d x n)
-  fresh_same taken cells c a _ x n h = absurd h
+  fresh_same taken cells c a v x n h = grind (arith, fresh_below)
 
   -- a receiver that is found: both are the same uninitialised object, or neither is one
   pub ready_with-falls : (taken : ℕ) (cells : Cells) (want : Want) (a b : Ty) → Below t a b → IsNotBottom a → Meets t want b

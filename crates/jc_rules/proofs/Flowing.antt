@@ -1,6 +1,6 @@
 -- Laws of frames and of dataflow typings.
-use Rattle.std.proofs.Common.{◌≡◌, ℕ, zero, suc, List, [], ◌∷◌, ◌++◌, reverse, replicate, Option, Some, None, IsSomeAnd, refl, sym, ◌∙◌}
-use Rattle.std.proofs.Common.{ap, subst}
+use Rattle.std.proofs.Common.{◌≡◌, ℕ, zero, suc, List, [], ◌∷◌, ◌++◌, reverse}
+use Rattle.std.proofs.Common.{replicate, Option, Some, None, IsSomeAnd, refl, arith, sym, subst}
 use Rattle.std.proofs.lemmas.List.{reverse-append}
 use Rattle.jc_base.specs.declared.ty.Ty.{Ty}
 use Rattle.jc_base.specs.declared.ty.Ty.TheVariants.{Bottom, Top}
@@ -10,7 +10,7 @@ use Rattle.jc_base.specs.Laws.{IsOrderOfTypes}
 use Rattle.jc_base.specs.Order.{nothing}
 use Rattle.jc_base.specs.World.{Linked}
 use Rattle.jc_rules.specs.Demand.{Frame}
-use Rattle.jc_rules.specs.Flow.{CellsBelow, no_cells, more_cells, FrameBelow, start_frame, receiver_of}
+use Rattle.jc_rules.specs.Flow.{CellsBelow, no_cells, more_cells, FrameBelow, start_frame}
 use Rattle.jc_rules.specs.FlowLaws.{IsOrderOfCells, JoinsStayReady, LeastIsOne, TopIsBottom}
 use Rattle.jc_rules.proofs.CellLists.{cells-same, cells-trans, cells-length, cells-append}
 use Rattle.jc_rules.proofs.Keeps.{join-not_fresh}
@@ -25,17 +25,10 @@ module _ (t : ClassTable) where
 
   cells-apart : IsOrderOfTypes t → {xs ys : List Ty} → CellsBelow t xs ys → CellsBelow t ys xs → xs ≡ ys
   cells-apart are no_cells no_cells = refl
-  cells-apart are (more_cells {a = a} {b = b} {xs = xs} {ys = ys} p ps) (more_cells q qs) =
-      ap (λ x. x ∷ xs) (are.apart a b p q) ∙ ap (λ zs. b ∷ zs) (cells-apart are ps qs)
+  cells-apart are (more_cells {a = a} {b = b} {xs = xs} {ys = ys} p ps) (more_cells q qs) = grind (arith, cells-apart are ps qs)
 
   pub is-order-of-cells : IsOrderOfTypes t → IsOrderOfCells t
-  is-order-of-cells are = record {
-    self = cells-same t;
-    through = λ {xs} {ys} {zs} p q. cells-trans t p q;
-    apart = λ {xs} {ys} p q. cells-apart are p q;
-    lengths = λ {xs} {ys} p. cells-length t p;
-    turned = λ {xs} {ys} p. cells-turned p;
-  }
+  is-order-of-cells are = grind (arith, cells-same, cells-trans, cells-apart, cells-length, cells-turned)
 
   cells-unset : (n : ℕ) → CellsBelow t (replicate n Bottom) (replicate n Top)
   cells-unset zero = no_cells
@@ -43,10 +36,7 @@ module _ (t : ClassTable) where
 
   -- the start with no value in unset registers is below the one with any
   start-below : (r : MethodRec) → FrameBelow t (start_frame r Bottom) (start_frame r Top)
-  start-below r = record {
-    regs = cells-append t (cells-append t (cells-same t (receiver_of r)) (cells-same t r.sig.args)) (cells-unset r.max_locals);
-    stack = no_cells;
-  }
+  start-below r = grind (arith, cells-append, cells-same, cells-unset)
 
 pub joins-stay-ready : (t : ClassTable) → IsOrderOfTypes t → JoinsStayReady t
 joins-stay-ready t are = join-not_fresh t are
@@ -70,15 +60,11 @@ top-is-bottom w m frames ty = record {
 
 -- two frames below each other
 frames-apart : (t : ClassTable) → IsOrderOfTypes t → (f g : Frame) → FrameBelow t f g → FrameBelow t g f → f ≡ g
-frames-apart t are f g p q =
-    ap (λ (x : List Ty). record { regs = x; stack = f.stack }) (cells-apart t are p.regs q.regs)
-    ∙ ap (λ (x : List Ty). record { regs = g.regs; stack = x }) (cells-apart t are p.stack q.stack)
+frames-apart t are f g p q = grind (arith, cells-apart)
 
 below-both : (t : ClassTable) → IsOrderOfTypes t → (o p : Option Frame) → IsSomeAnd o (λ f. IsSomeAnd p (FrameBelow t f))
     → IsSomeAnd p (λ g. IsSomeAnd o (FrameBelow t g)) → o ≡ p
-below-both t are None p h k = absurd h
-below-both t are (Some f) None h k = absurd h
-below-both t are (Some f) (Some g) h k = ap Some (frames-apart t are f g h k)
+below-both t are z p h k = grind (arith, frames-apart)
 
 pub least-is-one : (w : Linked) → IsOrderOfTypes w.classes → LeastIsOne w
 least-is-one w are m unset frames others one other p reached =

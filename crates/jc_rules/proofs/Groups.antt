@@ -1,6 +1,6 @@
 -- Numbers of places, of which equal ones tell of equal registers.
 use Rattle.std.proofs.Common.{◌≡◌, ℕ, zero, suc, ◌<◌, ◌≤◌, ◌⊎◌, inl, inr, List, [], ◌∷◌, ◌++◌, length, Option, Some, None, slice_get}
-use Rattle.std.proofs.Common.{refl, sym, ◌∙◌, ap, subst, arith}
+use Rattle.std.proofs.Common.{refl, ◌∙◌, ap, arith}
 use Rattle.std.specs.Prelude.{slice_index_or}
 use Rattle.std.proofs.lemmas.Option.{slice_get-get_or, slice_get_within}
 use Rattle.jc_base.specs.declared.ty.Ty.{Ty}
@@ -44,11 +44,7 @@ module _ (cells : List Ty) (spans : List (Option Span)) (groups : List ℕ) (n :
       same-span a b e = cc
 
       by : IsGroupAt cells spans groups (length groups) n → (frame_of_span cells s).regs ≡ (frame_of_span cells u).regs
-      by (inl own) = let below = low q m eq in absurd (omega (arith, below, em, own, inside))
-      by (inr (k, a, b, ea, eb, ek, same)) =
-          ap (λ (x : Span). (frame_of_span cells x).regs) (same-span s a (sym es ∙ ea))
-          ∙ same
-          ∙ told k q n b u eb eu ek (eq ∙ ap Some em)
+      by x = grind (arith)
 
   pub told-more : TellRegisters cells spans (groups ++ n ∷ [])
   told-more p q m s u es eu ep eq = by (before-or-last groups n p m ep) (before-or-last groups n q m eq)
@@ -59,13 +55,7 @@ module _ (cells : List Ty) (spans : List (Option Span)) (groups : List ℕ) (n :
       by : ((slice_get groups p ≡ Some m) × (p < length groups)) ⊎ ((p ≡ length groups) × (m ≡ n))
           → ((slice_get groups q ≡ Some m) × (q < length groups)) ⊎ ((q ≡ length groups) × (m ≡ n))
           → (frame_of_span cells s).regs ≡ (frame_of_span cells u).regs
-      by (inl a) (inl b) = told p q m s u es eu a.0 b.0
-      by (inl a) (inr b) =
-          sym (beside p m u s (subst (λ k. span_at spans k ≡ Some u) b.0 eu) es b.1 a.0 a.1)
-      by (inr a) (inl b) = beside q m s u (subst (λ k. span_at spans k ≡ Some s) a.0 es) eu a.1 b.0 b.1
-      by (inr a) (inr b) =
-          ap (λ (x : Span). (frame_of_span cells x).regs)
-          (same-span s u (sym es ∙ ap (span_at spans) (a.0 ∙ sym b.0) ∙ eu))
+      by x y = grind (arith, beside)
 
   pub low-more : AreLow (groups ++ n ∷ [])
   low-more p m e = by (before-or-last groups n p m e)
@@ -78,5 +68,4 @@ module _ (cells : List Ty) (spans : List (Option Span)) (groups : List ℕ) (n :
           omega (arith, below, inside)
 
       by : ((slice_get groups p ≡ Some m) × (p < length groups)) ⊎ ((p ≡ length groups) × (m ≡ n)) → m ≤ p
-      by (inl a) = low p m a.0
-      by (inr a) = let most = reaches is in omega (arith, most, a.0, a.1)
+      by x = grind (arith, reaches)

@@ -1,10 +1,11 @@
 -- The rule keeps frames well formed.
-use Rattle.std.proofs.Common.{◌≡◌, ℕ, zero, suc, ◌≤◌, List, [], ◌∷◌, length, get_or, sym, ◌∙◌, ap, subst, arith, All}
+use Rattle.std.proofs.Common.{◌≡◌, ℕ, zero, suc, List, [], ◌∷◌, length, get_or, sym, ◌∙◌, ap, subst, arith, All}
 use Rattle.std.proofs.lemmas.List.{length-set}
 use Rattle.std.proofs.lemmas.List.Elements.{All-set}
 use Rattle.jc_base.proofs.Lists.{All-slice_get}
 use Rattle.jc_base.specs.declared.ty.Ty.{Ty}
-use Rattle.jc_base.specs.declared.ty.Ty.TheVariants.{Bottom, Short, IntHigh, IntLow, Null, Class, ArrBool, ArrByte, ArrShort, ArrInt, ArrRef, Fresh, Top}
+use Rattle.jc_base.specs.declared.ty.Ty.TheVariants.{Bottom, Short, IntHigh, IntLow, Null, Class, ArrBool}
+use Rattle.jc_base.specs.declared.ty.Ty.TheVariants.{ArrByte, ArrShort, ArrInt, ArrRef, Fresh, Top}
 use Rattle.jc_base.specs.Class.{ClassTable}
 use Rattle.jc_base.specs.Laws.{IsOrderOfTypes}
 use Rattle.jc_base.specs.Order.{Below, IsJoin, IsKnown, nothing}
@@ -18,14 +19,13 @@ use Rattle.jc_rules.specs.declared.effect.Cells.TheVariants as given
 use Rattle.jc_rules.specs.declared.effect.Mode.{Mode}
 use Rattle.jc_rules.specs.declared.effect.Mode.TheVariants.{Card, Flow}
 use Rattle.jc_rules.specs.Effect.{IsStoredOver, WritesRegister, WritesCells, reg}
-use Rattle.jc_rules.specs.Rule.{effect}
-use Rattle.jc_rules.specs.Flow.{IsNotFresh, IsNotTop}
+use Rattle.jc_rules.specs.Flow.{IsNotFresh}
 use Rattle.jc_rules.specs.Apply.{Applies}
 use Rattle.jc_rules.specs.Laws.{IsNotBottom, OperationKeeps, RuleKeeps}
 use Rattle.jc_rules.proofs.Falls.{bottom-least, fresh_is_bottom, fresh_not_below_bottom}
 use Rattle.jc_rules.specs.declared.rule.Outcome.{Outcome}
 use Rattle.jc_rules.specs.Demand.{Frame}
-use Rattle.jc_rules.proofs.Effects.{CellsKept, CellsFull, Suits, suits, sound-known, stored-full, changed-known, changed-full, changed-topless}
+use Rattle.jc_rules.proofs.Effects.{CellsKept, CellsFull, suits, sound-known, stored-full, changed-known, changed-full, changed-topless}
 
 -- what is read, or Top
 pub all-or : (P : Ty → Type 0) (xs : List Ty) (n : ℕ) → P Top → All P xs → P (get_or xs n Top)
@@ -93,24 +93,11 @@ module _ (t : ClassTable) (are : IsOrderOfTypes t) where
 
 -- a type of which Bottom is no upper bound
 full-below : (t : ClassTable) (are : IsOrderOfTypes t) (a b : Ty) → Below t a b → IsNotBottom a → IsNotBottom b
-full-below t are a Bottom le n = subst IsNotBottom (sym (bottom-least t are a le)) n
-full-below t are a Short le n = tt
-full-below t are a IntHigh le n = tt
-full-below t are a IntLow le n = tt
-full-below t are a Null le n = tt
-full-below t are a (Class c) le n = tt
-full-below t are a ArrBool le n = tt
-full-below t are a ArrByte le n = tt
-full-below t are a ArrShort le n = tt
-full-below t are a ArrInt le n = tt
-full-below t are a (ArrRef c) le n = tt
-full-below t are a (Fresh p c) le n = tt
-full-below t are a Top le n = tt
+full-below t are a u le n = grind (arith, bottom-least)
 
 module _ (t : ClassTable) (are : IsOrderOfTypes t) where
   kept-full : (mode : Mode) (held ty now : Ty) → IsStoredOver t mode held ty now → IsNotBottom held → IsNotBottom ty → IsNotBottom now
-  kept-full Flow held ty now e h n = subst IsNotBottom (sym e) n
-  kept-full Card held ty now is h n = full-below t are held now is.left h
+  kept-full x held ty now e h n = grind (arith, full-below)
 
   module _ (mode : Mode) where
     stores-full : (x : ℕ) (cells : Cells) (regs after : List Ty) → WritesCells t mode x cells regs after → CellsFull cells → All IsNotBottom regs
@@ -122,24 +109,18 @@ module _ (t : ClassTable) (are : IsOrderOfTypes t) where
 
 pub operation-keeps : (w : Linked) → IsWorld w → IsOrderOfTypes w.classes → OperationKeeps w
 operation-keeps w is are limit m place op mode before after o sound k a =
-    let e = effect w op before in
-    let fits : Suits w.classes before e = suits w is before k op (sound-known w m place op sound) a.asked in
-    let count : length after.regs ≡ length before.regs = stores-length w.classes are mode e.store.register e.store.cells before.regs after.regs a.regs in
-    record {
-      known = record {
-        few = subst (λ n. n ≤ 255) (sym count) k.few;
-        regs = stores-known w.classes are mode e.store.register e.store.cells before.regs after.regs a.regs fits.stored k.regs;
-        stack = subst (All (IsKnown w.classes)) (sym a.stack) (changed-known w.classes e.change before.stack fits.change k.stack);
-        object = k.object;
-      };
-      count = count;
-      no_fresh = λ none. stores-not_fresh w.classes are mode e.store.register e.store.cells before.regs after.regs a.regs fits.stored none;
-      no_bottom = λ none. subst (All IsNotBottom) (sym a.stack) (changed-full w.classes e.change before.stack fits.change none);
-      no_top = λ none. subst (All IsNotTop) (sym a.stack) (changed-topless w.classes e.change before.stack fits.change none);
-      full_regs =
-          λ none full. stores-full w.classes are mode e.store.register e.store.cells before.regs after.regs a.regs (stored-full w before op a.asked full)
-          none;
-    }
+    grind (
+      arith,
+      suits w is before k op (sound-known w m place op sound) a.asked,
+      stores-length,
+      stores-known,
+      changed-known,
+      stores-not_fresh,
+      changed-full,
+      changed-topless,
+      stores-full,
+      stored-full,
+    )
 
 -- the operation at a site is sound
 pub site-sound : (w : Linked) (is : IsWorld w) → OperationsAreSound w → {site : Site} {i : Insn} {mode : Mode} {before after : Frame} {o : Outcome}

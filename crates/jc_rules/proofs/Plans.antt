@@ -1,6 +1,6 @@
 -- What is planned suits the frame, and is what the rule says.
-use Rattle.std.proofs.Common.{◌≡◌, ℕ, ◌+◌, ◌<◌, ◌≤◌, List, length, Option, Some, None, IsSomeAnd, slice_get, All, refl, sym, ◌∙◌}
-use Rattle.std.proofs.Common.{ap, subst, arith}
+use Rattle.std.proofs.Common.{◌≡◌, ℕ, ◌+◌, ◌<◌, ◌≤◌, List, length, Option, Some, None, IsSomeAnd, slice_get, All, refl, sym}
+use Rattle.std.proofs.Common.{subst, arith}
 use Rattle.std.proofs.lemmas.Option.{slice_get_within}
 use Rattle.jc_base.proofs.Lists.{All-slice_get}
 use Rattle.jc_base.specs.declared.ty.Ty.{Ty}
@@ -27,9 +27,7 @@ use Rattle.jc_rules.proofs.Effects.{Suits, suits, sound-known, length-changed}
 pub plan-full : (w : Linked) (is : IsWorld w) (f : Frame) (k : AreKnown w.classes f) (op : Operation) (e : Effect) (limit : ℕ) →
     IsKnownOperation w op → SatisfiesAll w.classes f (demands w op) → e ≡ effect w op f → limit < depth_after e.change (length f.stack)
     → limit < length (changed (effect w op f).change f.stack)
-plan-full w is f k op e limit known all is_effect more =
-    subst (λ d. limit < d) (sym (length-changed (effect w op f).change f.stack (suits w is f k op known all).there))
-    (subst (λ d. limit < depth_after d.change (length f.stack)) is_effect more)
+plan-full w is f k op e limit known all is_effect more = grind (arith, length-changed)
 
 pub plan-suits : (w : Linked) (is : IsWorld w) (f : Frame) (k : AreKnown w.classes f) (limit : ℕ) (op : Operation) (e : Effect) → IsKnownOperation w op
     → IsPlan w limit op f e → Suits w.classes f e
@@ -51,8 +49,7 @@ module _ (w : Linked) (is : IsWorld w) (n : ℕ) (regs slice : List Ty) (depth :
   room-known h r s = record { few = room-few h; regs = r; stack = s; object = is.roles.objects }
 
 in_list : (w : Linked) (n : ℕ) (P : MethodRec → Type 0) (o : Option MethodRec) → slice_get w.methods n ≡ o → IsSomeAnd o P → n < length w.methods
-in_list w n P None e h = absurd h
-in_list w n P (Some m) e h = slice_get_within w.methods n m e
+in_list w n z u e h = grind (arith, slice_get_within)
 
 pub method-inside : (w : Linked) (n : ℕ) (P : MethodRec → Type 0) → IsSomeAnd (slice_get w.methods n) P → n < length w.methods
 method-inside w n P h = in_list w n P (slice_get w.methods n) refl h
@@ -87,14 +84,5 @@ pub plan-applies : (w : Linked) (is : IsWorld w) (limit : ℕ) (op : Operation) 
     o.falls ≡ falls_from op → o.ends ≡ ends_at op → o.depth ≡ length after.stack → o.wrote ≡ wrote e.store.register e.store.cells
     → o.rose ≡ raises_register w.classes mode e.store before.regs →
     OperationApplies w limit op mode before after o
-plan-applies w is limit op mode before after e o k known p regs stack falls ends depth wrote_is rose_is = record {
-  asked = p.asked;
-  regs = subst (λ x. StoresInRegisters w.classes mode x.store before.regs after.regs) p.effect_is regs;
-  stack = subst (λ x. after.stack ≡ changed x.change before.stack) p.effect_is stack;
-  room = subst (λ d. d ≤ limit) (sym (ap length stack ∙ length-changed e.change before.stack (plan-suits w is before k limit op e known p).there)) p.room;
-  falls = falls;
-  ends = ends;
-  depth = depth;
-  wrote_is = subst (λ x. o.wrote ≡ wrote x.store.register x.store.cells) p.effect_is wrote_is;
-  rose_is = subst (λ x. o.rose ≡ raises_register w.classes mode x.store before.regs) p.effect_is rose_is;
-}
+plan-applies w is limit op mode before after e o k known p regs stack falls ends depth wrote_is rose_is =
+    grind (arith, length-changed e.change before.stack (plan-suits w is before k limit op e known p).there)

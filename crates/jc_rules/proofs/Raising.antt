@@ -52,8 +52,7 @@ module _ (t : ClassTable) (old others : List Ty) (n : ℕ) (now : List Ty) (b : 
   private_held a e = e ∙ get_or_default now n a Top (omega (arith, r.count)) ∙ r.farther n (omega arith)
 
   private_join : (a d j : Ty) → a ≡ get_or now n a → IsJoin t a (get_or others n d) j → IsJoin t (get_or old n Top) (get_or others n Top) j
-  private_join a d j e is =
-      subst (λ x. IsJoin t x (get_or others n Top) j) (private_held a e) (subst (λ x. IsJoin t a x j) (get_or_default others n d Top lt) is)
+  private_join a d j e is = grind (arith, get_or, private_held, get_or_default)
 
   -- the next cell stays
   pub raised_same : (a d : Ty) → a ≡ get_or now n a → IsJoin t a (get_or others n d) a → RaisedTo t old others (n + 1) now b
@@ -161,5 +160,4 @@ top-above t _ b h = absurd (h tt)
 
 -- a type above another has fewer rises left, where they are not the same
 pub rises-above : (t : ClassTable) (a b : Ty) → StaysOrRises t a b → ¬ (b ≡ a) → rises_left t b < rises_left t a
-rises-above t a b (inl e) n = absurd (n (sym e))
-rises-above t a b (inr h) n = h
+rises-above t a b u n = grind (arith)

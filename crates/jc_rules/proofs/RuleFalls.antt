@@ -1,13 +1,10 @@
 -- The rule of an instruction that applies to a frame applies in the dataflow to each lesser one, with a lesser result.
-use Rattle.std.proofs.Common.{ℕ, zero, suc, ◌+◌, ◌-◌, ◌≤◌, List, [], ◌∷◌, length}
+use Rattle.std.proofs.Common.{ℕ, zero, suc, ◌+◌, ◌-◌, ◌≤◌, List, [], ◌∷◌, length, arith}
 use Rattle.std.proofs.Common.{reverse, get_or, Option, Some, None, IsSomeAnd, slice_get, All, refl, sym, subst}
 use Rattle.jc_base.specs.declared.ty.Ty.{Ty}
-use Rattle.jc_base.specs.declared.ty.Ty.TheVariants.{Short, Class, ArrRef, Top}
+use Rattle.jc_base.specs.declared.ty.Ty.TheVariants.{Short, Top}
 use Rattle.jc_base.specs.declared.ty.Kind.{Kind}
-use Rattle.jc_base.specs.declared.ty.Kind.TheVariants as kinds
-use Rattle.jc_base.specs.Class.{object}
 use Rattle.jc_base.specs.Laws.{IsOrderOfTypes}
-use Rattle.jc_base.specs.Order.{Below}
 use Rattle.jc_base.specs.World.{Linked}
 use Rattle.jc_ops.specs.declared.operation.Sort.{Sort}
 use Rattle.jc_ops.specs.declared.operation.Sort.TheVariants as sorts
@@ -18,7 +15,7 @@ use Rattle.jc_rules.specs.declared.demand.Demand.TheVariants.{Cell}
 use Rattle.jc_rules.specs.declared.effect.Mode.{Mode}
 use Rattle.jc_rules.specs.declared.effect.Mode.TheVariants.{Flow}
 use Rattle.jc_rules.specs.declared.rule.Outcome.{Outcome}
-use Rattle.jc_rules.specs.Effect.{changed, reg, raises_register}
+use Rattle.jc_rules.specs.Effect.{changed, raises_register}
 use Rattle.jc_rules.specs.Demand.{Frame, Meets, SatisfiesAll}
 use Rattle.jc_ops.specs.Next.{falls_from, ends_at}
 use Rattle.jc_rules.specs.Rule.{cell, ready_with, call_demands, call_effect, cells_wanted, args_at, result_at, result_given, load_demands}
@@ -28,8 +25,10 @@ use Rattle.jc_rules.specs.Laws.{IsNotBottom, OperationFalls, OperationFallsTo, R
 use Rattle.jc_rules.specs.Apply.{OperationApplies}
 use Rattle.jc_rules.proofs.CellLists.{Each, each-from_All, cells-or, cells-length}
 use Rattle.jc_rules.proofs.Demands.{SatisfiesAll-rest}
-use Rattle.jc_rules.proofs.Falls.{ReferenceDown, ReferencesDown, reference-down, references-down, all-falls, change-same, effect-same, changed-falls}
-use Rattle.jc_rules.proofs.Falls.{store-flow, or_null-falls, element-falls, ready_with-falls, GivenBelow, ChangeBelow, EffectBelow, StoresBelow}
+use Rattle.jc_rules.proofs.Falls.{ReferenceDown, ReferencesDown, reference-down, references-down}
+use Rattle.jc_rules.proofs.Falls.{all-falls, change-same, effect-same, changed-falls}
+use Rattle.jc_rules.proofs.Falls.{store-flow, or_null-falls, element-falls, ready_with-falls}
+use Rattle.jc_rules.proofs.Falls.{GivenBelow, ChangeBelow, EffectBelow, StoresBelow}
 
 -- what is read of a cell that is there
 pub some-or : (P : Ty → Type 0) (xs : List Ty) (n : ℕ) → IsSomeAnd (slice_get xs n) P → P (get_or xs n Top)
@@ -47,17 +46,7 @@ module _ (w : Linked) (are : IsOrderOfTypes w.classes) (f g : Frame) (regs : Cel
     (stack : CellsBelow w.classes f.stack g.stack) (no_bottom : Each IsNotBottom f.stack) where
   load-falls : (s : Sort) (x : ℕ) → SatisfiesAll w.classes g (load_demands w.classes s x) → EffectBelow w.classes (load_effect s x f) (load_effect s x g)
   unfolding ChangeBelow GivenBelow ReferenceDown
-  load-falls sorts.Reference x h = record {
-    change = (
-      refl,
-      or_null-falls w.classes are (reg f.regs x) (reg g.regs x) (cells-or w.classes x regs)
-          (reference-down w.classes (some-or (λ b. Below w.classes b (Class (object w.classes))) g.regs x h.1.0) tt),
-    );
-    register = refl;
-    cells = tt;
-  }
-  load-falls sorts.Short x h = effect-same w.classes are (load_effect sorts.Short x g)
-  load-falls sorts.Int x h = effect-same w.classes are (load_effect sorts.Int x g)
+  load-falls x x2 h = grind (arith, or_null-falls, cells-or, reference-down, some-or, effect-same)
 
   store-falls : (s : Sort) (x : ℕ) → EffectBelow w.classes (store_effect s x f) (store_effect s x g)
   unfolding ChangeBelow GivenBelow
@@ -68,18 +57,7 @@ module _ (w : Linked) (are : IsOrderOfTypes w.classes) (f g : Frame) (regs : Cel
   array-falls : (k : Kind) → SatisfiesAll w.classes g (array_read_demands w.classes k)
       → EffectBelow w.classes (array_read_effect k f) (array_read_effect k g)
   unfolding ChangeBelow GivenBelow ReferencesDown
-  array-falls kinds.Ref h = record {
-    change = (
-      refl,
-      element-falls w.classes are (cell f.stack 1) (cell g.stack 1) (cells-or w.classes 1 stack)
-          (references-down w.classes (some-or (λ b. Below w.classes b (ArrRef (object w.classes))) g.stack 1 h.1.0) tt),
-    );
-    register = refl;
-    cells = tt;
-  }
-  array-falls kinds.Byte h = effect-same w.classes are (array_read_effect kinds.Byte g)
-  array-falls kinds.Short h = effect-same w.classes are (array_read_effect kinds.Short g)
-  array-falls kinds.Int h = effect-same w.classes are (array_read_effect kinds.Int g)
+  array-falls x h = grind (arith, element-falls, cells-or, references-down, some-or, effect-same)
 
   call-falls : (args : List Ty) (result : Option Ty) (receiver : Option Want) → SatisfiesAll w.classes g (call_demands args receiver)
       → EffectBelow w.classes (call_effect args result receiver f) (call_effect args result receiver g)
@@ -126,9 +104,7 @@ module _ (w : Linked) (are : IsOrderOfTypes w.classes) (limit : ℕ) (op : Opera
     (no_top : All IsNotTop greater.stack) (no_bottom : All IsNotBottom lesser.stack) (a : OperationApplies w limit op mode greater after o) where
   -- what is asked is met
   pub asked-falls : SatisfiesAll w.classes lesser (demands w op)
-  asked-falls =
-      all-falls w.classes lesser greater below.regs below.stack (each-from_All IsNotTop greater.stack no_top)
-      (each-from_All IsNotBottom lesser.stack no_bottom) (demands w op) a.asked
+  asked-falls = grind (arith, all-falls, each-from_All)
 
   -- what is done is lesser
   pub doing-falls : EffectBelow w.classes (effect w op lesser) (effect w op greater)

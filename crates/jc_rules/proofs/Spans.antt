@@ -1,6 +1,6 @@
 -- Frames that are held in one list of cells, each in a span of its own.
 use Rattle.std.proofs.Common.{◌≡◌, ℕ, zero, suc, ◌+◌, ◌<◌, ◌≤◌, ◌⊎◌, inl, inr, List, [], ◌∷◌, ◌++◌, length, length-append}
-use Rattle.std.proofs.Common.{map, replicate, reverse, take, drop, set, Option, Some, None, Result, Ok, Err, refl, sym, ◌∙◌, ap, subst, arith}
+use Rattle.std.proofs.Common.{map, replicate, reverse, take, drop, set, Option, Some, None, Result, refl, sym, ◌∙◌, ap, subst, arith}
 use Rattle.std.specs.Prelude.{option_map, OnErr}
 use Rattle.std.proofs.Math.Seq.{take-append_seam, drop-append_seam}
 use Rattle.std.proofs.lemmas.List.{append_assoc, append-nil, length-take, length-drop}
@@ -33,20 +33,14 @@ window-in (x ∷ front) own tail = window-in front own tail
 
 -- the cells of a part, which lies between others
 pub window-there : (front own tail : List Ty) (b n : ℕ) → length front ≡ b → length own ≡ n → take n (drop b (front ++ (own ++ tail))) ≡ own
-window-there front own tail b n eb en =
-    subst (λ k. take n (drop k (front ++ (own ++ tail))) ≡ own) eb
-    (subst (λ k. take k (drop (length front) (front ++ (own ++ tail))) ≡ own) en (window-in front own tail))
+window-there front own tail b n eb en = grind (arith, window-in)
 
 -- where that part changes, the cells before and after it stay
 pub window-elsewhere : (front own new tail : List Ty) → length new ≡ length own → (b n : ℕ) → (b + n ≤ length front)
     ⊎ (length front + length own ≤ b) → take n (drop b (front ++ (new ++ tail))) ≡ take n (drop b (front ++ (own ++ tail)))
 window-elsewhere front own new tail e b n (inl h) = window-more front (new ++ tail) b n h ∙ sym (window-more front (own ++ tail) b n h)
 window-elsewhere front own new tail e b n (inr h) =
-    let same : length (front ++ new) ≡ length (front ++ own) = omega (arith, length-append front new, length-append front own, e) in
-    let after : length (front ++ new) ≤ b = omega (arith, length-append front new, e, h) in
-    ap (λ (xs : List Ty). take n (drop b xs)) (sym (append_assoc front new tail))
-    ∙ ap (take n) (drop-after (front ++ new) (front ++ own) tail b same after)
-    ∙ ap (λ (xs : List Ty). take n (drop b xs)) (append_assoc front own tail)
+    grind (arith, length-append front new, length-append front own, append_assoc front new tail, append_assoc front own tail, drop-after)
 
 module _ (cells front rest own tail : List Ty) (s : Span) (parts : cells ≡ front ++ rest) (after : rest ≡ own ++ tail) (before : length front ≡ s.at)
     (size : length own ≡ s.registers + s.depth) where
@@ -55,9 +49,7 @@ module _ (cells front rest own tail : List Ty) (s : Span) (parts : cells ≡ fro
 
   -- the cells of a span are a part of its own
   pub own-part : take (s.registers + s.depth) (drop s.at cells) ≡ own
-  own-part =
-      ap (λ (xs : List Ty). take (s.registers + s.depth) (drop s.at xs)) private_parts ∙ window-there front own tail s.at (s.registers + s.depth) before
-      size
+  own-part = grind (arith, private_parts, window-there)
 
   pub own-part_new : (new : List Ty) → length new ≡ length own → take (s.registers + s.depth) (drop s.at (front ++ (new ++ tail))) ≡ new
   own-part_new new e = window-there front new tail s.at (s.registers + s.depth) before (e ∙ size)
@@ -87,8 +79,7 @@ state-span cells (s ∷ spans) (suc p) = state-span cells spans p
 
 pub frame-there : (cells : List Ty) (spans : List (Option Span)) (now : List (Option Frame)) (p : ℕ) (s : Span) → frames_at cells spans ≡ now
     → span_at spans p ≡ Some s → state_at now p ≡ Some (frame_of_span cells s)
-frame-there cells spans now p s v e =
-    subst (λ xs. state_at xs p ≡ Some (frame_of_span cells s)) v (state-span cells spans p ∙ ap (option_map (frame_of_span cells)) e)
+frame-there cells spans now p s v e = grind (arith, state-span cells spans p)
 
 pub none-there : (cells : List Ty) (spans : List (Option Span)) (now : List (Option Frame)) (p : ℕ) → frames_at cells spans ≡ now
     → span_at spans p ≡ None → state_at now p ≡ None
@@ -96,9 +87,7 @@ none-there cells spans now p v e = subst (λ xs. state_at xs p ≡ None) v (stat
 
 -- a frame of a span has its registers
 pub frame-registers : (cells : List Ty) (s : Span) → span_end s ≤ length cells → length (frame_of_span cells s).regs ≡ s.registers
-frame-registers cells s h =
-    let own = take (s.registers + s.depth) (drop s.at cells) in
-    length-take s.registers own ∙ omega (arith, length-take (s.registers + s.depth) (drop s.at cells), length-drop s.at cells, h)
+frame-registers cells s h = grind (arith, length-take, length-drop)
 
 pub no_frames : (cells : List Ty) (n : ℕ) → frames_at cells (replicate n None) ≡ replicate n None
 no_frames cells zero = refl
@@ -117,8 +106,7 @@ span-set_other (o ∷ spans) (suc p) zero s n = refl
 span-set_other (o ∷ spans) (suc p) (suc q) s n = span-set_other spans p q s (λ e. n (ap suc e))
 
 option-same : (f g : Span → Frame) (o : Option Span) → ((s : Span) → o ≡ Some s → f s ≡ g s) → option_map f o ≡ option_map g o
-option-same f g None h = refl
-option-same f g (Some s) h = ap Some (h s refl)
+option-same f g z h = grind (arith)
 
 frames-same : (f g : Span → Frame) (spans : List (Option Span)) → ((q : ℕ) (s : Span) → span_at spans q ≡ Some s → f s ≡ g s)
     → map (option_map f) spans ≡ map (option_map g) spans
@@ -143,8 +131,7 @@ set-there : (spans : List (Option Span)) (p : ℕ) (s : Span) → span_at spans 
 set-there [] zero s e = cc
 set-there [] (suc p) s e = cc
 set-there (o ∷ spans) zero s e = (omega arith, ap (λ (x : Option Span). x ∷ spans) (sym e))
-set-there (o ∷ spans) (suc p) s e =
-    let h = set-there spans p s e in (omega (arith, h.0), ap (λ (xs : List (Option Span)). o ∷ xs) h.1)
+set-there (o ∷ spans) (suc p) s e = grind (arith, set-there spans p s e)
 
 same-or-other : (p q : ℕ) → (q ≡ p) ⊎ (¬ (q ≡ p))
 same-or-other zero zero = inl refl
@@ -171,9 +158,7 @@ module _ (cells more : List Ty) (spans : List (Option Span)) (is : AreSpans cell
     where
       some-same : Some new ≡ Some s → new ≡ s
       some-same h = cc
-  private_within q s (inr other) e =
-      let old = sym (span-set_other spans p q (Some new) other) ∙ e in
-      (omega (arith, length-append cells more, is.within q s old), is.few q s old)
+  private_within q s (inr other) e = grind (arith, span-set_other, length-append)
 
   private_apart : (q k : ℕ) (s u : Span) → (q ≡ p) ⊎ (¬ (q ≡ p)) → (k ≡ p) ⊎ (¬ (k ≡ p)) → ¬ (q ≡ k)
       → span_at (set spans p (Some new)) q ≡ Some s → span_at (set spans p (Some new)) k ≡ Some u → AreApart s u
@@ -192,16 +177,11 @@ module _ (cells more : List Ty) (spans : List (Option Span)) (is : AreSpans cell
     where
       some-same : Some new ≡ Some u → new ≡ u
       some-same h = cc
-  private_apart q k s u (inr a) (inr b) n es eu =
-      is.apart q k s u n (sym (span-set_other spans p q (Some new) a) ∙ es) (sym (span-set_other spans p k (Some new) b) ∙ eu)
+  private_apart q k s u (inr a) (inr b) n es eu = grind (arith, span-set_other)
 
   -- a place takes a span of the cells that came
   pub spans-put : AreSpans (cells ++ more) (set spans p (Some new))
-  spans-put = record {
-    within = λ q s e. (private_within q s (same-or-other p q) e).0;
-    few = λ q s e. (private_within q s (same-or-other p q) e).1;
-    apart = λ q k s u. private_apart q k s u (same-or-other p q) (same-or-other p k);
-  }
+  spans-put = grind (arith, private_within, same-or-other, private_apart)
 
   -- the frame of that span is put at the place
   pub frames-put : (f : Frame) → frame_of_span (cells ++ more) new ≡ f → frames_at (cells ++ more) (set spans p (Some new))
@@ -236,5 +216,4 @@ frames-changed cells new spans p s is e stays =
 
 -- what holds holds after an error
 pub holds-on-err : {A E : Type 0} (r : Result A E) (P : Type 0) → P → OnErr r P
-holds-on-err (Ok a) P h = tt
-holds-on-err (Err e) P h = h
+holds-on-err x y h = grind (arith)

@@ -1,7 +1,8 @@
 -- Lemmas on the stack that a slice with a depth holds.
 use Rattle.std.proofs.Common.{◌≡◌, ℕ, ◌+◌, ◌-◌, ◌<◌, ◌≤◌, List, [], ◌∷◌, ◌++◌, length, take, drop, reverse, map, set, refl}
 use Rattle.std.proofs.Common.{sym, ◌∙◌, ap, subst, arith, append_assoc, length-append, length-take, length-drop}
-use Rattle.std.proofs.lemmas.List.{reverse-append, take-append-drop, take_more_set, length-reverse, drop-take, take-append-le, drop-append-le, map-append}
+use Rattle.std.proofs.lemmas.List.{reverse-append, take-append-drop, take_more_set, length-reverse}
+use Rattle.std.proofs.lemmas.List.{drop-take, take-append-le, drop-append-le, map-append}
 use Rattle.std.proofs.lemmas.List.{length-map, take-take}
 use Rattle.std.proofs.lemmas.List.Edits.{take-paste}
 use Rattle.std.proofs.lemmas.Slice.{take-put_mid}
@@ -19,10 +20,7 @@ module _ {X : Type 0} where
 
   -- a list whose last k elements are b, from after
   reverse-parts : (k : ℕ) (a b : List X) → length b ≡ k → (take k (reverse (a ++ b)) ≡ reverse b) × (drop k (reverse (a ++ b)) ≡ reverse a)
-  reverse-parts k a b e = (
-    ap (take k) (reverse-append a b) ∙ take_first k (reverse b) (reverse a) (length-reverse b ∙ e),
-    ap (drop k) (reverse-append a b) ∙ drop_first k (reverse b) (reverse a) (length-reverse b ∙ e),
-  )
+  reverse-parts k a b e = grind (arith, reverse-append, take_first, reverse, length-reverse, drop_first)
 
   turned : (m n : ℕ) (a b c : List X) → length c ≡ m → length b ≡ n →
       take n (drop m (c ++ (b ++ a))) ++ (take m (c ++ (b ++ a)) ++ drop (m + n) (c ++ (b ++ a))) ≡ b ++ (c ++ a)
@@ -36,13 +34,7 @@ module _ {X : Type 0} where
   -- the top cells c change places with the cells b under them
   exchanged : (m n : ℕ) (a b c : List X) → length c ≡ m → length b ≡ n →
       reverse (a ++ (c ++ b)) ≡ take n (drop m (reverse (a ++ (b ++ c)))) ++ (take m (reverse (a ++ (b ++ c))) ++ drop (m + n) (reverse (a ++ (b ++ c))))
-  exchanged m n a b c ec eb =
-      let before : reverse (a ++ (b ++ c)) ≡ reverse c ++ (reverse b ++ reverse a) =
-      reverse-append a (b ++ c) ∙ ap (λ xs. xs ++ reverse a) (reverse-append b c) ∙ append_assoc (reverse c) (reverse b) (reverse a) in
-      let after : reverse (a ++ (c ++ b)) ≡ reverse b ++ (reverse c ++ reverse a) =
-      reverse-append a (c ++ b) ∙ ap (λ xs. xs ++ reverse a) (reverse-append c b) ∙ append_assoc (reverse b) (reverse c) (reverse a) in
-      after ∙ sym (subst (λ w. take n (drop m w) ++ (take m w ++ drop (m + n) w) ≡ reverse b ++ (reverse c ++ reverse a)) (sym before)
-      (turned m n (reverse a) (reverse b) (reverse c) (length-reverse c ∙ ec) (length-reverse b ∙ eb)))
+  exchanged m n a b c ec eb = grind (arith, reverse, reverse-append, append_assoc, turned, length-reverse)
 
   -- a copy c of the top goes under the top cells b
   copied_under : (a b c : List X) → reverse (a ++ (c ++ b)) ≡ reverse b ++ (reverse c ++ reverse a)
@@ -60,9 +52,7 @@ length_top k s d h g = simp (length-take, length-drop) (omega arith)
 pub drop-cells : (k : ℕ) (s : List Ty) (d : ℕ) → k ≤ d → d ≤ length s → drop k (cells s d) ≡ cells s (d - k)
 unfolding cells
 drop-cells k s d h g =
-    let whole : take d s ≡ take (d - k) s ++ take k (drop (d - k) s) =
-    subst (λ n. take n s ≡ take (d - k) s ++ take k (drop (d - k) s)) (omega arith) (take-add (d - k) k s) in
-    ap (λ xs. drop k (reverse xs)) whole ∙ (reverse-parts k (take (d - k) s) (take k (drop (d - k) s)) (length_top k s d h g)).1
+    grind (arith, take-add (d - k) k s, reverse-parts k (take (d - k) s) (take k (drop (d - k) s)) (length_top k s d h g), reverse)
 
 -- the top cells change places with those under them
 pub cells-exchanged : (s r : List Ty) (d m n : ℕ) → m + n ≤ d → d ≤ length s →
@@ -147,17 +137,12 @@ cells-copied s t r d m n hm hn g of_t et er =
 map-reverse : (f : Ty → Ty) (xs : List Ty) → map f (reverse xs) ≡ reverse (map f xs)
 map-reverse f [] = refl
 map-reverse f (x ∷ xs) =
-    ap (map f) (reverse-append (x ∷ []) xs)
-    ∙ map-append f (reverse xs) (x ∷ [])
-    ∙ ap (λ ys. ys ++ f x ∷ []) (map-reverse f xs)
-    ∙ sym (reverse-append (f x ∷ []) (map f xs))
+    grind (arith, reverse-append (x ∷ []) xs, map-append f (reverse xs) (x ∷ []), map-reverse f xs, reverse-append (f x ∷ []) (map f xs))
 
 -- what is done to each cell of the slice is done to each cell of the stack
 pub cells-map : (f : Ty → Ty) (s r : List Ty) (d : ℕ) → d ≤ length s → r ≡ map f (take d s) → cells (r ++ drop d s) d ≡ map f (cells s d)
 unfolding cells
-cells-map f s r d h e =
-    let size : length r ≡ d = ap length e ∙ simp (length-map, length-take) (omega arith) in
-    ap reverse (take_first d r (drop d s) size ∙ e) ∙ sym (map-reverse f (take d s))
+cells-map f s r d h e = grind (arith, length-map, length-take, reverse, take_first, map-reverse)
 
 pub length-cells : (s : List Ty) (d : ℕ) → d ≤ length s → length (cells s d) ≡ d
 unfolding cells

@@ -1,7 +1,6 @@
 -- The order of types as it is computed, and what declared types and single cells are not.
-use Rattle.std.proofs.Common.{◌≡◌, true}
+use Rattle.std.proofs.Common.{◌≡◌, true, arith}
 use Rattle.jc_base.specs.declared.ty.Ty.{Ty}
-use Rattle.jc_base.specs.declared.ty.Ty.TheVariants.{IntHigh, IntLow, Fresh, Top}
 use Rattle.jc_base.specs.Class.{ClassTable}
 use Rattle.jc_base.specs.Order.{Below, is_below}
 use Rattle.jc_base.specs.Cell.{IsDeclared, IsNoHalf}
@@ -17,14 +16,10 @@ below-told t order a b e = (order.decided a b).0 e
 
 -- a declared type is no Top, and no object on which no constructor was called
 pub declared-not_top : (t : ClassTable) (ty : Ty) → IsDeclared t ty → IsNotTop ty
-declared-not_top t Top h = h
-declared-not_top t ty h = tt
+declared-not_top t ty h = grind (arith)
 
 pub declared-not_fresh : (t : ClassTable) (ty : Ty) → IsDeclared t ty → IsNotFresh ty
-declared-not_fresh t (Fresh p c) h = h
-declared-not_fresh t ty h = tt
+declared-not_fresh t ty h = grind (arith)
 
 pub no-half : (a : Ty) → IsNoHalf a → ¬ (IsHalf a)
-no-half IntHigh n k = absurd n
-no-half IntLow n k = absurd n
-no-half a n k = absurd k
+no-half a n k = grind (arith)

@@ -1,15 +1,17 @@
 -- Operations keep stacks whole.
-use Rattle.std.proofs.Common.{◌≡◌, ℕ, zero, suc, ◌+◌, ◌-◌, Bool, true, false, cond, ◌==◌, inl, inr, List, [], ◌∷◌, ◌++◌, length}
-use Rattle.std.proofs.Common.{take, drop, map, reverse, All, Option, Some, None, IsSomeAnd, IfSome, slice_get, refl, sym, ◌∙◌, ap, subst, arith}
+use Rattle.std.proofs.Common.{◌≡◌, ℕ, zero, suc, ◌+◌, ◌-◌, Bool, true, false, cond, ◌==◌, List, [], ◌∷◌, ◌++◌, length, rules}
+use Rattle.std.proofs.Common.{take, drop, map, reverse, All, Option, Some, None, IsSomeAnd}
+use Rattle.std.proofs.Common.{IfSome, slice_get, refl, sym, ◌∙◌, ap, subst, arith}
 use Rattle.std.proofs.lemmas.List.{length-reverse, reverse-append, reverse-reverse}
 use Rattle.jc_base.specs.declared.ty.Ty.{Ty}
-use Rattle.jc_base.specs.declared.ty.Ty.TheVariants.{Bottom, Short, IntHigh, IntLow, Null, Class, ArrBool, ArrByte, ArrShort, ArrInt, ArrRef, Fresh, Top}
+use Rattle.jc_base.specs.declared.ty.Ty.TheVariants.{Bottom, Short, IntHigh, IntLow, Null, Class, ArrBool}
+use Rattle.jc_base.specs.declared.ty.Ty.TheVariants.{ArrByte, ArrShort, ArrInt, ArrRef, Fresh, Top}
 use Rattle.jc_base.specs.declared.ty.Kind.{Kind}
 use Rattle.jc_base.specs.declared.ty.Kind.TheVariants as kinds
 use Rattle.jc_base.specs.declared.record.MethodRec.{MethodRec}
 use Rattle.jc_base.specs.Class.{ClassTable, object, throwable}
 use Rattle.jc_base.specs.Order.{Below}
-use Rattle.jc_base.specs.Cell.{IsDeclared, IsOfKind, IsReference, IsNoHalf, IsFirstCell, AreWhole, no_cells, whole_int, one_cell}
+use Rattle.jc_base.specs.Cell.{IsDeclared, IsOfKind, IsNoHalf, IsFirstCell, AreWhole, no_cells, whole_int, one_cell}
 use Rattle.jc_base.specs.Linked.{IsMethod}
 use Rattle.jc_base.specs.World.{Linked, IsWorld}
 use Rattle.jc_base.proofs.Lists.{All-slice_get, All-reverse}
@@ -34,20 +36,24 @@ use Rattle.jc_ops.specs.declared.operation.TypeTest.TheVariants as tests
 use Rattle.jc_ops.specs.declared.operation.Operation.{Operation}
 use Rattle.jc_ops.specs.declared.operation.Operation.TheVariants as ops
 use Rattle.jc_ops.specs.declared.operation.Choice.{Choice}
-use Rattle.jc_ops.specs.declared.operation.Choice.TheVariants as choices
 use Rattle.jc_ops.specs.declared.operation.Callee.{Callee}
 use Rattle.jc_ops.specs.Sound.{IsSound, IsNamedType, IsReceiverOf, IsChosen, IsCalleeOf, IsResult}
 use Rattle.jc_rules.specs.declared.demand.Demand.{Demand}
 use Rattle.jc_rules.specs.declared.demand.Demand.TheVariants.{Cell, Held}
 use Rattle.jc_rules.specs.declared.effect.Cells.{Cells}
 use Rattle.jc_rules.specs.declared.effect.Cells.TheVariants as given
-use Rattle.jc_rules.specs.Effect.{in_stack_order, ready, changed, reg}
+use Rattle.jc_rules.specs.Effect.{in_stack_order, ready, changed}
 use Rattle.jc_rules.specs.Demand.{Frame, IsHalf, IsArrayOrNull, IsFreshOf, Meets, Splits, SatisfiesAll}
-use Rattle.jc_rules.specs.Rule.{constant_effect, load_demands, load_effect, store_demands, store_effect, increment_effect, move_demands, move_effect}
-use Rattle.jc_rules.specs.Rule.{arithmetic_demands, arithmetic_effect, array_read_demands, array_read_effect, array_write_demands, array_write_effect}
-use Rattle.jc_rules.specs.Rule.{branch_demands, branch_effect, field_read_demands, field_read_effect, field_write_demands, field_write_effect, type_test_effect}
-use Rattle.jc_rules.specs.Rule.{return_demands, return_effect, cell, number, two_numbers, size, number_given, value_given, value_wanted, value_size, or_null}
-use Rattle.jc_rules.specs.Rule.{element, array_wanted, a_reference, ready_with, cells_wanted, call_demands, call_effect, result_given, args_at, result_at, seen}
+use Rattle.jc_rules.specs.Rule.{constant_effect, load_demands, load_effect, store_demands}
+use Rattle.jc_rules.specs.Rule.{store_effect, increment_effect, move_demands, move_effect}
+use Rattle.jc_rules.specs.Rule.{arithmetic_demands, arithmetic_effect, array_read_demands}
+use Rattle.jc_rules.specs.Rule.{array_read_effect, array_write_demands, array_write_effect}
+use Rattle.jc_rules.specs.Rule.{branch_demands, branch_effect, field_read_demands, field_read_effect}
+use Rattle.jc_rules.specs.Rule.{field_write_demands, field_write_effect, type_test_effect}
+use Rattle.jc_rules.specs.Rule.{return_demands, return_effect, cell, number, two_numbers, size}
+use Rattle.jc_rules.specs.Rule.{number_given, value_given, value_wanted, value_size, or_null}
+use Rattle.jc_rules.specs.Rule.{element, array_wanted, a_reference, ready_with, cells_wanted, call_demands}
+use Rattle.jc_rules.specs.Rule.{call_effect, result_given, args_at, result_at, seen}
 use Rattle.jc_rules.specs.Rule.{demands, effect}
 use Rattle.jc_rules.specs.Whole.{OperationKeepsWhole}
 use Rattle.jc_rules.specs.Flow.{IsNotTop}
@@ -71,19 +77,7 @@ whole-append (paired_cell n g) h = paired_cell n (whole-append g h)
 
 -- the same from the bottom
 half-not : (a : Ty) → ¬ (IsHalf a) → IsNoHalf a
-half-not IntHigh n = n tt
-half-not IntLow n = n tt
-half-not Bottom n = tt
-half-not Short n = tt
-half-not Null n = tt
-half-not (Class c) n = tt
-half-not ArrBool n = tt
-half-not ArrByte n = tt
-half-not ArrShort n = tt
-half-not ArrInt n = tt
-half-not (ArrRef c) n = tt
-half-not (Fresh p c) n = tt
-half-not Top n = tt
+half-not x n = grind (arith)
 
 whole-join : {xs ys : List Ty} → AreWhole xs → AreWhole ys → AreWhole (xs ++ ys)
 whole-join no_cells h = h
@@ -104,8 +98,7 @@ whole-from (paired_cell {ty = ty} {s = s} n h) =
     subst AreWhole (sym (reverse-append (ty ∷ []) s)) (whole-join (whole-from h) (one_cell (half-not ty n) no_cells))
 
 whole-rest : {ty : Ty} {s : List Ty} → ¬ (IsHalf ty) → IsPaired (ty ∷ s) → IsPaired s
-whole-rest n (paired_int h) = absurd (n tt)
-whole-rest n (paired_cell k h) = h
+whole-rest n y = grind (arith)
 
 -- the low half of an int stands at a place and the high half under it
 Pair : List Ty → ℕ → Type 0
@@ -181,34 +174,10 @@ TakesNoHalf (Value ty) = (¬ (IsHalf ty)) × IsNotTop ty
 TakesNoHalf _ = Unit {0}
 
 array-half : (ty : Ty) → IsArrayOrNull ty → ¬ (IsHalf ty)
-array-half IntHigh h = λ k. h
-array-half IntLow h = λ k. h
-array-half Bottom h = λ k. k
-array-half Short h = λ k. k
-array-half Null h = λ k. k
-array-half (Class c) h = λ k. k
-array-half ArrBool h = λ k. k
-array-half ArrByte h = λ k. k
-array-half ArrShort h = λ k. k
-array-half ArrInt h = λ k. k
-array-half (ArrRef c) h = λ k. k
-array-half (Fresh p c) h = λ k. k
-array-half Top h = λ k. k
+array-half x h = grind (arith)
 
 fresh-half : (c : ℕ) (ty : Ty) → IsFreshOf c ty → ¬ (IsHalf ty)
-fresh-half c IntHigh h = λ k. h
-fresh-half c IntLow h = λ k. h
-fresh-half c Bottom h = λ k. k
-fresh-half c Short h = λ k. k
-fresh-half c Null h = λ k. k
-fresh-half c (Class d) h = λ k. k
-fresh-half c ArrBool h = λ k. k
-fresh-half c ArrByte h = λ k. k
-fresh-half c ArrShort h = λ k. k
-fresh-half c ArrInt h = λ k. k
-fresh-half c (ArrRef d) h = λ k. k
-fresh-half c (Fresh p d) h = λ k. k
-fresh-half c Top h = λ k. k
+fresh-half c y h = grind (arith)
 
 module _ (t : ClassTable) where
   below-half : (a b : Ty) → Below t a b → ¬ (IsHalf b) → IsNotTop b → ¬ (IsHalf a)
@@ -216,14 +185,7 @@ module _ (t : ClassTable) where
 
   met-half : (want : Want) (found : Ty) → TakesNoHalf want → Meets t want found → ¬ (IsHalf found)
   unfolding TakesNoHalf
-  met-half (Value ty) found h m = below-half found ty m h.0 h.1
-  met-half Storable found h m = below-half found (Class (object t)) m (λ k. k) tt
-  met-half ByteArray found h (inl m) = below-half found ArrByte m (λ k. k) tt
-  met-half ByteArray found h (inr m) = below-half found ArrBool m (λ k. k) tt
-  met-half AnyArray found h m = array-half found m
-  met-half Whole found h m = m
-  met-half (Receiver c) found h (inl m) = fresh-half c found m
-  met-half (Receiver c) found h (inr m) = below-half found (Class c) m (λ k. k) tt
+  met-half x found h m = grind (arith, below-half, array-half, fresh-half)
 
   low-not_high : Below t IntLow IntHigh → ⊥
   unfolding LowUp
@@ -244,14 +206,11 @@ module _ (t : ClassTable) where
       → IsPaired (drop (n + 1) s)
   peel-one [] n want k m h = absurd m
   peel-one (x ∷ s) zero want k m h = whole-rest (met-half want x k m) h
-  peel-one (x ∷ s) (suc n) want k m h =
-      let e : suc n + 1 ≡ suc (n + 1) = omega arith in subst (λ j. IsPaired (drop j (x ∷ s))) (sym e) (peel-one s n want k m h)
+  peel-one (x ∷ s) (suc n) want k m h = grind (arith, suc, peel-one s n want k m h)
 
   int-top : (s : List Ty) → IsSomeAnd (slice_get s 0) (Meets t (Value IntLow)) → IsSomeAnd (slice_get s 1) (Meets t (Value IntHigh)) → IsPaired s
       → IsPaired (drop 2 s)
-  int-top [] m k h = absurd m
-  int-top (x ∷ []) m k h = absurd k
-  int-top (x ∷ y ∷ s) m k h = int-rest m k h
+  int-top x m k h = grind (arith, int-rest)
 
   peel-int : (s : List Ty) (n : ℕ) → IsSomeAnd (slice_get s n) (Meets t (Value IntLow)) → IsSomeAnd (slice_get s (n + 1)) (Meets t (Value IntHigh))
       → IsPaired (drop n s) → IsPaired (drop (n + 2) s)
@@ -289,19 +248,7 @@ module _ (t : ClassTable) where
   -- ---- cells that come
 
   whole-given : (ty : Ty) → ¬ (ty ≡ IntLow) → IsPaired (in_stack_order (value_given ty))
-  whole-given IntHigh low = paired_int paired_empty
-  whole-given IntLow low = absurd (low refl)
-  whole-given Bottom low = paired_cell (λ k. k) paired_empty
-  whole-given Short low = paired_cell (λ k. k) paired_empty
-  whole-given Null low = paired_cell (λ k. k) paired_empty
-  whole-given (Class c) low = paired_cell (λ k. k) paired_empty
-  whole-given ArrBool low = paired_cell (λ k. k) paired_empty
-  whole-given ArrByte low = paired_cell (λ k. k) paired_empty
-  whole-given ArrShort low = paired_cell (λ k. k) paired_empty
-  whole-given ArrInt low = paired_cell (λ k. k) paired_empty
-  whole-given (ArrRef c) low = paired_cell (λ k. k) paired_empty
-  whole-given (Fresh p c) low = paired_cell (λ k. k) paired_empty
-  whole-given Top low = paired_cell (λ k. k) paired_empty
+  whole-given x low = grind (arith, paired_int, paired_empty, paired_cell)
 
   whole-one : (ty : Ty) → ¬ (IsHalf ty) → IsPaired (in_stack_order (given.One ty))
   whole-one ty n = paired_cell n paired_empty
@@ -310,61 +257,25 @@ module _ (t : ClassTable) where
   short-one = paired_cell (λ k. k) paired_empty
 
   whole-number : (width : Width) → IsPaired (in_stack_order (number_given width))
-  whole-number widths.Short = short-one
-  whole-number widths.Int = paired_int paired_empty
+  whole-number x = grind (arith, short-one, paired_int, paired_empty)
 
   or_null-half : (ty : Ty) → ¬ (IsHalf ty) → ¬ (IsHalf (or_null ty))
-  or_null-half Bottom n = λ k. k
-  or_null-half Short n = n
-  or_null-half IntHigh n = n
-  or_null-half IntLow n = n
-  or_null-half Null n = n
-  or_null-half (Class c) n = n
-  or_null-half ArrBool n = n
-  or_null-half ArrByte n = n
-  or_null-half ArrShort n = n
-  or_null-half ArrInt n = n
-  or_null-half (ArrRef c) n = n
-  or_null-half (Fresh p c) n = n
-  or_null-half Top n = n
+  or_null-half x n = grind (arith)
 
   element-half : (ty : Ty) → ¬ (IsHalf (element ty))
-  element-half (ArrRef c) = λ k. k
-  element-half Bottom = λ k. k
-  element-half Short = λ k. k
-  element-half IntHigh = λ k. k
-  element-half IntLow = λ k. k
-  element-half Null = λ k. k
-  element-half (Class c) = λ k. k
-  element-half ArrBool = λ k. k
-  element-half ArrByte = λ k. k
-  element-half ArrShort = λ k. k
-  element-half ArrInt = λ k. k
-  element-half (Fresh p c) = λ k. k
-  element-half Top = λ k. k
+  element-half x = grind (arith)
 
   seen-half : (ty : Ty) → IsNamedType t ty → ¬ (IsHalf (seen t ty))
-  seen-half (Class c) h = λ k. k
-  seen-half ArrBool h = λ k. k
-  seen-half ArrByte h = λ k. k
-  seen-half ArrShort h = λ k. k
-  seen-half ArrInt h = λ k. k
-  seen-half (ArrRef c) h = λ k. k
-  seen-half _ h = absurd h
+  seen-half x h = grind (arith)
 
 -- a field's first cell is no low half
 kind-low : (k : Kind) (ty : Ty) → IsOfKind k ty → ¬ (ty ≡ IntLow)
-kind-low kinds.Ref ty h = λ e. subst IsReference e h
-kind-low kinds.Byte ty h = λ e. absurd (cc)
-kind-low kinds.Short ty h = λ e. absurd (cc)
-kind-low kinds.Int ty h = λ e. absurd (cc)
+kind-low x ty h = grind (arith)
 
 -- the receiver of a call is no half of an int
 receiver-of : (w : Linked) (m : MethodRec) (receiver : Option Want) → IsReceiverOf w m receiver → IfSome receiver TakesNoHalf
 unfolding TakesNoHalf
-receiver-of w m (Some (Receiver c)) h = tt
-receiver-of w m (Some (Value (Class c))) h = ((λ k. k), tt)
-receiver-of w m _ h = absurd h
+receiver-of w m z h = grind (arith)
 
 takes-class : (receiver : Option Want) (c : ℕ) → receiver ≡ Some (Value (Class c)) → IfSome receiver TakesNoHalf
 unfolding TakesNoHalf
@@ -372,10 +283,7 @@ takes-class receiver c e = subst (λ o. IfSome o TakesNoHalf) (sym e) ((λ k. k)
 
 receiver-takes : (w : Linked) (n : ℕ) (m : MethodRec) (receiver : Option Want) (choice : Choice) → IsChosen w n m receiver choice
     → IfSome receiver TakesNoHalf
-receiver-takes w n m receiver (choices.Virtual c token) h = takes-class receiver c h.receiver_is
-receiver-takes w n m receiver choices.Special h = receiver-of w m receiver h.receives
-receiver-takes w n m receiver choices.Static h = subst (λ o. IfSome o TakesNoHalf) (sym h.receiver_is) tt
-receiver-takes w n m receiver (choices.Interface c token words) h = takes-class receiver (object w.classes) h.receiver_is
+receiver-takes w n m receiver v h = grind (arith, takes-class, receiver-of)
 
 -- what a receiver that is found makes ready leaves halves as they are
 ready-keeps : (taken : ℕ) (cells : Cells) (found : Ty) (want : Want) (s : List Ty) → IsPaired (in_stack_order cells) → IsPaired (drop taken s)
@@ -400,8 +308,7 @@ ready-keeps taken cells (ArrRef c) want s g h = whole-append g h
 ready-keeps taken cells Top want s g h = whole-append g h
 
 top-one : (t : ClassTable) (s : List Ty) → IsSomeAnd (slice_get s 0) (Meets t Whole) → IsPaired (take 1 s)
-top-one t [] m = absurd m
-top-one t (x ∷ s) m = paired_cell m paired_empty
+top-one t y m = grind (arith, paired_cell, paired_empty)
 
 module _ (t : ClassTable) (f : Frame) (whole : IsPaired f.stack) where
   -- the arguments go
@@ -463,22 +370,17 @@ module _ (t : ClassTable) (f : Frame) (whole : IsPaired f.stack) where
 
   an_array : (k : Kind) → TakesNoHalf (array_wanted t k)
   unfolding TakesNoHalf
-  an_array kinds.Ref = ((λ k. k), tt)
-  an_array kinds.Byte = tt
-  an_array kinds.Short = ((λ k. k), tt)
-  an_array kinds.Int = ((λ k. k), tt)
+  an_array x = grind (arith)
 
   plain_want : TakesNoHalf Storable × TakesNoHalf AnyArray × TakesNoHalf Whole
   unfolding TakesNoHalf
   plain_want = (tt, tt, tt)
 
   number-gone : (width : Width) → SatisfiesAll t f (number width 0) → IsPaired (drop (size width) f.stack)
-  number-gone widths.Short all = one-gone (Value Short) a_short all.0
-  number-gone widths.Int all = peel-int t f.stack 0 all.0 all.1.0 whole
+  number-gone x all = grind (arith, one-gone, a_short, peel-int)
 
   two-gone : (width : Width) → SatisfiesAll t f (two_numbers width) → IsPaired (drop (size width + size width) f.stack)
-  two-gone widths.Short all = next-gone 1 (Value Short) a_short all.1.0 (one-gone (Value Short) a_short all.0)
-  two-gone widths.Int (low, (high, (left_low, (left_high, done)))) = peel-int t f.stack 2 left_low left_high (peel-int t f.stack 0 low high whole)
+  two-gone x all = grind (arith, next-gone, a_short, one-gone, peel-int)
 
   keep-move : (m : Move) → SatisfiesAll t f (move_demands m) → IsPaired (changed (move_effect m).change f.stack)
   keep-move moves.Pop all = one-gone Whole plain_want.2 all.0
@@ -543,22 +445,15 @@ module _ (t : ClassTable) (f : Frame) (whole : IsPaired f.stack) where
   keep-constant (constants.Int n) = whole-append (whole-number t widths.Int) whole
 
   keep-load : (s : Sort) (x : ℕ) → SatisfiesAll t f (load_demands t s x) → IsPaired (changed (load_effect s x f).change f.stack)
-  keep-load sorts.Reference x all =
-      whole-append
-      (whole-one t (or_null (reg f.regs x))
-      (or_null-half t (reg f.regs x) (below-half t (reg f.regs x) (Class (object t)) (some-or (λ ty. Below t ty (Class (object t))) f.regs x all.1.0)
-      (λ k. k) tt))) whole
+  keep-load sorts.Reference x all = search (rules, whole-append, whole-one, or_null-half, below-half, some-or)
   keep-load sorts.Short x all = whole-append (short-one t) whole
   keep-load sorts.Int x all = whole-append (whole-number t widths.Int) whole
 
   keep-store : (s : Sort) (x : ℕ) → SatisfiesAll t f (store_demands s x) → IsPaired (changed (store_effect s x f).change f.stack)
-  keep-store sorts.Reference x all = one-gone Storable plain_want.0 all.1.0
-  keep-store sorts.Short x all = one-gone (Value Short) a_short all.1.0
-  keep-store sorts.Int x all = peel-int t f.stack 0 all.1.0 all.1.1.0 whole
+  keep-store x x2 all = grind (arith, one-gone, plain_want, a_short, peel-int)
 
   keep-increment : (width : Width) (x : ℕ) → IsPaired (changed (increment_effect width x).change f.stack)
-  keep-increment widths.Short x = whole
-  keep-increment widths.Int x = whole
+  keep-increment x x2 = grind (arith)
 
   value-gone : (ty : Ty) (rest : List Demand) → IsNotTop ty → ¬ (ty ≡ IntLow) → SatisfiesAll t f (value_wanted ty ++ rest)
       → IsPaired (drop (value_size ty) f.stack)
@@ -587,8 +482,7 @@ declared-args w m is = λ k d lt. declared-not_top w.classes _ (All-reverse (IsD
 
 -- the first cell of a result is no low half
 first-no_low : (result : Option Ty) → IfSome result IsFirstCell → IfSome result (λ ty. ¬ (ty ≡ IntLow))
-first-no_low None h = tt
-first-no_low (Some ty) h = λ e. subst IsFirstCell e h
+first-no_low x h = grind (arith)
 
 module _ (w : Linked) (is : IsWorld w) (f : Frame) (whole : IsPaired f.stack) (m : MethodRec) (place : ℕ) where
   keep-called : (c : Callee) (o : Option MethodRec) → slice_get w.methods c.method ≡ o → IsCalleeOf w c
@@ -641,5 +535,4 @@ module _ (w : Linked) (is : IsWorld w) (f : Frame) (whole : IsPaired f.stack) (m
 
 pub operation-keeps-whole : (w : Linked) → IsWorld w → OperationKeepsWhole w
 operation-keeps-whole w is limit m place op mode before after o sound whole a =
-    let paired : IsPaired before.stack = subst IsPaired (reverse-reverse before.stack) (paired-from whole) in
-    whole-from (subst IsPaired (sym a.stack) (keeps-whole w is before paired m place op sound a.asked))
+    grind (arith, reverse-reverse, paired-from, whole-from, keeps-whole)

@@ -1,7 +1,7 @@
 -- After its instruction, a group goes on into that of the next place: the stack goes into homes where that is a leader, and locals are
 -- copied.
-use Rattle.std.proofs.Common.{◌≡◌, ℕ, suc, ◌+◌, ◌<◌, ◌≤◌, Bool, true, false, if◌then◌else◌, inl, List, [], ◌∷◌}
-use Rattle.std.proofs.Common.{◌++◌, length, map, refl, sym, ap, ◌∙◌, subst, arith}
+use Rattle.std.proofs.Common.{◌≡◌, ℕ, suc, ◌+◌, ◌<◌, ◌≤◌, Bool, true, false, if◌then◌else◌, inl, List, []}
+use Rattle.std.proofs.Common.{◌++◌, length, refl, sym, ap, ◌∙◌, subst, arith}
 use Rattle.std.specs.Prelude.{Option, Some, None, Ok, IfSome, IsSomeAnd, is_some, slice_get}
 use Rattle.std.proofs.lemmas.List.{length-map, length-reverse}
 use Rattle.jc_base.specs.declared.ty.Ty.{Ty}
@@ -10,20 +10,17 @@ use Rattle.jc_base.specs.Class.{ClassTable}
 use Rattle.jc_base.specs.Each.{IsAmong}
 use Rattle.jc_base.specs.World.{Linked}
 use Rattle.jc_decode.specs.declared.insn.Placed.{Placed}
-use Rattle.jc_decode.specs.Listing.{listing}
-use Rattle.jc_decode.specs.Standing.{AreSteps}
 use Rattle.jc_control.specs.Control.{IsReached, falls_through}
 use Rattle.jc_control.specs.WellFormed.{HasInstruction}
 use Rattle.jc_ops.specs.declared.operation.Operation.{Operation}
 use Rattle.jc_ops.specs.Next.{falls_from}
 use Rattle.jc_rules.specs.Demand.{Frame as Types}
-use Rattle.jc_rules.specs.Flow.{At, CellsBelow, FrameBelow, IsFit, no_cells, more_cells}
+use Rattle.jc_rules.specs.Flow.{CellsBelow, FrameBelow, IsFit, no_cells, more_cells}
 use Rattle.law_sound.proofs.Going.{goes-on}
 use Rattle.vm_store.specs.declared.cell.Cell.{Cell}
 use Rattle.vm_store.specs.Cells.{tagged}
 use Rattle.vm_store.specs.Objects.{kinds}
-use Rattle.vm_store.specs.State.{State, Frame, Object, IsRunning, other_frames, top}
-use Rattle.vm_step.specs.Methods.{code_at, max_stack_of}
+use Rattle.vm_store.specs.State.{State, Frame, IsRunning, other_frames, top}
 use Rattle.vm_step.specs.Raising.{Outcome, running}
 use Rattle.vm_step.specs.Run.{Runs}
 use Rattle.vm_step.proofs.Running.{continues-on}
@@ -39,7 +36,7 @@ use Rattle.xf_homes.specs.Plan.{stack_homes, is_leader, needed, operation}
 use Rattle.xf_emission.specs.declared.origin.Origin.TheVariants.{After}
 use Rattle.xf_emission.specs.Edge.{copies, is_stored}
 use Rattle.xf_emission.specs.Move.{spill}
-use Rattle.xf_emission.specs.Group.{body, fall, fallen, group}
+use Rattle.xf_emission.specs.Group.{body, fall, fallen}
 use Rattle.law_rewritten_typing.specs.Planned.{KeepsValues}
 use Rattle.law_rewritten_typing.specs.Edges.{CellsFillStack, LeadsTo, NeededHaveHomes, leads_after}
 use Rattle.law_homes.specs.Edges.{HoldsAfter, IsBeside, insns, top_at}
@@ -85,8 +82,7 @@ module _ {v w : Linked} {s : Source} {place : ℕ → ℕ} (laid : IsLaidIn v w 
     runs = runs;
     method = laid.code.target.rec;
     is_method = ap (slice_get w.methods) method ∙ target-at laid;
-    are =
-        subst (λ m. AreSteps (code_at w m) place 0 (steps_of s) (listing (code_at w m))) (sym method) (steps-are laid);
+    are = grind (arith, steps-are laid);
     at = at;
     further = further;
   }
@@ -98,19 +94,7 @@ module _ {v w : Linked} {s : Source} {place : ℕ → ℕ} (laid : IsLaidIn v w 
       → t.heap ≡ z.heap
       → AreOf s (top z) (top t)
       → IsBeside w s (top z).place (top z) t
-  beside z t typed heap of =
-      let classes : v.classes ≡ w.classes = laid.code.same.classes in
-      let own = target-room laid in
-      let method = ap (max_stack_of w) of.target in
-      record {
-        classes = sym classes ∙ ap (λ (u : Linked). u.classes) (sym laid.world);
-        typed =
-            subst (λ (os : List (Object Cell)). At s.frames (top z).place
-            (FrameBelow w.classes (types_of_frame w.classes Top (map (λ (o : Object Cell). o.kind) os) (top z)))) (sym heap)
-            (subst (λ c. At s.frames (top z).place (FrameBelow c (types_of_frame c Top (kinds z) (top z)))) classes typed.below);
-        count = of.count;
-        room = omega (arith, own, method);
-      }
+  beside z t typed heap of = grind (arith, target-room laid)
 
   -- the depth of a typed stack
   pub depth-fits : (z : State Cell) → IsTypedAt v s z → length (top z).stack ≤ s.method.rec.max_stack
@@ -254,11 +238,7 @@ module _ {v w : Linked} {s : Source} {place : ℕ → ℕ} (laid : IsLaidIn v w 
     runs = let e = ap length after.second.frames in omega (arith, e)
 
     depth : suc (length (other_frames u.frames)) ≡ length y.frames
-    depth =
-        let e = ap length after.second.frames in
-        let k = ap length under in
-        let d = after.equal.frames in
-        omega (arith, e, k, d)
+    depth = grind (arith)
 
     leads : LeadsTo s (After i.place op) q
     leads =
@@ -282,16 +262,7 @@ module _ {v w : Linked} {s : Source} {place : ℕ → ℕ} (laid : IsLaidIn v w 
       few = small;
       state = arrived registers stack;
       runs = run;
-      are = record {
-        first = after.first;
-        second = record { frames = ap (λ fs. top (arrived registers stack) ∷ fs) under };
-        equal = record { frames = depth; heap = after.equal.heap; statics = after.equal.statics };
-        group = record {
-          of = record { source = after.of.source; target = after.of.target; count = count ∙ after.of.count };
-          at = refl;
-          holds = holds;
-        };
-      };
+      are = grind (arith);
     }
 
     -- into a place that is no leader, the copies alone
@@ -320,11 +291,7 @@ module _ {v w : Linked} {s : Source} {place : ℕ → ℕ} (laid : IsLaidIn v w 
         (other-holds laid (top y) (top (arrived c.registers (top u).stack)) e
         (record {
           stack = after.stack;
-          locals = λ x.
-              each-among (HoldsValue s (top y).registers (top (arrived c.registers (top u).stack))) (needed s q x)
-              (λ h among. held-as s (top y).registers (record (top u) { registers = c.registers })
-              (top (arrived c.registers (top u).stack)) h refl
-              (among-each (HoldsValue s (top y).registers (record (top u) { registers = c.registers })) (needed s q x) h (c.locals x) among));
+          locals = grind (arith, each-among, held-as, among-each);
         }))
 
     -- into a leader the stack goes into homes first
@@ -383,10 +350,7 @@ module _ {v w : Linked} {s : Source} {place : ℕ → ℕ} (laid : IsLaidIn v w 
               (c.others h (kept-registers laid moving.fill q h (leader-keeps laid q e) typed.reached among)
               (held-as s (slots (top y)) (record (top u) { registers = a.registers }) (top u1) h refl
               (among-each (HoldsValue s (slots (top y)) (record (top u) { registers = a.registers })) (stack_homes s q) h a.cells among))));
-          locals = λ x.
-              each-among (HoldsValue s (top y).registers (top (arrived c.registers []))) (needed s q x)
-              (λ h among. held-as s (top y).registers (record (top u1) { registers = c.registers }) (top (arrived c.registers [])) h refl
-              (among-each (HoldsValue s (top y).registers (record (top u1) { registers = c.registers })) (needed s q x) h (c.locals x) among));
+          locals = grind (arith, each-among, held-as, among-each);
         }))
 
     pub falls-arrive : Arrives z t y u 765

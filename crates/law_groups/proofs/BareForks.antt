@@ -1,6 +1,6 @@
 -- A conditional branch or a switch with no cells under its operands: its step in laid code, and where that leads.
-use Rattle.std.proofs.Common.{◌≡◌, ℕ, zero, suc, ◌+◌, ◌-◌, ◌≤◌, false, if◌then◌else◌, List}
-use Rattle.std.proofs.Common.{[], ◌∷◌, ◌++◌, refl, ap, ◌∙◌, arith}
+use Rattle.std.proofs.Common.{◌≡◌, ℕ, zero, suc, ◌+◌, ◌-◌, ◌≤◌, false, List, ◌∙◌}
+use Rattle.std.proofs.Common.{[], ◌∷◌, ◌++◌, refl, ap, arith}
 use Rattle.std.specs.Prelude.{ℤ, Option, Some, None, Ok, nat_lt, slice_get}
 use Rattle.std.specs.List.{filter}
 use Rattle.std.proofs.lemmas.Bool.Decides.{nat_tests}
@@ -8,11 +8,10 @@ use Rattle.jc_base.specs.declared.ty.Ty.{Ty}
 use Rattle.jc_base.specs.Each.{Each}
 use Rattle.jc_decode.specs.declared.insn.Insn.{Insn}
 use Rattle.jc_decode.specs.declared.insn.Placed.{Placed}
-use Rattle.jc_decode.specs.declared.symbols.Item.TheVariants.{Branch, Switch}
+use Rattle.jc_decode.specs.declared.symbols.Item.TheVariants.{Switch}
 use Rattle.jc_decode.specs.Forms.{wide}
 use Rattle.jc_decode.specs.Listing.{targets}
 use Rattle.jc_decode.specs.Symbols.{jump}
-use Rattle.jc_ops.specs.declared.operation.Branch.TheVariants as branches
 use Rattle.jc_ops.specs.declared.operation.Operation.{Operation}
 use Rattle.jc_ops.specs.declared.operation.Operation.TheVariants as ops
 use Rattle.xf_homes.specs.declared.home.Home.{Home}
@@ -23,8 +22,8 @@ use Rattle.xf_homes.specs.Source.{Source}
 use Rattle.xf_homes.specs.Plan.{stack_homes, cells_from, depth, home_of, stack_of, with_home_of}
 use Rattle.xf_emission.specs.declared.origin.Origin.TheVariants.{After}
 use Rattle.xf_emission.specs.Edge.{cell_copies, copies}
-use Rattle.xf_emission.specs.Group.{body, branch_by}
-use Rattle.xf_emission.specs.Jump.{branch, operands_slot, has_under, jump_to, lead, leads, spill_if}
+use Rattle.xf_emission.specs.Group.{body}
+use Rattle.xf_emission.specs.Jump.{branch, has_under, jump_to, lead, leads, operands_slot}
 use Rattle.xf_emission.specs.Jump.{branch_copies, under, way_of}
 
 -- ---- the body
@@ -35,21 +34,14 @@ pub body-branch :
     → operands_of s.world (Ok op) ≡ Some n
     → body s i op ≡ branch s i op n
 unfolding body
-body-branch s i (ops.Branch branches.Always) n e = absurd (cc)
-body-branch s i (ops.Branch (branches.Zero o)) n e = ap (branch_by s i (ops.Branch (branches.Zero o))) e
-body-branch s i (ops.Branch (branches.Null o)) n e = ap (branch_by s i (ops.Branch (branches.Null o))) e
-body-branch s i (ops.Branch (branches.References o)) n e = ap (branch_by s i (ops.Branch (branches.References o))) e
-body-branch s i (ops.Branch (branches.Shorts o)) n e = ap (branch_by s i (ops.Branch (branches.Shorts o))) e
-body-branch s i (ops.Switch width) n e = ap (branch_by s i (ops.Switch width)) e
-body-branch s i _ n e = absurd (cc)
+body-branch s i z n e = grind (arith)
 
 pub branch-alone :
     (s : Source) (i : Placed) (op : Operation) (n : ℕ)
     → has_under s i.place n ≡ false
     → branch s i op n ≡ jump_to i op (leads s i.place op n (targets s.method.code i) (targets s.method.code i)) ∷ []
 unfolding branch
-branch-alone s i op n e =
-    ap (λ b. spill_if b s i.place n ++ jump_to i op (leads s i.place op n (targets s.method.code i) (targets s.method.code i)) ∷ []) e
+branch-alone s i op n e = grind (arith)
 
 -- ---- no cells under the operands
 
@@ -66,11 +58,7 @@ cells-above slot ts i (suc n) = by (value_in_cells ts i) (cells-above slot ts (s
 
 none-below : (c : ℕ) (hs : List Home) → Each (λ (h : Home). c ≤ h.slot) hs → filter (λ (h : Home). nat_lt h.slot c) hs ≡ []
 none-below c [] all = refl
-none-below c (h ∷ hs) all =
-    let le = all.0 in
-    let e : nat_lt h.slot c ≡ false = grind (arith, nat_tests, le) in
-    ap (λ b. if b then h ∷ filter (λ (k : Home). nat_lt k.slot c) hs else filter (λ (k : Home). nat_lt k.slot c) hs) e
-    ∙ none-below c hs all.1
+none-below c (h ∷ hs) all = grind (arith, nat_tests, none-below c hs all.1)
 
 pub under-none : (s : Source) (p n : ℕ) → has_under s p n ≡ false → under s p n ≡ []
 unfolding under stack_homes
@@ -96,9 +84,7 @@ pub lead-at :
     → slice_get ts k ≡ Some t
     → slice_get (leads s p op n whole ts) k ≡ Some (lead s p op n (way_of whole t) t)
 lead-at s p op n k whole [] t e = absurd (cc)
-lead-at s p op n zero whole (u ∷ ts) t e =
-    let same : u ≡ t = cc in
-    ap (λ x. Some (lead s p op n (way_of whole x) x)) same
+lead-at s p op n zero whole (u ∷ ts) t e = grind (arith)
 lead-at s p op n (suc k) whole (u ∷ ts) t e = lead-at s p op n k whole ts t e
 
 -- the instruction of the step of a branch or a switch

@@ -1,5 +1,5 @@
 -- One step of the target for one of the source at a conditional branch or a switch.
-use Rattle.std.proofs.Common.{◌≡◌, ℕ, ◌+◌, ◌<◌, ◌≤◌, ◌⊎◌, inl, inr, Bool, true, false, List, [], length, map, refl}
+use Rattle.std.proofs.Common.{◌≡◌, ℕ, ◌+◌, ◌<◌, ◌≤◌, ◌⊎◌, inl, inr, Bool, true, List, [], length, map, refl}
 use Rattle.std.proofs.Common.{sym, ap, ◌∙◌, subst, arith}
 use Rattle.std.specs.Prelude.{ℤ, pos, All, Contains, Option, Some, None, Ok, option_map, slice_get, ⊤}
 use Rattle.std.proofs.lemmas.Bool.{cases_lt}
@@ -27,14 +27,15 @@ use Rattle.vm_store.specs.declared.cell.Cell.{Cell}
 use Rattle.vm_store.specs.Cells.{tagged}
 use Rattle.vm_store.specs.State.{State, IsRunning, map_object, top}
 use Rattle.vm_step.specs.Act.{Act, calls, gives, goes, jumps, raises, throws}
-use Rattle.vm_step.specs.Branching.{is_taken, leads_if}
-use Rattle.vm_step.specs.Methods.{code_at, max_stack_of}
+use Rattle.vm_step.specs.Branching.{leads_if}
+use Rattle.vm_step.specs.Methods.{code_at}
 use Rattle.vm_step.specs.Performed.{act}
 use Rattle.vm_step.specs.Raising.{Outcome, running}
 use Rattle.vm_step.specs.Step.{Steps}
 use Rattle.law_alike.specs.Alike.{AreAlike, StayAlike, renamed_cell, renamed_new}
 use Rattle.law_alike.specs.Likeness.{StepsAreAlike}
-use Rattle.law_alike.specs.Running.{ComeAlike, Executes, HaveKeys, call_alike, end_alike, exception_alike, keys_at, next_alike, return_alike, target_alike}
+use Rattle.law_alike.specs.Running.{ComeAlike, Executes, HaveKeys, call_alike, end_alike}
+use Rattle.law_alike.specs.Running.{exception_alike, keys_at, next_alike, return_alike, target_alike}
 use Rattle.law_alike.specs.Running.{throw_alike, top_code}
 use Rattle.law_alike.proofs.Views.{falls-new}
 use Rattle.xf_homes.specs.declared.home.Home.{Home}
@@ -71,27 +72,20 @@ IsLeading (jumps to z) = ⊤
 IsLeading _ = ⊥
 
 leads-on : (c : Bool) (to : ℤ) (z : State Cell) → IsLeading (leads_if c to z)
-leads-on true to z = tt
-leads-on false to z = tt
+leads-on x to z = grind (arith)
 
 pub leading :
     (w : Linked) (i : Insn) (op : Operation) (n : ℕ) (z : State Cell)
     → operands_of w (Ok op) ≡ Some n
     → IsLeading (act tagged w i op z)
-leading w i (ops.Branch b) n z e = leads-on (is_taken tagged b (top z).stack) _ _
-leading w i (ops.Switch width) n z e = tt
-leading w i _ n z e = absurd (cc)
+leading w i z n z2 e = grind (arith, leads-on)
 
 -- they name no register, and are renamed by no map of places
 quiet : (w : Linked) (op : Operation) (n : ℕ) → operands_of w (Ok op) ≡ Some n → registers_asked (demands w op) ≡ 0
-quiet w (ops.Branch b) n e = none-asked w (ops.Branch b) tt
-quiet w (ops.Switch width) n e = none-asked w (ops.Switch width) tt
-quiet w _ n e = absurd (cc)
+quiet w y n e = grind (arith, none-asked)
 
 same-named : (w : Linked) (f : ℕ → ℕ) (op : Operation) (n : ℕ) → operands_of w (Ok op) ≡ Some n → renamed_new f op ≡ op
-same-named w f (ops.Branch b) n e = refl
-same-named w f (ops.Switch width) n e = refl
-same-named w f _ n e = absurd (cc)
+same-named w f z n e = grind (arith)
 
 -- the instruction of their step resolves to them
 jump-resolves :
@@ -105,8 +99,7 @@ jump-resolves w m r p q n i at (ops.Branch b) small e some resolves =
     let own : Resolves w m p at.insn (Ok (ops.Branch b)) = subst (λ k. Resolves w m p k (Ok (ops.Branch b))) (sym e) resolves in
     let low : at.insn.op < 256 = subst (λ (k : Insn). k.op < 256) (sym e) small in
     sym (wide-is w m m p p at.insn b low (sym own))
-jump-resolves w m r p q n i at (ops.Switch width) small e some resolves =
-    subst (λ k. Resolves w m p k (Ok (ops.Switch width))) (sym e) resolves
+jump-resolves w m r p q n i at (ops.Switch width) small e some resolves = grind (arith)
 jump-resolves w m r p q n i at _ small e some resolves = absurd (cc)
 
 -- ---- the step
@@ -210,15 +203,8 @@ module _
     targets =
         subst (All (IsTargetPlace (top_code w u))) (sym there.is.leads)
         (all-contained (IsTargetPlace (top_code w u)) (map (λ (k : ℕ). pos (place k)) j.step.targets) is-target);
-    next = λ falls.
-        subst (IsPlace (top_code w u)) (sym there.ends)
-        (subst (λ q. IsPlace (code_at w q) (place (m + 1))) (sym of.target) (next_inside (sym (falls-new f op) ∙ falls)));
-    room =
-        let one = ap (max_stack_of v) of.source in
-        let two = ap (max_stack_of w) of.target in
-        let three = source-room laid in
-        let four = target-room laid in
-        omega (arith, one, two, three, four);
+    next = grind (arith, falls-new);
+    room = grind (arith, source-room laid, target-room laid);
   }
 
   none-here : registers_asked (demands v op) ≡ 0

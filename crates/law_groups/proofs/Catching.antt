@@ -225,10 +225,7 @@ module _ {v w : Linked} {s : Source} {place : ℕ → ℕ} (laid : IsLaidIn v w 
       (n : ℕ) (inside : IsInGroup s i n) (class : ℕ) where
     -- a step of the group
     n-within : n < length (steps_of s)
-    n-within =
-        let all = stand-inside s (group_at s i.place) (group s i) (groups-stand-at-steps s i laid.planned.code stands reached) in
-        let lt = inside.before in
-        omega (arith, all, lt)
+    n-within = grind (arith, stand-inside s (group_at s i.place) (group s i) (groups-stand-at-steps s i laid.planned.code stands reached))
 
     covered-same :
         (h : Handler) → is_live s h ≡ true → h.start ≤ length s.method.code → h.end ≤ length s.method.code
@@ -334,8 +331,7 @@ module _ {v w : Linked} {s : Source} {place : ℕ → ℕ} (laid : IsLaidIn v w 
         → laid_test (catching hs (laying r)) ≡ false
         → Found rest rs
         → Found rest (r ∷ rs)
-    found-later-laid r rest rs e (neither a b) =
-        neither a (ap (λ c. cond c (Some (catching hs (laying r))) (find laid_test (laid_handlers rs))) e ∙ b)
+    found-later-laid r rest rs e (neither a b) = grind (arith, cond)
     found-later-laid r rest rs e (both m x k a at covers b entry) =
         both m x k a at covers (ap (λ c. cond c (Some (catching hs (laying r))) (find laid_test (laid_handlers rs))) e ∙ b) entry
 
@@ -364,12 +360,7 @@ module _ {v w : Linked} {s : Source} {place : ℕ → ℕ} (laid : IsLaidIn v w 
             ∙ ap (λ c. (nat_le h.start i.place && nat_lt i.place h.end) && is_on_chain v.classes c class) same
 
         covers-of : own_test h ≡ true → Covers h i.place
-        covers-of e =
-            let one = (and_parts _ _ e).0 in
-            let two = and_parts (nat_le h.start i.place) (nat_lt i.place h.end) one in
-            let le = two.0 in
-            let lt = two.1 in
-            record { «from» = grind (arith, nat_tests, le); before = grind (arith, nat_tests, lt) }
+        covers-of e = grind (arith, and_parts, nat_tests)
 
         by-test :
             (c : Bool)

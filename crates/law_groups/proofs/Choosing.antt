@@ -1,5 +1,5 @@
 -- The group of a conditional branch or a switch with no cells under its operands.
-use Rattle.std.proofs.Common.{◌≡◌, ℕ, ◌+◌, ◌<◌, ◌≤◌, true, false, if◌then◌else◌, List, [], ◌∷◌, length, map, refl}
+use Rattle.std.proofs.Common.{◌≡◌, ℕ, ◌+◌, ◌<◌, ◌≤◌, true, false, List, [], ◌∷◌, length, map, refl}
 use Rattle.std.proofs.Common.{sym, ap, ◌∙◌, subst, arith}
 use Rattle.std.specs.Prelude.{ℤ, pos, negsuc, Contains, Option, Some, None, Ok, IsSomeAnd, is_some, slice_get, ⊤}
 use Rattle.std.proofs.lemmas.Bool.{false≢true}
@@ -14,7 +14,6 @@ use Rattle.jc_decode.specs.Symbols.{place_of}
 use Rattle.jc_control.specs.Control.{IsReached, follows, jumped, led_to}
 use Rattle.jc_control.specs.WellFormed.{IsTargetPlace, HasInstruction}
 use Rattle.jc_ops.specs.declared.operation.Operation.{Operation}
-use Rattle.jc_ops.specs.declared.operation.Operation.TheVariants as ops
 use Rattle.jc_ops.specs.Next.{falls_from, jumps_from}
 use Rattle.jc_ops.specs.Sound.{OperationsAreDecided}
 use Rattle.jc_rules.specs.Demand.{Frame as Types}
@@ -50,7 +49,7 @@ use Rattle.xf_homes.specs.Source.{Source}
 use Rattle.xf_homes.specs.Plan.{stack_homes, is_leader, needed, operation}
 use Rattle.xf_emission.specs.Edge.{is_stored}
 use Rattle.xf_emission.specs.Emission.{items}
-use Rattle.xf_emission.specs.Group.{body, fall, fall_by, fall_over, fallen}
+use Rattle.xf_emission.specs.Group.{body, fall, fallen}
 use Rattle.xf_emission.specs.Jump.{goto, has_under, jump_to, label_by, lead, place as place_named, stub, stub_label, stub_of, branch_copies}
 use Rattle.xf_emission.specs.Jump.{way_of}
 use Rattle.xf_emission.proofs.Ways.{way-found}
@@ -81,21 +80,16 @@ use Rattle.law_groups.proofs.Taking.{led-arrives}
 -- ---- a branch goes on
 
 pub jumps-too : (w : Linked) (op : Operation) (n : ℕ) → operands_of w (Ok op) ≡ Some n → jumps_from op ≡ true
-jumps-too w (ops.Branch b) n e = refl
-jumps-too w (ops.Switch width) n e = refl
-jumps-too w _ n e = absurd (cc)
+jumps-too w y n e = grind (arith)
 
 -- the outcome of what goes on is a state
 unless-running :
     (z y : State Cell) (o : Option Fault) → IsNoFault (unless_fault z o (running y)) → unless_fault z o (running y) ≡ running y
-unless-running z y None h = refl
-unless-running z y (Some fault) h = absurd h
+unless-running z y z2 h = grind (arith)
 
 -- no branch stores
 pub unstored-fork : (w : Linked) (op : Operation) (n : ℕ) → operands_of w (Ok op) ≡ Some n → (x : ℕ) → is_stored op x ≡ false
-unstored-fork w (ops.Branch b) n e x = refl
-unstored-fork w (ops.Switch width) n e x = refl
-unstored-fork w _ n e x = absurd (cc)
+unstored-fork w y n e x = grind (arith)
 
 -- nothing is matched by nothing
 none-beside : (s : Source) {hs ks : List Home} → AreMatched s hs ks → hs ≡ [] → ks ≡ []
@@ -104,9 +98,7 @@ none-beside s (more_matched slot one two letter rest) e = absurd (cc)
 
 pub one-jump : (w : Linked) (i : Placed) (op : Operation) (n : ℕ) (ls : List ℕ) → operands_of w (Ok op) ≡ Some n
     → count_of (jump_to i op ls ∷ []) ≡ 1
-one-jump w i (ops.Branch b) n ls e = refl
-one-jump w i (ops.Switch width) n ls e = refl
-one-jump w i _ n ls e = absurd (cc)
+one-jump w i z n ls e = grind (arith)
 
 -- where it goes on into the next place with nothing under its operands
 fallen-alone :
@@ -116,11 +108,7 @@ fallen-alone :
     → has_under s i.place n ≡ false
     → fallen s i op ≡ fall s i.place op (i.place + i.insn.len)
 unfolding fallen
-fallen-alone s i op n falls some alone =
-    let q : ℕ = i.place + i.insn.len in
-    ap (λ b. if b then fall_by s i.place op (operands_of s.world (Ok op)) q else []) falls
-    ∙ (ap (λ o. fall_by s i.place op o q) some
-    ∙ ap (λ b. if b then fall_over s i.place op n q else fall s i.place op q) alone)
+fallen-alone s i op n falls some alone = grind (arith)
 
 pub fork-running :
     (v : Linked) → OperationsAreDecided v → (z : State Cell) (o : Outcome Cell) (i : Placed) (op : Operation) (n : ℕ)
@@ -160,15 +148,13 @@ pub first-of :
     {s : Source} {place : ℕ → ℕ} {i : Placed} {op : Operation} {n m : ℕ} {z u y : State Cell} {p : Outcome Cell}
     → ForkComes s place i op n m z u y p
     → SameUnder z y
-first-of (fork_falls a falls here at) = a.first
-first-of (fork_leads k a own at) = a.first
+first-of x = grind (arith)
 
 pub method-after :
     {s : Source} {place : ℕ → ℕ} {i : Placed} {op : Operation} {n m : ℕ} {z u y : State Cell} {p : Outcome Cell}
     → ForkComes s place i op n m z u y p
     → (top y).method ≡ s.method.number
-method-after (fork_falls a falls here at) = a.of.source
-method-after (fork_leads k a own at) = a.of.source
+method-after x = grind (arith)
 
 -- ---- the group
 

@@ -1,5 +1,5 @@
 -- A method that is laid in a world: its code there, step by step.
-use Rattle.std.proofs.Common.{◌≡◌, ℕ, ◌+◌, true, if◌then◌else◌, []}
+use Rattle.std.proofs.Common.{◌≡◌, ℕ, ◌+◌, true, if◌then◌else◌, [], arith}
 use Rattle.std.proofs.Common.{length, sym, ap, ◌∙◌, subst}
 use Rattle.std.specs.Prelude.{Option, Some, None, Ok, IsSomeAnd, is_some, slice_get}
 use Rattle.jc_base.specs.declared.ty.Ty.TheVariants.{Top}
@@ -12,7 +12,6 @@ use Rattle.jc_control.specs.Control.{IsReached}
 use Rattle.jc_control.specs.Method.{IsMethodOf}
 use Rattle.jc_control.specs.WellFormed.{IsPlace, HasInstruction}
 use Rattle.jc_ops.specs.declared.operation.Operation.{Operation}
-use Rattle.jc_ops.specs.Resolve.{Resolves}
 use Rattle.jc_rules.specs.Demand.{Frame}
 use Rattle.jc_rules.specs.Flow.{FlowTyping, IsFollowed}
 use Rattle.vm_step.specs.Methods.{code_at, max_stack_of, of_method}
@@ -83,10 +82,8 @@ module _ {v w : Linked} {s : Source} {place : ℕ → ℕ} (laid : IsLaidIn v w 
             stands = stands;
             at = at;
             op = h.steps.1.operation;
-            does =
-                sym (subst (λ u. Resolves u s.method.rec i.place i.insn (Ok h.steps.1.operation)) (sym laid.world) h.steps.1.resolves);
+            does = grind (arith);
           }
 
 pub has-room-for-more : (v : Linked) → HasRoomForMore v
-has-room-for-more v w s place laid =
-    target-room laid ∙ ap (λ n. n + 1) (sym (source-room laid))
+has-room-for-more v w s place laid = grind (arith, target-room laid, source-room laid)

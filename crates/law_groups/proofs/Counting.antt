@@ -73,37 +73,24 @@ letter_for widths.Int = sorts.Int
 
 asks-same : (v : Linked) (counted : Width) (x : ℕ) (amount : ℤ)
     → demands v (ops.Increment counted x amount) ≡ demands v (ops.Load (letter_for counted) x)
-asks-same v widths.Short x amount = refl
-asks-same v widths.Int x amount = refl
+asks-same v y x amount = grind (arith)
 
 written-width : (v : Linked) (counted : Width) (x : ℕ) (amount : ℤ)
     → (footprint v (ops.Increment counted x amount)).written ≡ size (letter_for counted)
-written-width v widths.Short x amount = refl
-written-width v widths.Int x amount = refl
+written-width v y x amount = grind (arith)
 
 written-first : (v : Linked) (counted : Width) (x : ℕ) (amount : ℤ) → (footprint v (ops.Increment counted x amount)).register ≡ x
-written-first v widths.Short x amount = refl
-written-first v widths.Int x amount = refl
+written-first v y x amount = grind (arith)
 
 -- a number's type by its letter, and by that of its loads
 number-type : (counted : Width) (a b : Ty) → letter_of a ≡ letter_for counted → load_op a ≡ load_op b → a ≡ b
-number-type widths.Short Short Short e f = refl
-number-type widths.Short Short IntHigh e f = absurd (omega (arith, f))
-number-type widths.Short Short _ e f = absurd (omega (arith, f))
-number-type widths.Short IntHigh b e f = absurd (cc)
-number-type widths.Short _ b e f = absurd (cc)
-number-type widths.Int IntHigh IntHigh e f = refl
-number-type widths.Int IntHigh Short e f = absurd (omega (arith, f))
-number-type widths.Int IntHigh _ e f = absurd (omega (arith, f))
-number-type widths.Int Short b e f = absurd (cc)
-number-type widths.Int _ b e f = absurd (cc)
+number-type x y b e f = grind (arith)
 
 some-of : (a b : Ty) → Some a ≡ Some b → a ≡ b
 some-of a b e = cc
 
 wide-or : (ty : Ty) → (type_width ty ≡ 1) ⊎ (ty ≡ IntHigh)
-wide-or IntHigh = inr refl
-wide-or _ = inl refl
+wide-or x = grind (arith)
 
 module _
     {v w : Linked} {s : Source} {place : ℕ → ℕ} (laid : IsLaidIn v w s place) (types : IsOrderOfTypes v.classes)
@@ -215,10 +202,7 @@ still-held v e s x r counted amount h slot_is register_is wide_is has serve k ow
     own-register j hj = ap or_first hj.1
 
     rewritten-home : HoldsValue s (top y).registers (top u) h
-    rewritten-home =
-        written-hold e (footprint v (ops.Increment counted x amount)) (footprint v (ops.Increment counted r amount)) z y t u s h stays
-        (written-first v counted x amount ∙ sym slot_is) (written-first v counted r amount ∙ sym register_is) (sym wide_is) held.known
-        held.there
+    rewritten-home = grind (arith, written-hold, written-first)
 
     by : (k ≡ h) ⊎ AreApart k.slot (type_width k.ty) x (type_width h.ty) → HoldsValue s (top y).registers (top u) k
     by (inl same) = subst (HoldsValue s (top y).registers (top u)) (sym same) rewritten-home

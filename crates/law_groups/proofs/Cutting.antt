@@ -28,7 +28,8 @@ use Rattle.vm_step.specs.Methods.{code_at, max_stack_of}
 use Rattle.vm_step.specs.Numbers.{dropped}
 use Rattle.vm_step.specs.Performed.{act}
 use Rattle.vm_step.specs.Raising.{Outcome, running}
-use Rattle.vm_step.specs.Settled.{fault_next, fault_target, goes_to, is_over, is_past, is_target_place, jumps_to, place_number, settled, unless_fault}
+use Rattle.vm_step.specs.Settled.{fault_next, fault_target, goes_to, is_over, is_past}
+use Rattle.vm_step.specs.Settled.{is_target_place, jumps_to, place_number, settled, unless_fault}
 use Rattle.vm_step.specs.Step.{Fetches, Steps, performed, performs}
 use Rattle.vm_step.specs.Tests.{fault_before}
 use Rattle.vm_step.proofs.Running.{steps-one}
@@ -195,14 +196,7 @@ module _
         }
 
 same-taken : (v : Linked) (op : Operation) (n : ℕ) → operands_of v (Ok op) ≡ Some n → (footprint v op).taken ≡ n
-same-taken v (ops.Branch branches.Always) n e = absurd (cc)
-same-taken v (ops.Branch (branches.Zero o)) n e = cc
-same-taken v (ops.Branch (branches.Null o)) n e = cc
-same-taken v (ops.Branch (branches.References o)) n e = cc
-same-taken v (ops.Branch (branches.Shorts o)) n e = cc
-same-taken v (ops.Switch widths.Short) n e = cc
-same-taken v (ops.Switch widths.Int) n e = cc
-same-taken v _ n e = absurd (cc)
+same-taken v y n e = grind (arith)
 
 pub forks-cut :
     (v : Linked) → IsWorld v → OperationsAreDecided v → (z : State Cell) (o : Outcome Cell) (i : Placed) (op : Operation) (n : ℕ)

@@ -39,8 +39,8 @@ use Rattle.xf_homes.specs.Plan.{stack_homes, is_leader, needed, operation}
 use Rattle.xf_emission.specs.declared.origin.Origin.TheVariants.{After}
 use Rattle.xf_emission.specs.Edge.{copies}
 use Rattle.xf_emission.specs.Emission.{items}
-use Rattle.xf_emission.specs.Group.{body, fall, fall_by, fall_over, fallen}
-use Rattle.xf_emission.specs.Jump.{branch, has_under, jump_to, lead, leads, operands, spill_if, branch_copies, under, way_of}
+use Rattle.xf_emission.specs.Group.{body, fall_over, fallen}
+use Rattle.xf_emission.specs.Jump.{branch, has_under, jump_to, lead, operands, branch_copies, under, way_of}
 use Rattle.xf_emission.specs.Move.{loads, spill}
 use Rattle.law_rewritten_typing.specs.Edges.{ForksAreCut, ForksMatch, IsForkedAt, LeadsTo, leads_after}
 use Rattle.law_rewritten_typing.proofs.ForkTypings.{each-left}
@@ -78,8 +78,7 @@ branch-over :
     → has_under s i.place n ≡ true
     → branch s i op n ≡ (spill s (stack_homes s i.place) ++ loads s (operands s i.place n)) ++ jump_to i op (labels_of s i op n) ∷ []
 unfolding branch
-branch-over s i op n e =
-    ap (λ b. spill_if b s i.place n ++ jump_to i op (leads s i.place op n (targets s.method.code i) (targets s.method.code i)) ∷ []) e
+branch-over s i op n e = grind (arith)
 
 fallen-over :
     (s : Source) (i : Placed) (op : Operation) (n : ℕ)
@@ -88,11 +87,7 @@ fallen-over :
     → has_under s i.place n ≡ true
     → fallen s i op ≡ fall_over s i.place op n (i.place + i.insn.len)
 unfolding fallen
-fallen-over s i op n falls some over =
-    let q : ℕ = i.place + i.insn.len in
-    ap (λ b. if b then fall_by s i.place op (operands_of s.world (Ok op)) q else []) falls
-    ∙ (ap (λ o. fall_by s i.place op o q) some
-    ∙ ap (λ b. if b then fall_over s i.place op n q else fall s i.place op q) over)
+fallen-over s i op n falls some over = grind (arith)
 
 module _
     {v w : Linked} {s : Source} {place : ℕ → ℕ} (laid : IsLaidIn v w s place)
@@ -147,34 +142,19 @@ module _
   whole-is = body-branch s i op n own-some ∙ branch-over s i op n over
 
   spill-size : count_of (spill s (stack_homes s i.place)) ≡ length (stack_homes s i.place)
-  spill-size =
-      count-moves (spill s (stack_homes s i.place)) (spill-moves s (stack_homes s i.place))
-      ∙ (spill-count s (stack_homes s i.place) ∙ length-reverse (stack_homes s i.place))
+  spill-size = grind (arith, count-moves, spill-moves, spill-count, length-reverse)
 
   load-size : count_of (loads s (operands s i.place n)) ≡ length (operands s i.place n)
   load-size = count-loads s (operands s i.place n)
 
   body-size : body_at s i.place + count_of (body s i op) ≡ m + 1
-  body-size =
-      let all = ap count_of whole-is in
-      let one = count-append (spill s (stack_homes s i.place) ++ loads s (operands s i.place n)) (jump_to i op (labels_of s i op n) ∷ []) in
-      let two = count-append (spill s (stack_homes s i.place)) (loads s (operands s i.place n)) in
-      let three = one-jump v i op n (labels_of s i op n) some in
-      let a = spill-size in
-      let b = load-size in
-      omega (arith, all, one, two, three, a, b)
+  body-size = grind (arith, whole-is, count-append, one-jump, spill-size, load-size)
 
   few-operands : length (operands s i.place n) ≤ length (stack_homes s i.place)
-  few-operands =
-      let parts = ap length cut-here.2.parts in
-      let both = length-append (under s i.place n) (operands s i.place n) in
-      omega (arith, parts, both)
+  few-operands = grind (arith, cut-here, length-append)
 
   few-under : length (under s i.place n) ≤ length (stack_homes s i.place)
-  few-under =
-      let parts = ap length cut-here.2.parts in
-      let both = length-append (under s i.place n) (operands s i.place n) in
-      omega (arith, parts, both)
+  few-under = grind (arith, cut-here, length-append)
 
   -- the homes of the cells under the operands have registers
   under-registered : (h : Home) → IsAmong h (under s i.place n) → HasRegister s.homes h
@@ -245,9 +225,7 @@ module _
         registers = a.registers;
         count = length (stack_homes s i.place) + length (operands s i.place n);
         few = omega (arith, low, limit, few_too);
-        runs =
-            runs-then w (length (stack_homes s i.place)) (length (operands s i.place n)) u ua
-            (running (top_at u (place m) a.registers (take n (top z).stack))) a.runs run;
+        runs = grind (arith, runs-then);
         same = a.count;
         kept = a.cells;
         locals = λ x.
@@ -324,11 +302,7 @@ module _
 
       fallen-here : ItemsStandFrom s (m + 1) (fall_over s i.place op n q')
       fallen-here =
-          let own = steps-here laid i op stands reached does in
-          let so : fallen s i op ≡ fall_over s i.place op n q' =
-          fallen-over s i op n falls own-some over ∙ ap (fall_over s i.place op n) (sym next_is) in
-          stand-as s (m + 1) (fallen s i op) (fall_over s i.place op n q') so
-          (stand-at s (body_at s i.place + count_of (body s i op)) (m + 1) (fallen s i op) body-size own.fallen_steps)
+          grind (arith, steps-here laid i op stands reached does, fallen-over s i op n falls own-some over, stand-as, stand-at, body-size)
 
       group-is : group_at s q' ≡ m + 1 + count_of (fall_over s i.place op n q')
       group-is =
@@ -485,9 +459,7 @@ module _
   }
 
   method-same : ex.method ≡ s.method.rec
-  method-same =
-      same-method ex.method s.method.rec
-      (sym ex.fetched.method ∙ (ap (slice_get v.methods) typed.method ∙ (method-of laid).rec))
+  method-same = grind (arith, same-method, method-of)
 
   module _ (group : IsAtGroup s place (top z) (top t)) (equal : AreEqualBut z t) (step : Steps tagged v z o) where
     e : Entered laid moving z t

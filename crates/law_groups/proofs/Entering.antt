@@ -58,9 +58,7 @@ module _ {v w : Linked} {s : Source} {place : ℕ → ℕ} (laid : IsLaidIn v w 
         (body-inside laid here.instruction here.op here.stands also here.does)
 
     load-steps : ItemsStandFrom s (group_at s q) (loads s (loaded_at s q))
-    load-steps =
-        subst (λ p. ItemsStandFrom s (group_at s p) (loads s (loaded_at s p))) here.at
-        (steps-here laid here.instruction here.op here.stands also here.does).load_steps
+    load-steps = grind (arith, steps-here laid here.instruction here.op here.stands also here.does)
 
     leader-enters : is_leader s q ≡ true → Entered z t
     leader-enters e =

@@ -1,5 +1,5 @@
 -- The cells that a write of a field takes from the stack, and the objects after it.
-use Rattle.std.proofs.Common.{◌≡◌, ℕ, zero, suc, ◌+◌, ◌≤◌, List, [], ◌∷◌, ◌++◌, length, map, refl, sym}
+use Rattle.std.proofs.Common.{◌≡◌, ℕ, zero, suc, ◌+◌, ◌≤◌, List, [], ◌∷◌, ◌++◌, length, map, sym}
 use Rattle.std.proofs.Common.{subst, arith}
 use Rattle.std.specs.Prelude.{Option, Some, Ok, IsSomeAnd, drop, slice_get}
 use Rattle.jc_base.specs.Cell.{IsNoHalf, IsOfKind, width}
@@ -10,7 +10,7 @@ use Rattle.jc_base.specs.World.{Linked}
 use Rattle.jc_base.specs.declared.ty.Kind.{Kind}
 use Rattle.jc_base.specs.declared.ty.Kind.TheVariants as kinds_of
 use Rattle.jc_base.specs.declared.ty.Ty.{Ty}
-use Rattle.jc_base.specs.declared.ty.Ty.TheVariants.{Bottom, Short, IntHigh, IntLow, Class, ArrBool, ArrByte, ArrShort, ArrInt, ArrRef}
+use Rattle.jc_base.specs.declared.ty.Ty.TheVariants.{Bottom, Short, IntHigh, IntLow, Class}
 use Rattle.jc_ops.specs.declared.operation.Move.TheVariants as moves
 use Rattle.jc_ops.specs.declared.operation.Operation.TheVariants as ops
 use Rattle.jc_ops.specs.declared.want.Want.TheVariants.{Value}
@@ -50,32 +50,24 @@ module _ (t : ClassTable) (k : Types) where
 
   pub one-asked : (T : Ty) (ds : List Demand) → IsNoHalf T → SatisfiesAll t k (value_wanted T ++ ds)
       → IsSomeAnd (slice_get k.stack 0) (λ u. Below t u T) × SatisfiesAll t k ds
-  one-asked IntHigh ds n h = absurd n
-  one-asked IntLow ds n h = absurd n
-  one-asked T ds n h = h
+  one-asked x ds n h = grind (arith)
 
   pub one-gives : (T : Ty) (ds : List Demand) → IsNoHalf T → IsSomeAnd (slice_get k.stack 0) (λ u. Below t u T) → SatisfiesAll t k ds
       → SatisfiesAll t k (value_wanted T ++ ds)
-  one-gives IntHigh ds n h g = absurd n
-  one-gives IntLow ds n h g = absurd n
-  one-gives T ds n h g = (h, g)
+  one-gives x ds n h g = grind (arith)
 
   pub last-held : (T : Ty) (c : ℕ) → SatisfiesAll t k (value_wanted T ++ Held 0 (Class c) ∷ [])
       → IsSomeAnd (slice_get k.regs 0) (λ u. Below t u (Class c))
-  last-held IntHigh c h = h.1.1.0
-  last-held T c h = h.1.0
+  last-held x c h = grind (arith)
 
 pub size-one : (T : Ty) → IsNoHalf T → value_size T ≡ 1
-size-one IntHigh n = absurd n
-size-one T n = refl
+size-one x n = grind (arith)
 
 pub asked-this : (T : Ty) (c : ℕ) → registers_asked (Registers 0 1 ∷ (value_wanted T ++ Held 0 (Class c) ∷ [])) ≡ 1
-asked-this IntHigh c = refl
-asked-this T c = refl
+asked-this x c = grind (arith)
 
 pub read-this : (T : Ty) (c : ℕ) → registers_read (Registers 0 1 ∷ (value_wanted T ++ Held 0 (Class c) ∷ [])) ≡ 0 ∷ []
-read-this IntHigh c = refl
-read-this T c = refl
+read-this x c = grind (arith)
 
 -- ---- objects
 
@@ -113,53 +105,20 @@ record IsOne (ty : Ty) : Type 0 where
   top : IsNotTop ty
 
 one-of : (ty : Ty) → IsReference ty → IsOne ty
-one-of (Class c) r = record { half = tt; fresh = tt; top = tt }
-one-of ArrBool r = record { half = tt; fresh = tt; top = tt }
-one-of ArrByte r = record { half = tt; fresh = tt; top = tt }
-one-of ArrShort r = record { half = tt; fresh = tt; top = tt }
-one-of ArrInt r = record { half = tt; fresh = tt; top = tt }
-one-of (ArrRef c) r = record { half = tt; fresh = tt; top = tt }
-one-of _ r = absurd r
+one-of x r = grind (arith)
 
 module _ (t : ClassTable) (are : AreClasses t) (types : IsOrderOfTypes t) (ks : List ObjectKind) (class : ℕ) (e : ℕ → ℕ) (regs : List Ty) (c : Cell)
     (object_is : Below t (least_type t Bottom ks c) (Class class)) where
   never-low : (ty u : Ty) → IsNoHalf ty → IsNotTop ty → Below t u ty → ◌≡◌ {A = Option Ty} (Some u) (Some IntLow) → ⊥
-  never-low ty u half top below is =
-      let own : u ≡ IntLow = cc in
-      subst IsNoHalf (low-only t types ty ((types.decided IntLow ty).1 (subst (λ (a : Ty). Below t a ty) own below)) top) half
+  never-low ty u half top below is = grind (arith, low-only)
 
   low-high : (u : Ty) → Below t u IntHigh → ◌≡◌ {A = Option Ty} (Some u) (Some IntLow) → ⊥
-  low-high u below is =
-      let own : u ≡ IntLow = cc in
-      let other : IntHigh ≡ IntLow = low-only t types IntHigh ((types.decided IntLow IntHigh).1 (subst (λ (a : Ty). Below t a IntHigh) own below)) tt in
-      absurd (cc)
+  low-high u below is = grind (arith, low-only)
 
   one-swaps : (ty : Ty) (stack : List Cell) → IsOne ty → IsSomeAnd (slice_get (least_types t Bottom ks stack) 0) (λ u. Below t u ty)
       → Swaps t ks 1 (λ cs. nth tagged cs 0 ∷ []) ty class e regs c stack (map (renamed_cell e) stack)
   one-swaps ty [] one h = absurd h
-  one-swaps ty (a ∷ r) one h =
-      subst (λ (d : Cell). Swaps t ks 1 (λ cs. nth tagged cs 0 ∷ []) ty class e regs c (a ∷ r) (d ∷ map (renamed_cell e) r))
-      (sym (value-stays e t are ks a ty one.fresh one.top h))
-      (record {
-        value = refl;
-        handle = refl;
-        rest = refl;
-        size = refl;
-        cut = (
-          omega arith,
-          (
-            λ both. never-low (Class class) (least_type t Bottom ks c) tt tt object_is both.0,
-            (omega arith, (λ both. never-low ty (least_type t Bottom ks a) one.half one.top h both.0, tt)),
-          ),
-        );
-        write =
-            one-gives t (record { regs = regs; stack = least_types t Bottom ks (a ∷ c ∷ map (renamed_cell e) r) }) ty
-            (CellAt (value_size ty) (Value (Class class)) ∷ []) one.half h (
-              subst (λ (n : ℕ). IsSomeAnd (slice_get (least_types t Bottom ks (a ∷ c ∷ map (renamed_cell e) r)) n) (λ u. Below t u (Class class)))
-                  (sym (size-one ty one.half)) object_is,
-              tt,
-            );
-      })
+  one-swaps ty (a ∷ r) one h = grind (arith, value-stays, never-low, one-gives, size-one)
 
   two-swaps : (stack : List Cell)
       → IsSomeAnd (slice_get (least_types t Bottom ks stack) 0) (λ u. Below t u IntLow) → IsSomeAnd (slice_get (least_types t Bottom ks stack) 1)
@@ -167,36 +126,13 @@ module _ (t : ClassTable) (are : AreClasses t) (types : IsOrderOfTypes t) (ks : 
       → Swaps t ks 2 (λ cs. nth tagged cs 1 ∷ nth tagged cs 0 ∷ []) IntHigh class e regs c stack (map (renamed_cell e) stack)
   two-swaps [] l h = absurd l
   two-swaps (a ∷ []) l h = absurd h
-  two-swaps (a ∷ b ∷ r) l h =
-      subst (λ (d : Cell). Swaps t ks 2 (λ cs. nth tagged cs 1 ∷ nth tagged cs 0 ∷ []) IntHigh class e regs c (a ∷ b ∷ r)
-      (d ∷ renamed_cell e b ∷ map (renamed_cell e) r)) (sym (value-stays e t are ks a IntLow tt tt l))
-      (subst (λ (d : Cell). Swaps t ks 2 (λ cs. nth tagged cs 1 ∷ nth tagged cs 0 ∷ []) IntHigh class e regs c (a ∷ b ∷ r)
-      (a ∷ d ∷ map (renamed_cell e) r)) (sym (value-stays e t are ks b IntHigh tt tt h))
-      (record {
-        value = refl;
-        handle = refl;
-        rest = refl;
-        size = refl;
-        cut = (
-          omega arith,
-          (
-            λ both. never-low (Class class) (least_type t Bottom ks c) tt tt object_is both.0,
-            (omega arith, (λ both. low-high (least_type t Bottom ks b) h both.0, tt)),
-          ),
-        );
-        write = (l, (h, (object_is, tt)));
-      }))
+  two-swaps (a ∷ b ∷ r) l h = grind (arith, value-stays, never-low, low-high)
 
   short :
       (ty : Ty) (stack : List Cell) (more : List Ty) → ty ≡ Short
       → SatisfiesAll t (record { regs = more; stack = least_types t Bottom ks stack }) (value_wanted ty ++ Held 0 (Class class) ∷ [])
       → Swaps t ks 1 (λ cs. nth tagged cs 0 ∷ []) ty class e regs c stack (map (renamed_cell e) stack)
-  short ty stack more is h =
-      let g = subst
-      (λ (a : Ty). SatisfiesAll t (record { regs = more; stack = least_types t Bottom ks stack }) (value_wanted a ++ Held 0 (Class class) ∷ [])) is
-      h in
-      subst (λ (a : Ty). Swaps t ks 1 (λ cs. nth tagged cs 0 ∷ []) a class e regs c stack (map (renamed_cell e) stack)) (sym is)
-      (one-swaps Short stack (record { half = tt; fresh = tt; top = tt }) g.0)
+  short ty stack more is h = grind (arith, one-swaps)
 
   -- what a write of a field asks of the source lets the steps of the target run
   pub swaps :

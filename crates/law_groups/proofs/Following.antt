@@ -1,13 +1,11 @@
 -- Where an instruction goes on, a further group follows its own.
-use Rattle.std.proofs.Common.{◌≡◌, ℕ, ◌+◌, ◌-◌, ◌<◌, ◌≤◌, Bool, true, false, if◌then◌else◌, List, [], ◌∷◌, ◌++◌}
+use Rattle.std.proofs.Common.{◌≡◌, ℕ, ◌+◌, ◌-◌, ◌<◌, ◌≤◌, Bool, true, if◌then◌else◌, List, [], ◌∷◌, ◌++◌}
 use Rattle.std.proofs.Common.{length, sym, ap, ◌∙◌, arith}
-use Rattle.std.specs.Prelude.{Option, Some, None, Ok, is_some}
+use Rattle.std.specs.Prelude.{Option, Ok, is_some}
 use Rattle.jc_base.specs.World.{Linked}
 use Rattle.jc_base.specs.declared.ty.Kind.{Kind}
 use Rattle.jc_decode.specs.declared.insn.Placed.{Placed}
 use Rattle.jc_decode.specs.declared.symbols.Item.{Item}
-use Rattle.jc_decode.specs.declared.symbols.Item.TheVariants.{Plain}
-use Rattle.jc_decode.specs.Listing.{targets}
 use Rattle.jc_control.specs.Control.{IsReached, falls_through, follows}
 use Rattle.jc_control.specs.WellFormed.{IsPlace, HasInstruction}
 use Rattle.jc_ops.specs.declared.operation.Branch.TheVariants as branches
@@ -15,21 +13,16 @@ use Rattle.jc_ops.specs.declared.operation.Holder.TheVariants as holders
 use Rattle.jc_ops.specs.declared.operation.Operation.{Operation}
 use Rattle.jc_ops.specs.declared.operation.Operation.TheVariants as ops
 use Rattle.jc_ops.specs.declared.operation.Sort.{Sort}
-use Rattle.jc_ops.specs.declared.operation.Sort.TheVariants as sorts
 use Rattle.jc_ops.specs.Next.{falls_from}
 use Rattle.law_sound.proofs.Going.{goes-on}
 use Rattle.vm_step.specs.Methods.{code_at}
 use Rattle.xf_homes.specs.declared.home.Home.{Home}
 use Rattle.xf_homes.specs.Walk.{operands_of}
 use Rattle.xf_homes.specs.Source.{Source}
-use Rattle.xf_homes.specs.Plan.{stack_homes, local, needed, operation}
-use Rattle.xf_emission.specs.declared.origin.Origin.TheVariants.{After}
-use Rattle.xf_emission.specs.Edge.{copies}
-use Rattle.xf_emission.specs.Move.{load, spill, with_byte}
-use Rattle.xf_emission.specs.Jump.{branch, goto, has_under, jump_to, leads, spill_if}
-use Rattle.xf_emission.specs.Group.{body, branch_by, field_read, field_written, first_place, gone, group, increased, itself, loaded, stays}
-use Rattle.xf_emission.specs.Group.{store_to_homes, swap_words}
-use Rattle.xf_emission.specs.Mnemonics.{from_read, from_write, swap_x}
+use Rattle.xf_homes.specs.Plan.{local, needed, operation}
+use Rattle.xf_emission.specs.Jump.{branch, jump_to}
+use Rattle.xf_emission.specs.Group.{body, branch_by, field_read, field_written, gone, group, increased, loaded}
+use Rattle.xf_emission.specs.Group.{store_to_homes}
 use Rattle.law_homes.proofs.Loading.{step-place}
 use Rattle.law_groups.specs.Laid.{IsLaidIn, body_at, count_of, group_at, steps_of}
 use Rattle.law_groups.proofs.Placing.{count-append, groups-follow, groups-stand-at-steps}
@@ -43,52 +36,32 @@ some-last xs x ys some = let e = count-append xs (x ∷ ys) in omega (arith, e, 
 
 module _ (s : Source) (i : Placed) where
   some-loaded : (o : Option Home) → 1 ≤ count_of (loaded s i o)
-  some-loaded None = omega arith
-  some-loaded (Some h) = omega arith
+  some-loaded x = grind (arith)
 
   some-increased : (o : Option Home) → 1 ≤ count_of (increased s i o)
-  some-increased None = omega arith
-  some-increased (Some h) = omega arith
+  some-increased x = grind (arith)
 
   some-stored : (letter : Sort) (hs : List Home) → 1 ≤ count_of (store_to_homes s letter hs)
-  some-stored sorts.Int [] = omega arith
-  some-stored sorts.Short [] = omega arith
-  some-stored sorts.Reference [] = omega arith
-  some-stored letter (h ∷ hs) = omega arith
+  some-stored letter y = grind (arith)
 
   some-if : (b : Bool) (xs ys : List Item) → 1 ≤ count_of xs → 1 ≤ count_of ys → 1 ≤ count_of (if b then xs else ys)
-  some-if true xs ys one two = one
-  some-if false xs ys one two = two
+  some-if x xs ys one two = grind (arith)
 
   some-read : (o : Option Home) → 1 ≤ count_of (field_read s i o)
-  some-read None = omega arith
-  some-read (Some h) =
-      some-if (stays s h) (itself i) (load s h ∷ Plain (record i.insn { op = i.insn.op - from_read }) ∷ []) (omega arith) (omega arith)
+  some-read x = grind (arith, some-if)
 
   some-written : (k : Kind) (o : Option Home) → 1 ≤ count_of (field_written s i k o)
-  some-written k None = omega arith
-  some-written k (Some h) =
-      some-if (stays s h) (itself i)
-      (load s h ∷ Plain (with_byte swap_x (swap_words k)) ∷ Plain (record i.insn { op = i.insn.op - from_write }) ∷ [])
-      (omega arith) (omega arith)
+  some-written k y = grind (arith, some-if)
 
   some-gone : (p : ℕ) (op : Operation) (q : ℕ) → 1 ≤ count_of (gone s p op q)
-  some-gone p op q =
-      let one = count-append (spill s (stack_homes s q)) (copies s (After p op) q ++ goto q ∷ []) in
-      let two = some-last (copies s (After p op) q) (goto q) [] (omega arith) in
-      omega (arith, one, two)
+  some-gone p op q = grind (arith, count-append, some-last)
 
   some-jump : (op : Operation) (ls : List ℕ) → 1 ≤ count_of (jump_to i op ls ∷ [])
-  some-jump (ops.Switch width) ls = omega arith
-  some-jump _ ls = omega arith
+  some-jump x ls = grind (arith)
 
   some-branch : (op : Operation) (o : Option ℕ) → 1 ≤ count_of (branch_by s i op o)
   unfolding branch
-  some-branch op None = omega arith
-  some-branch op (Some n) =
-      some-last (spill_if (has_under s i.place n) s i.place n)
-      (jump_to i op (leads s i.place op n (targets s.method.code i) (targets s.method.code i))) []
-      (some-jump op (leads s i.place op n (targets s.method.code i) (targets s.method.code i)))
+  some-branch op y = grind (arith, some-last, some-jump)
 
   pub some-body : (op : Operation) → 1 ≤ count_of (body s i op)
   unfolding body
@@ -97,8 +70,7 @@ module _ (s : Source) (i : Placed) where
   some-body (ops.Store letter x) = some-stored letter (needed s (i.place + i.insn.len) x)
   some-body (ops.FieldRead f holders.This) = some-read (local s i.place 0)
   some-body (ops.FieldWrite f holders.This) = some-written f.kind (local s i.place 0)
-  some-body (ops.Branch branches.Always) =
-      some-gone i.place (ops.Branch branches.Always) (first_place (targets s.method.code i))
+  some-body (ops.Branch branches.Always) = grind (arith, some-gone)
   some-body (ops.Branch b) = some-branch (ops.Branch b) (operands_of s.world (Ok (ops.Branch b)))
   some-body (ops.Switch width) = some-branch (ops.Switch width) (operands_of s.world (Ok (ops.Switch width)))
   some-body _ = omega arith

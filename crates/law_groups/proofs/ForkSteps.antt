@@ -13,7 +13,6 @@ use Rattle.jc_decode.specs.Forms.{wide}
 use Rattle.jc_decode.specs.Listing.{targets}
 use Rattle.jc_decode.specs.Symbols.{Step, jump, place_of}
 use Rattle.jc_ops.specs.declared.operation.Operation.{Operation}
-use Rattle.jc_ops.specs.declared.operation.Operation.TheVariants as ops
 use Rattle.law_alike.specs.Running.{HaveKeys}
 use Rattle.xf_homes.specs.Source.{Source}
 use Rattle.xf_emission.specs.Emission.{items}
@@ -133,7 +132,4 @@ pub jump-step :
     → (first : ℤ) (rest : List ℤ)
     → targets s.method.code i ≡ first ∷ rest
     → JumpStep s i op n at
-jump-step s i (ops.Switch width) n at st first rest some =
-    switch-step s i (ops.Switch width) n at st first rest some refl refl (λ keys. refl)
-jump-step s i (ops.Branch b) n at st first rest some = branch-step s i (ops.Branch b) n at st first rest some refl refl (λ keys. tt)
-jump-step s i _ n at st first rest some = branch-step s i _ n at st first rest some refl refl (λ keys. tt)
+jump-step s i z n at st first rest some = grind (arith, switch-step, branch-step)

@@ -11,13 +11,13 @@ use Rattle.jc_decode.specs.Symbols.{jump, place_of}
 use Rattle.jc_control.specs.Control.{IsReached}
 use Rattle.vm_store.specs.declared.cell.Cell.{Cell}
 use Rattle.vm_store.specs.Cells.{tagged}
-use Rattle.vm_store.specs.State.{State, Frame, IsRunning, other_frames, top}
+use Rattle.vm_store.specs.State.{State, Frame, IsRunning, top}
 use Rattle.vm_step.specs.Methods.{code_at}
 use Rattle.vm_step.specs.Raising.{running}
 use Rattle.vm_step.specs.Run.{Runs, stands as none_taken, steps as after_step}
 use Rattle.xf_homes.specs.declared.home.Home.{Home}
 use Rattle.xf_homes.specs.Source.{Source}
-use Rattle.xf_homes.specs.Plan.{stack_homes, is_leader, needed}
+use Rattle.xf_homes.specs.Plan.{stack_homes, is_leader}
 use Rattle.xf_emission.specs.declared.origin.Origin.{Origin}
 use Rattle.xf_emission.specs.Edge.{copies}
 use Rattle.xf_emission.specs.Emission.{items}
@@ -75,30 +75,7 @@ module _ {v w : Linked} {s : Source} {place : ℕ → ℕ} (laid : IsLaidIn v w 
         → length registers ≡ length (top u).registers
         → Waits s q (top y) (top (arrived registers))
         → ComesWithin w least most u (ComesToGroup s place y u)
-    arrives least most n registers some small run count waits =
-        let whole = ap length (frames-are u running-too) in
-        let same = equal.frames in
-        record {
-          count = n;
-          more = some;
-          fewer = small;
-          outcome = running (arrived registers);
-          runs = run;
-          comes = record {
-            state = arrived registers;
-            is = refl;
-            are = record {
-              first = record { frames = frames-are y typed.runs };
-              second = record { frames = refl };
-              equal = record { frames = omega (arith, whole, same); heap = equal.heap; statics = equal.statics };
-              group = record {
-                of = record { source = of.source; target = of.target; count = count ∙ of.count };
-                at = refl;
-                holds = leader-holds laid (top y) (top (arrived registers)) leader waits;
-              };
-            };
-          };
-        }
+    arrives least most n registers some small run count waits = grind (arith, frames-are, running-too, leader-holds)
 
     -- from a state whose stack stands in homes: the copies, and the goto
     pub edge-goes :
@@ -146,10 +123,7 @@ module _ {v w : Linked} {s : Source} {place : ℕ → ℕ} (laid : IsLaidIn v w 
               (c.others h
               (kept-registers laid moving.fill q h (leader-keeps laid q leader) typed.reached among)
               (among-each (HoldsValue s (slots (top y)) (top u)) (stack_homes s q) h held among)));
-          locals = λ x.
-              each-among (HoldsValue s (top y).registers (top (arrived c.registers))) (needed s q x)
-              (λ h among. held-as s (top y).registers (record (top u) { registers = c.registers }) (top (arrived c.registers)) h refl
-              (among-each (HoldsValue s (top y).registers (record (top u) { registers = c.registers })) (needed s q x) h (c.locals x) among));
+          locals = grind (arith, each-among, held-as, among-each);
         })
 
 -- after so many steps of the target alone
@@ -160,28 +134,7 @@ pub comes-later :
     → n + most ≤ total
     → ComesWithin w least most u (ComesToGroup s place y u)
     → ComesWithin w least total t (ComesToGroup s place y t)
-comes-later w s place y t u n least most total first moves few c =
-    let more = c.more in
-    let fewer = c.fewer in
-    record {
-      count = n + c.count;
-      more = omega (arith, more);
-      fewer = omega (arith, fewer, few);
-      outcome = c.outcome;
-      runs = runs-then w n c.count t u c.outcome first c.runs;
-      comes = record {
-        state = c.comes.state;
-        is = c.comes.is;
-        are = record {
-          first = c.comes.are.first;
-          second = record {
-            frames = c.comes.are.second.frames ∙ ap (λ fs. top c.comes.state ∷ fs) (ap other_frames moves.frames);
-          };
-          equal = c.comes.are.equal;
-          group = c.comes.are.group;
-        };
-      };
-    }
+comes-later w s place y t u n least most total first moves few c = grind (arith, runs-then)
 
 module _
     {v w : Linked} {s : Source} {place : ℕ → ℕ} (laid : IsLaidIn v w s place) (moving : MovesRun v)

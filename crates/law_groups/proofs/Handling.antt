@@ -49,9 +49,7 @@ pub comes-wider :
     → most ≤ total
     → ComesWithin w least most t (ComesToGroup s place y t)
     → ComesWithin w least total t (ComesToGroup s place y t)
-comes-wider w s place y t least most total le c =
-    let fewer = c.fewer in
-    record { count = c.count; more = c.more; fewer = omega (arith, fewer, le); outcome = c.outcome; runs = c.runs; comes = c.comes }
+comes-wider w s place y t least most total le c = grind (arith)
 
 -- the first reached place from a place on
 pub first-is : (s : Source) (p : ℕ) → IsFirst s.frames p (length s.method.code - p) (first_reached s p)
@@ -70,11 +68,7 @@ first-before s q p reached le = by (nat_lt p (first_reached s q)) refl
 
 -- a handler that covers a reached place is live
 pub covers-live : (s : Source) (h : Handler) (p : ℕ) → is_some (s.frames p) ≡ true → Covers h p → is_live s h ≡ true
-covers-live s h p reached c =
-    let le = first-before s h.start p reached c.from in
-    let lt = c.before in
-    let both : first_reached s h.start < h.end = omega (arith, le, lt) in
-    grind (arith, nat_tests, both)
+covers-live s h p reached c = grind (arith, first-before, nat_tests)
 
 module _ {v w : Linked} {s : Source} {place : ℕ → ℕ} (laid : IsLaidIn v w s place) (moving : MovesRun v) where
   -- a local's home at the entry is needed where the handler covers

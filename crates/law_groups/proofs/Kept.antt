@@ -1,5 +1,5 @@
 -- Instructions that are kept as they are, and neither jump nor name a register.
-use Rattle.std.proofs.Common.{◌≡◌, ℕ, ◌+◌, false, [], ◌∷◌, refl, sym, ap, ◌∙◌, subst, arith}
+use Rattle.std.proofs.Common.{◌≡◌, ℕ, ◌+◌, false, [], refl, sym, ap, ◌∙◌, subst, arith}
 use Rattle.std.specs.Prelude.{max, Ok, IfSome}
 use Rattle.jc_base.specs.Cell.{IsDeclared}
 use Rattle.jc_base.specs.World.{Linked, IsWorld}
@@ -48,9 +48,7 @@ renamed-alike :
     → IsSound w s.method.rec q op
     → f q ≡ h q
     → renamed_new f op ≡ renamed_new h op
-renamed-alike w f h s q (ops.New p c) sound e =
-    ap (λ n. ops.New n c) (ap f sound.0 ∙ (e ∙ sym (ap h sound.0)))
-renamed-alike w f h s q _ sound e = refl
+renamed-alike w f h s q w2 sound e = grind (arith)
 
 module _ (v : Linked) (world : IsWorld v) (sound : OperationsAreSound v) (alike_steps : StepsAreAlike v) where
   pub kept-runs : KeptRuns v

@@ -1,5 +1,5 @@
 -- A goto to a label leads to the step for which the label stands.
-use Rattle.std.proofs.Common.{◌≡◌, ℕ, ◌+◌, ◌<◌, ◌≤◌, true, if◌then◌else◌, List, [], ◌∷◌, length, map, refl, sym}
+use Rattle.std.proofs.Common.{◌≡◌, ℕ, ◌+◌, ◌<◌, ◌≤◌, true, List, [], ◌∷◌, length, map, refl, sym}
 use Rattle.std.proofs.Common.{ap, ◌∙◌, subst, arith}
 use Rattle.std.specs.Prelude.{ℤ, pos, Some, None, Ok, nat_lt, slice_get}
 use Rattle.std.proofs.lemmas.Bool.{le-ltb}
@@ -8,13 +8,13 @@ use Rattle.jc_base.specs.World.{Linked}
 use Rattle.jc_base.proofs.Lists.{slice_get-some}
 use Rattle.jc_decode.specs.declared.insn.Case.{Case}
 use Rattle.jc_decode.specs.declared.insn.Placed.{Placed}
-use Rattle.jc_decode.specs.Cases.{cases}
 use Rattle.jc_decode.specs.Listing.{jumps, listing, target, targets}
 use Rattle.jc_decode.specs.Standing.{AreSteps}
 use Rattle.jc_decode.specs.Symbols.{Step, jump}
 use Rattle.jc_ops.specs.declared.operation.Branch.TheVariants.{Always}
 use Rattle.jc_ops.specs.declared.operation.Operation.TheVariants as ops
-use Rattle.jc_ops.specs.Row.{table, row_at, unused, by_sort, by_width, by_kind, first_four, by_register, literals, binaries, orders_all, branching}
+use Rattle.jc_ops.specs.Row.{table, row_at, unused, by_sort, by_width, by_kind}
+use Rattle.jc_ops.specs.Row.{first_four, by_register, literals, binaries, orders_all, branching}
 use Rattle.jc_ops.specs.Resolve.{resolved, Resolves}
 use Rattle.vm_store.specs.declared.cell.Cell.{Cell}
 use Rattle.vm_store.specs.Cells.{tagged}
@@ -44,10 +44,7 @@ module _ (code : List ℕ) (j : Placed) (to : ℤ) where
 
   pub target-is : jumps j.insn.op ≡ true → targets code j ≡ to ∷ [] → target j.place j.insn.x ≡ to
   unfolding targets
-  target-is is e =
-      only-target (cases code j.place j.insn)
-      (sym (ap (λ b. if b then target j.place j.insn.x ∷ map (λ (c : Case). target j.place c.offset) (cases code j.place j.insn) else [])
-      is) ∙ e)
+  target-is is e = grind (arith, only-target)
 
 goto-resolves : (w : Linked) (m : MethodRec) (q : ℕ) → Resolves w m q (jump goto_w) (Ok (ops.Branch Always))
 unfolding row_at table by_sort by_width by_kind first_four by_register literals binaries orders_all branching unused

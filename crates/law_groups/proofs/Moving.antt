@@ -1,5 +1,5 @@
 -- Moves, as instructions that stand among the steps of a method.
-use Rattle.std.proofs.Common.{◌≡◌, ℕ, zero, suc, ◌+◌, Bool, true, false, if◌then◌else◌, List, [], ◌∷◌, ◌++◌}
+use Rattle.std.proofs.Common.{◌≡◌, ℕ, zero, suc, ◌+◌, Bool, if◌then◌else◌, List, [], ◌∷◌, ◌++◌, arith}
 use Rattle.std.proofs.Common.{length, map, flat_map, reverse, refl, ap}
 use Rattle.std.specs.Prelude.{Option, Some, None, ⊤}
 use Rattle.jc_decode.specs.declared.symbols.Item.{Item}
@@ -38,8 +38,7 @@ moves-both (Switch i at ls ∷ xs) ys a b = absurd a
 moves-both (Label l ∷ xs) ys a b = absurd a
 
 pub moves-if : (b : Bool) (xs ys : List Item) → AreMoves xs → AreMoves ys → AreMoves (if b then xs else ys)
-moves-if true xs ys a b = a
-moves-if false xs ys a b = b
+moves-if x xs ys a b = grind (arith)
 
 moves-flat : {X : Type 0} (f : X → List Item) (xs : List X) → ((x : X) → AreMoves (f x)) → AreMoves (flat_map f xs)
 moves-flat f [] h = tt
@@ -69,8 +68,7 @@ local-moves s o q x = by (home_before s o x)
 
 locals-move : (s : Source) (o : Origin) (q x n : ℕ) → AreMoves (locals_copies s o q x n)
 locals-move s o q x zero = tt
-locals-move s o q x (suc n) =
-    moves-both (local_copies s o q x) (locals_copies s o q (suc x) n) (local-moves s o q x) (locals-move s o q (suc x) n)
+locals-move s o q x (suc n) = grind (arith, moves-both, suc, local-moves, locals-move s o q (suc x) n)
 
 pub copies-move : (s : Source) (o : Origin) (q : ℕ) → AreMoves (copies s o q)
 unfolding copies

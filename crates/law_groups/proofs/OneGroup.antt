@@ -1,5 +1,5 @@
 -- A group: the loads of a leader, the steps for the instruction, and the way into the next place.
-use Rattle.std.proofs.Common.{◌≡◌, ℕ, ◌+◌, ◌≤◌, true, if◌then◌else◌, [], ◌∷◌, length, refl, sym}
+use Rattle.std.proofs.Common.{◌≡◌, ℕ, ◌+◌, ◌≤◌, true, [], ◌∷◌, length, refl, sym}
 use Rattle.std.proofs.Common.{ap, ◌∙◌, subst, arith}
 use Rattle.std.specs.Prelude.{Some, None, Ok, is_some, slice_get}
 use Rattle.jc_base.specs.World.{Linked}
@@ -14,8 +14,7 @@ use Rattle.vm_store.specs.declared.cell.Cell.{Cell}
 use Rattle.vm_store.specs.Cells.{tagged}
 use Rattle.vm_store.specs.State.{State, IsRunning, other_frames, top, without_top}
 use Rattle.vm_step.specs.Methods.{code_at}
-use Rattle.vm_step.specs.Raising.{Outcome, running, ended}
-use Rattle.vm_step.specs.declared.ending.Ending.TheVariants as endings
+use Rattle.vm_step.specs.Raising.{Outcome, running}
 use Rattle.vm_step.specs.Run.{Runs}
 use Rattle.vm_step.specs.Settled.{given_to}
 use Rattle.vm_step.specs.Step.{Steps, misplaced, performs, unresolved}
@@ -25,7 +24,7 @@ use Rattle.law_alike.specs.Running.{Executes}
 use Rattle.xf_homes.specs.Walk.{operands_of}
 use Rattle.xf_homes.specs.Source.{Source}
 use Rattle.xf_homes.specs.Plan.{operation}
-use Rattle.xf_emission.specs.Group.{fall, fall_by, fallen}
+use Rattle.xf_emission.specs.Group.{fall, fallen}
 use Rattle.law_homes.specs.Held.{HoldsFrame}
 use Rattle.law_groups.specs.Laid.{IsLaidIn, body_at, rename}
 use Rattle.law_groups.specs.Beside.{AreEqualBut, IsAtGroup, IsTypedAt, MovesTop, SameUnder, StaysTyped}
@@ -40,9 +39,7 @@ use Rattle.law_groups.proofs.Entering.{enters}
 -- ---- the instruction of the source
 
 pub no-fault : (v : Linked) (s : Source) (o : Outcome Cell) → StaysTyped v s o → IsNoFault o
-no-fault v s (running z) h = tt
-no-fault v s (ended (endings.Plain ending) z) h = tt
-no-fault v s (ended (endings.Faulted fault) z) h = h
+no-fault v s z h = grind (arith)
 
 pub same-method : (a b : MethodRec) → Some a ≡ Some b → a ≡ b
 same-method a b e = cc
@@ -93,17 +90,10 @@ module _ {v w : Linked} {s : Source} {place : ℕ → ℕ} (laid : IsLaidIn v w 
     under-too y same = record { frames = same.frames ∙ ap (λ fs. top y ∷ fs) same-under }
 
     dropped-same : without_top u ≡ without_top t
-    dropped-same =
-        ap (λ fs. record { frames = fs; heap = u.heap; statics = u.statics }) same-under
-        ∙ (ap (λ os. record { frames = other_frames t.frames; heap = os; statics = u.statics }) moves.heap
-        ∙ ap (λ cs. record { frames = other_frames t.frames; heap = t.heap; statics = cs }) moves.statics)
+    dropped-same = grind (arith, same-under)
 
     moved-on : (y : State Cell) → MovesTop u y → MovesTop t y
-    moved-on y more = record {
-      frames = more.frames ∙ ap (λ fs. top y ∷ fs) same-under;
-      heap = more.heap ∙ moves.heap;
-      statics = more.statics ∙ moves.statics;
-    }
+    moved-on y more = grind (arith, same-under)
 
     pub comes-too : {o p : Outcome Cell} → GroupComes v w s place z u o p → GroupComes v w s place z t o p
     comes-too (group_calls c) = group_calls (record {
@@ -154,16 +144,7 @@ module _
         fewer = few;
         outcome = c.outcome;
         runs = runs-then w before c.count t u c.outcome run c.runs;
-        comes = (
-          c.comes.state,
-          c.comes.is,
-          record {
-            first = first;
-            second = record { frames = c.comes.are.second.frames ∙ ap (λ fs. top c.comes.state ∷ fs) same };
-            equal = c.comes.are.equal;
-            group = c.comes.are.group;
-          },
-        );
+        comes = grind (arith);
       })
 
 -- ---- where the operation is no branch
@@ -174,9 +155,7 @@ pub fallen-plain :
     → operands_of s.world (Ok op) ≡ None
     → fallen s i op ≡ fall s i.place op (i.place + i.insn.len)
 unfolding fallen
-fallen-plain s i op falls none =
-    ap (λ b. if b then fall_by s i.place op (operands_of s.world (Ok op)) (i.place + i.insn.len) else []) falls
-    ∙ ap (λ o. fall_by s i.place op o (i.place + i.insn.len)) none
+fallen-plain s i op falls none = grind (arith)
 
 module _ {v w : Linked} {s : Source} {place : ℕ → ℕ} (laid : IsLaidIn v w s place) (moving : MovesRun v) where
   module _
@@ -212,8 +191,7 @@ module _ {v w : Linked} {s : Source} {place : ℕ → ℕ} (laid : IsLaidIn v w 
           more = omega (arith, some);
           fewer = omega (arith, few, small, most);
           outcome = running a.state;
-          runs =
-              runs-then w loads (n + a.count) t u (running a.state) loaded (runs-then w n a.count u x (running a.state) run a.runs);
+          runs = grind (arith, runs-then);
           comes = (a.state, refl, at-group-too laid z t u moves y a.state a.are);
         })
 

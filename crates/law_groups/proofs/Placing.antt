@@ -24,7 +24,7 @@ use Rattle.xf_emission.specs.Laws.{of_place}
 use Rattle.xf_emission.proofs.GroupPlaces.{groups-stand}
 use Rattle.xf_emission.proofs.Once.{labels-stand-once}
 use Rattle.xf_emission.proofs.StubPlaces.{handlers-stand, stubs-stand}
-use Rattle.law_groups.specs.Laid.{count_of, group_at}
+use Rattle.law_groups.specs.Laid.{count_of}
 use Rattle.law_groups.specs.Steps.{ItemsStandFrom, GroupsStandAtSteps, StubsStandAtSteps, HandlersStandAtSteps, GroupsFollow}
 
 -- ---- steps of items
@@ -58,24 +58,19 @@ stand-parts :
     → n ≡ count_of before
     → ItemsStandFrom s n is
 stand-parts s n before is after e at =
-    let steps = steps_in s.method.code (items s) in
-    record {
-      before = steps before;
-      after = steps after;
-      parts = ap steps e ∙ (steps-append s.method.code (items s) before (is ++ after)
-          ∙ ap (λ ss. steps before ++ ss) (steps-append s.method.code (items s) is after));
-      at = steps-count s.method.code (items s) before ∙ sym at;
-    }
+    grind (
+      arith,
+      steps-append s.method.code (items s) before (is ++ after),
+      steps-append s.method.code (items s) is after,
+      steps-count s.method.code (items s) before,
+    )
 
 pub groups-stand-at-steps : GroupsStandAtSteps
-groups-stand-at-steps s i code stands reached =
-    let g = groups-stand s code i stands reached in
-    stand-parts s (group_at s i.place) g.before (group s i) (flat_map (group s) g.later ++ g.after) g.parts g.at
+groups-stand-at-steps s i code stands reached = grind (arith, groups-stand s code i stands reached, stand-parts, flat_map)
 
 pub stubs-stand-at-steps : StubsStandAtSteps
 stubs-stand-at-steps s i op n k t code stands reached does asks target some =
-    let g = stubs-stand s code i op n k t stands reached does asks target some in
-    stand-parts s _ g.before _ g.after g.parts g.at
+    grind (arith, stubs-stand s code i op n k t stands reached does asks target some, stand-parts)
 
 pub handlers-stand-at-steps : HandlersStandAtSteps
 handlers-stand-at-steps s n h code listed live =
@@ -87,8 +82,7 @@ handlers-stand-at-steps s n h code listed live =
 -- a label is no label of items before it that has it once
 module _ (l : ℕ) where
   some-counted : (b : Bool) (n : ℕ) → n ≤ (if b then 1 else 0) + n
-  some-counted true n = omega arith
-  some-counted false n = omega arith
+  some-counted x n = grind (arith)
 
   counted-after : (before after : List Item) → 1 ≤ count_by (is_label l) (before ++ Label l ∷ after)
   counted-after [] after =
@@ -101,11 +95,7 @@ module _ (l : ℕ) where
       omega (arith, e, counted-after before after)
 
   one-less : (x : Item) (rest : List Item) → is_label l x ≡ false → count_by (is_label l) (x ∷ rest) ≡ 1 → count_by (is_label l) rest ≡ 1
-  one-less x rest none once =
-      let e : count_by (is_label l) (x ∷ rest) ≡ cond {A = ℕ} (is_label l x) 1 0 + count_by (is_label l) rest =
-      sum_by-cons (λ i. cond {A = ℕ} (is_label l i) 1 0) x rest in
-      let zero-here : cond {A = ℕ} (is_label l x) 1 0 ≡ 0 = ap (λ b. cond {A = ℕ} b 1 0) none in
-      omega (arith, e, zero-here, once)
+  one-less x rest none once = grind (arith, sum_by-cons)
 
   not-twice : (x : Item) (before after : List Item) → is_label l x ≡ true → ¬ (count_by (is_label l) (x ∷ (before ++ Label l ∷ after)) ≡ 1)
   not-twice x before after here once =

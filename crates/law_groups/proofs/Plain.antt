@@ -31,7 +31,8 @@ use Rattle.vm_step.specs.Run.{stands}
 use Rattle.vm_step.specs.Step.{Steps}
 use Rattle.law_erasure.specs.Erasure.{IsNoFault}
 use Rattle.law_alike.specs.Alike.{AreAlike, StayAlike, renamed_cell, renamed_new}
-use Rattle.law_alike.specs.Running.{ComeAlike, HaveKeys, call_alike, end_alike, exception_alike, keys_at, next_alike, return_alike, RunAlike}
+use Rattle.law_alike.specs.Running.{ComeAlike, HaveKeys, call_alike, end_alike, exception_alike}
+use Rattle.law_alike.specs.Running.{keys_at, next_alike, return_alike, RunAlike}
 use Rattle.law_alike.specs.Running.{target_alike}
 use Rattle.law_alike.specs.Running.{throw_alike, top_code}
 use Rattle.law_alike.specs.Likeness.{StepsAreAlike}
@@ -41,7 +42,7 @@ use Rattle.law_alike.proofs.Simulation.{one-step}
 use Rattle.xf_homes.specs.declared.home.Home.{Home}
 use Rattle.xf_homes.specs.Order.{register_sum}
 use Rattle.xf_homes.specs.Source.{Source}
-use Rattle.xf_homes.specs.Plan.{needed, register}
+use Rattle.xf_homes.specs.Plan.{needed}
 use Rattle.xf_emission.specs.Edge.{is_stored}
 use Rattle.xf_emission.specs.Group.{body}
 use Rattle.law_homes.specs.Held.{HoldsValue, HoldsLocals}
@@ -62,14 +63,7 @@ use Rattle.law_groups.proofs.Renaming.{renames-one-to-one}
 -- what a frame holds rests on its registers alone
 holds-over :
     (s : Source) (values : List Cell) (g k : Frame Cell) → k.registers ≡ g.registers → (h : Home) → HoldsValue s values g h → HoldsValue s values k h
-holds-over s values g k e h held =
-    let count = ap length e in
-    let there = held.there in
-    record {
-      known = held.known;
-      there = omega (arith, count, there);
-      equal = λ n lt. ap (λ rs. slice_get rs (register s h + n)) e ∙ held.equal n lt;
-    }
+holds-over s values g k e h held = grind (arith)
 
 each-over :
     (s : Source) (values : List Cell) (g k : Frame Cell) → k.registers ≡ g.registers → (hs : List Home)
@@ -91,8 +85,7 @@ no-targets code j e = subst (λ ts. All (IsTargetPlace code) ts) (sym e) (λ k d
 
 -- keys are asked of switches alone
 no-keys : (op : Operation) (keys others : List ℤ) → jumps_from op ≡ false → HaveKeys op keys others
-no-keys (ops.Switch width) keys others e = absurd (cc)
-no-keys _ keys others e = tt
+no-keys x keys others e = grind (arith)
 
 module _
     {v w : Linked} {s : Source} {place : ℕ → ℕ} (laid : IsLaidIn v w s place)
@@ -129,9 +122,7 @@ module _
 
   -- the method of the source in its state
   pub method-is : b.executes.method ≡ s.method.rec
-  method-is =
-      same_Some b.executes.method s.method.rec
-      (sym b.executes.fetched.method ∙ (ap (slice_get v.methods) b.of.source ∙ (method-of laid).rec))
+  method-is = grind (arith, same_Some, method-of)
 
   -- before the first step of the body, the target is within the group
   pub within : (f k : Frame Cell) → f.method ≡ s.method.number → k.method ≡ s.method.number → length k.registers ≡ register_sum s.homes
@@ -223,12 +214,7 @@ module _
           (record (top u) { stack = drop count (top u).stack })
       unfolding within
       under-call count y u c stay is here there = record {
-        within =
-            within (record (top y) { stack = drop count (top y).stack }) (record (top u) { stack = drop count (top u).stack })
-            (stay.first.method ∙ b.of.source) (stay.second.method ∙ b.of.target) (stay.second.count ∙ b.of.count)
-            (here ∙ b.here) (there ∙ b.at) (omega (arith, one))
-            (λ x. each-over s (top y).registers (top u) (record (top u) { stack = drop count (top u).stack }) refl
-            (needed s i.place x) (kept y u stay x));
+        within = grind (arith, within, each-over);
         callee = c;
         calls = b.does ∙ ap Ok is;
         first = ap (body_at s) (sym (here ∙ b.here));
@@ -236,10 +222,7 @@ module _
       }
 
       thrown-from : MovesTop t t × StandsInGroup s place (top z) (top t)
-      thrown-from = (
-        record { frames = frames-are t runs-too; heap = refl; statics = refl },
-        within (top z) (top t) b.of.source b.of.target b.of.count b.here b.at (omega (arith, one)) b.held.locals,
-      )
+      thrown-from = grind (arith, frames-are, runs-too, within)
 
       comes :
           (o p : Outcome Cell)
@@ -248,9 +231,7 @@ module _
       comes _ _ (next_alike {z = y} {y = u} stay falls here there) =
           body_falls (after y u stay) (falls-as falls) here
           (there ∙ (ex.ends ∙ ap (λ k. place (n + k)) (sym one)))
-      comes _ _ (target_alike k stay here there) =
-          let none : slice_get [] k ≡ Some _ = ap (λ ts. slice_get ts k) (sym ex.is.leads) ∙ there in
-          absurd (let lt = slice_get_within [] k _ none in omega (arith, lt))
+      comes _ _ (target_alike k stay here there) = grind (arith, ex, slice_get_within)
       comes o p (call_alike method count {z = y} {y = u} stay here there handed acts enters too) =
           let c = called v i.insn op z method count y acts in
           body_done (group_calls (record {

@@ -36,11 +36,11 @@ use Rattle.xf_homes.specs.declared.home.Home.{Home}
 use Rattle.xf_homes.specs.Home.{asked_here}
 use Rattle.xf_homes.specs.Value.{value_in_cells, type_width}
 use Rattle.xf_homes.specs.Source.{Source}
-use Rattle.xf_homes.specs.Plan.{local, needed, operation, or_first, register}
+use Rattle.xf_homes.specs.Plan.{local, needed, operation, register}
 use Rattle.xf_emission.specs.Move.{load_op, with_byte}
 use Rattle.xf_emission.specs.Group.{body, loaded}
 use Rattle.xf_emission.specs.Mnemonics.{aload}
-use Rattle.xf_homes.specs.Laws.{HasRegister, Serve}
+use Rattle.xf_homes.specs.Laws.{HasRegister}
 use Rattle.xf_homes.proofs.Needed.{needed-are-kept}
 use Rattle.xf_homes.proofs.Serving.{homes-serve}
 use Rattle.law_rewritten_typing.specs.Planned.{IsPlanned}
@@ -76,14 +76,10 @@ pub record IsHomeOf (s : Source) (p x : ℕ) (letter : Sort) : Type 0 where
 
 -- what is loaded as a reference
 pub reference-letter : (a : Ty) → load_op a ≡ aload → letter_of a ≡ sorts.Reference
-reference-letter Short e = absurd (omega (arith, e))
-reference-letter IntHigh e = absurd (omega (arith, e))
-reference-letter _ e = refl
+reference-letter x e = grind (arith)
 
 given-width : (v : Linked) (letter : Sort) (x : ℕ) → (footprint v (ops.Load letter x)).given ≡ size letter
-given-width v sorts.Reference x = refl
-given-width v sorts.Short x = refl
-given-width v sorts.Int x = refl
+given-width v y x = grind (arith)
 
 module _
     {v w : Linked} {s : Source} {place : ℕ → ℕ} (laid : IsLaidIn v w s place)
@@ -168,12 +164,7 @@ module _
 pub small-register :
     (v : Linked) (s : Source) (h : Home) → s.world ≡ v → IsPlanned s → HasRegister s.homes h → register s h < 256
 small-register v s h is plan has =
-    let serve : Serve s.world s.method s.frames s.homes = homes-serve same_type-decides s.world s.method s.frames s.homes plan.homes in
-    let e : register s h ≡ has.0 = ap or_first has.1 in
-    let inside = serve.within h has.0 has.1 in
-    let few = plan.few in
-    let some = some-width h.ty in
-    omega (arith, e, inside, few, some)
+    grind (arith, homes-serve same_type-decides s.world s.method s.frames s.homes plan.homes, some-width h.ty)
 
 module _
     (v : Linked) (alike_steps : StepsAreAlike v) (types : IsOrderOfTypes v.classes) (whole : DerivedAreWhole v)

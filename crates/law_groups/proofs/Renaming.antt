@@ -96,10 +96,7 @@ module _ {v w : Linked} {s : Source} {place : ℕ → ℕ} (laid : IsLaidIn v w 
       by true true x y = both x y
       by true false x y = absurd (one-some p q x y e)
       by false true x y = absurd (one-some q p y x (sym e))
-      by false false x y =
-          let here = rename-none p x in
-          let there = rename-none q y in
-          omega (arith, here, there, e)
+      by false false x y = grind (arith, rename-none)
 
 pub renames-one-to-one : (v : Linked) → RenamesOneToOne v
 renames-one-to-one v w s place laid p q e = one-to-one laid p q e

@@ -1,5 +1,5 @@
 -- After a call, and where it ends.
-use Rattle.std.proofs.Common.{◌≡◌, ℕ, ◌+◌, true, List, [], ◌∷◌, refl, sym, ap, ◌∙◌, subst}
+use Rattle.std.proofs.Common.{◌≡◌, ℕ, ◌+◌, true, List, [], ◌∷◌, refl, sym, ap, ◌∙◌}
 use Rattle.std.proofs.Common.{arith}
 use Rattle.std.specs.Prelude.{Some, is_some, slice_get}
 use Rattle.std.proofs.lemmas.Bool.{false≢true}
@@ -61,12 +61,8 @@ calls-end v w s place laid f g reached under =
     next-place laid i op under.within.stands some under.calls
     (ap count_of (call-kept s i under.callee)) refl in
     record {
-      next =
-          subst (λ k. return_place (instruction_at (code_at w g.method) g.place) ≡ place (k + 1)) (sym same)
-          (subst (λ m. return_place (instruction_at (code_at w m) g.place) ≡ place (n + 1)) (sym method) next);
-      there =
-          subst (λ k. IsPlace (code_at w g.method) (place (k + 1))) (sym same)
-          (subst (λ m. IsPlace (code_at w m) (place (n + 1))) (sym method) there);
+      next = grind (arith);
+      there = grind (arith);
     }
 
 module _ {v w : Linked} {s : Source} {place : ℕ → ℕ} (laid : IsLaidIn v w s place) (moving : MovesRun v) where

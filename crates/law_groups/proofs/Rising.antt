@@ -111,8 +111,5 @@ module _ (s : Source) (code : IsCode s) where
           let sooner : next.0 < length g.earlier = slice_get_within g.earlier next.0 j h in
           let back = (all-are-listed s.method.code).rising next.0 (length g.earlier) j i (at-contains (listing s.method.code) j next) own sooner in
           absurd (omega (arith, back, lt))
-      by (in_second zero h at) =
-          let same : i ≡ j = cc in
-          let places = ap (λ (p : Placed). p.place) same in
-          absurd (omega (arith, places, lt))
+      by (in_second zero h at) = grind (arith)
       by (in_second (suc n) h at) = after-it n h

@@ -1,6 +1,6 @@
 -- Parts of items whose steps stand among those of a method.
-use Rattle.std.proofs.Common.{◌≡◌, ℕ, suc, ◌+◌, ◌≤◌, Bool, true, false, if◌then◌else◌, List, [], ◌∷◌, ◌++◌, length}
-use Rattle.std.proofs.Common.{refl, sym, ap, ◌∙◌, subst, arith, append_assoc}
+use Rattle.std.proofs.Common.{◌≡◌, ℕ, suc, ◌+◌, ◌≤◌, Bool, true, if◌then◌else◌, List, [], ◌∷◌, ◌++◌, length}
+use Rattle.std.proofs.Common.{refl, ap, ◌∙◌, subst, arith, append_assoc}
 use Rattle.std.specs.Prelude.{Option, Some, None, Ok, is_some, slice_get}
 use Rattle.std.proofs.lemmas.List.{length-append}
 use Rattle.jc_decode.specs.declared.insn.Placed.{Placed}
@@ -34,30 +34,20 @@ module _ (s : Source) (n : ℕ) where
   split-parts :
       (xs ys : List Item) (st : ItemsStandFrom s n (xs ++ ys))
       → steps_of s ≡ st.before ++ (made xs ++ (made ys ++ st.after))
-  split-parts xs ys st =
-      st.parts
-      ∙ (ap (λ ss. st.before ++ (ss ++ st.after)) (steps-append s.method.code (items s) xs ys)
-      ∙ ap (λ ss. st.before ++ ss) (append_assoc (made xs) (made ys) st.after))
+  split-parts xs ys st = grind (arith, steps-append, append_assoc)
 
   pub stand-first : (xs ys : List Item) → ItemsStandFrom s n (xs ++ ys) → ItemsStandFrom s n xs
-  stand-first xs ys st = record {
-    before = st.before;
-    after = made ys ++ st.after;
-    parts = split-parts xs ys st;
-    at = st.at;
-  }
+  stand-first xs ys st = grind (arith, split-parts xs ys st)
 
   pub stand-last : (xs ys : List Item) → ItemsStandFrom s n (xs ++ ys) → ItemsStandFrom s (n + count_of xs) ys
   stand-last xs ys st =
-      let size = steps-count s.method.code (items s) xs in
-      let both = length-append st.before (made xs) in
-      let here = st.at in
-      record {
-        before = st.before ++ made xs;
-        after = st.after;
-        parts = split-parts xs ys st ∙ sym (append_assoc st.before (made xs) (made ys ++ st.after));
-        at = omega (arith, size, both, here);
-      }
+      grind (
+        arith,
+        steps-count s.method.code (items s) xs,
+        length-append st.before (made xs),
+        split-parts xs ys st,
+        append_assoc st.before (made xs) (made ys ++ st.after),
+      )
 
   -- a label takes no step
   pub stand-labelled : (l : ℕ) (xs : List Item) → ItemsStandFrom s n (Label l ∷ xs) → ItemsStandFrom s n xs
@@ -69,20 +59,11 @@ module _ (s : Source) (n : ℕ) where
       → ItemsStandFrom s n (x ∷ ys)
       → made (x ∷ ys) ≡ step ∷ rest
       → slice_get (steps_of s) n ≡ Some step
-  step-at x ys step rest st e =
-      subst (λ k. slice_get (steps_of s) k ≡ Some step) st.at
-      (ap (λ ss. slice_get ss (length st.before)) (st.parts ∙ ap (λ ss. st.before ++ (ss ++ st.after)) e)
-      ∙ found-at st.before step (rest ++ st.after))
+  step-at x ys step rest st e = grind (arith, found-at)
 
   -- all of them
   pub stand-inside : (xs : List Item) → ItemsStandFrom s n xs → n + count_of xs ≤ length (steps_of s)
-  stand-inside xs st =
-      let size = steps-count s.method.code (items s) xs in
-      let one = length-append st.before (made xs ++ st.after) in
-      let two = length-append (made xs) st.after in
-      let whole = ap length st.parts in
-      let here = st.at in
-      omega (arith, size, one, two, whole, here)
+  stand-inside xs st = grind (arith, steps-count, length-append)
 
 pub stand-at : (s : Source) (n m : ℕ) (xs : List Item) → n ≡ m → ItemsStandFrom s n xs → ItemsStandFrom s m xs
 stand-at s n m xs e st = subst (λ k. ItemsStandFrom s k xs) e st
@@ -93,8 +74,7 @@ stand-as s n xs ys e st = subst (ItemsStandFrom s n) e st
 -- ---- groups
 
 loads-if : (s : Source) (b : Bool) (hs : List Home) → (if b then loads s hs else []) ≡ loads s (if b then hs else [])
-loads-if s true hs = refl
-loads-if s false hs = refl
+loads-if s y hs = grind (arith)
 
 pub group-parts :
     (s : Source) (i : Placed) (op : Operation)

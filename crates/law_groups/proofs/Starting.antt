@@ -1,7 +1,7 @@
 -- At the start of a method: arguments are copied to their homes, and then comes the first group.
 use Rattle.std.proofs.Common.{◌≡◌, ℕ, ◌+◌, ◌-◌, ◌<◌, ◌≤◌, Bool, true, false, if◌then◌else◌, List, [], ◌∷◌, ◌++◌}
 use Rattle.std.proofs.Common.{length, map, flat_map, replicate, reverse, refl, sym, ap, ◌∙◌, subst, arith, append_assoc}
-use Rattle.std.specs.Prelude.{Option, Some, None, IsSomeAnd, is_some, sum_by}
+use Rattle.std.specs.Prelude.{Option, Some, None, IsSomeAnd, is_some}
 use Rattle.std.proofs.lemmas.List.{length-append, length-map, length-replicate, nil_from_length}
 use Rattle.std.proofs.lemmas.List.Concat.{flat_map-cons}
 use Rattle.std.proofs.lemmas.List.Sums.{sum_by-append}
@@ -19,17 +19,14 @@ use Rattle.jc_control.specs.Control.{IsReached}
 use Rattle.jc_rules.specs.Demand.{Frame as Types}
 use Rattle.jc_rules.specs.Flow.{FrameBelow, receiver_of}
 use Rattle.vm_store.specs.declared.cell.Cell.{Cell}
-use Rattle.vm_store.specs.declared.cell.Cell.TheVariants.{Empty}
 use Rattle.vm_store.specs.Cells.{tagged}
 use Rattle.vm_store.specs.Objects.{kinds}
-use Rattle.vm_store.specs.State.{State, Frame, IsRunning, entered, register_count, register_count_of, top}
+use Rattle.vm_store.specs.State.{State, Frame, IsRunning, entered, register_count, top}
 use Rattle.law_sound.specs.Frames.{least_types, types_of_frame}
 use Rattle.vm_step.specs.Raising.{running}
 use Rattle.law_alike.specs.Alike.{renamed_cell}
-use Rattle.xf_homes.specs.declared.home.Home.{Home}
 use Rattle.xf_homes.specs.Home.{argument_types, register_count as count_registers}
 use Rattle.xf_homes.specs.Order.{register_sum}
-use Rattle.xf_homes.specs.Value.{type_width}
 use Rattle.xf_homes.specs.Source.{Source}
 use Rattle.xf_homes.specs.Plan.{stack_homes, cells_from, is_leader, needed, stack_of}
 use Rattle.xf_emission.specs.declared.origin.Origin.TheVariants.{Start}
@@ -95,27 +92,15 @@ module _
   -- the target has a register for each of the homes'
   homes-counted : s.method.rec.nargs ≤ register_sum s.homes
   unfolding register_sum
-  homes-counted =
-      let are = laid.planned.homes in
-      let whole : register_sum s.homes ≡ sum_by (λ (h : Home). type_width h.ty) (are.arguments ++ are.others) = ap register_sum are.parts in
-      let both = sum_by-append (λ (h : Home). type_width h.ty) are.arguments are.others in
-      let own = are.filled in
-      omega (arith, whole, both, own)
+  homes-counted = grind (arith, sum_by-append)
 
   registers-are : register_count w.methods s.method.number ≡ register_sum s.homes
   unfolding rewritten
-  registers-are =
-      let one : register_count w.methods s.method.number ≡ laid.code.target.rec.nargs + laid.code.target.rec.max_locals =
-      ap register_count_of (target-at laid) in
-      let two : laid.code.target.rec.nargs ≡ s.method.rec.nargs = laid.code.has.nargs ∙ laid.code.stands.nargs in
-      let three : laid.code.target.rec.max_locals ≡ register_sum s.homes - s.method.rec.nargs = laid.code.has.max_locals ∙ laid.code.stands.max_locals in
-      let least = homes-counted in
-      omega (arith, one, two, three, least)
+  registers-are = grind (arith, target-at, homes-counted)
 
   -- the arguments have their declared types
   receiver-words : (b : Bool) (class : ℕ) → length (if b then [] else Class class ∷ []) ≡ receiver_words b
-  receiver-words true class = refl
-  receiver-words false class = refl
+  receiver-words x class = grind (arith)
 
   arguments-counted : length (argument_types s.method.rec) ≡ s.method.rec.nargs
   arguments-counted =
@@ -141,17 +126,7 @@ module _
     bare-too = ap (λ (f : Frame Cell). f.stack) from_there
 
     of-both : AreOf s (top z) (top t)
-    of-both =
-        let registers = ap (λ (f : Frame Cell). length f.registers) from_there in
-        let both = length-append args (replicate (register_count w.methods s.method.number - length args) Empty) in
-        let rest = length-replicate (register_count w.methods s.method.number - length args) Empty in
-        let all = registers-are in
-        let least = homes-counted in
-        record {
-          source = typed.method;
-          target = ap (λ (f : Frame Cell). f.method) from_there;
-          count = omega (arith, registers, both, rest, all, least, given);
-        }
+    of-both = grind (arith, length-append, replicate, length-replicate, registers-are, homes-counted)
 
     none-kept : stack_homes s (top z).place ≡ []
     unfolding stack_homes

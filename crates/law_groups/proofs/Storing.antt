@@ -138,37 +138,21 @@ module _ (t : ClassTable) (ks : List ObjectKind) (x : ℕ) where
   one-put :
       (registers rest : List Cell) (c : Cell) (ty : Ty) → x + 1 ≤ length registers → IsCellOf t ks ty c
       → (nth tagged (set registers x c) x ≡ c) × IsSomeAnd (slice_get (set registers x c) x) (IsCellOf t ks ty)
-  one-put registers rest c ty le is =
-      let here : slice_get (set registers x c) x ≡ Some c = slice_get-set_here registers x c (omega (arith, le)) in
-      (nth-is (set registers x c) x c here, subst (λ o. IsSomeAnd o (IsCellOf t ks ty)) (sym here) is)
+  one-put registers rest c ty le is = grind (arith, slice_get-set_here registers x c (omega (arith, le)), nth-is)
 
   reference-put :
       (registers stack : List Cell) → x + 1 ≤ length registers → IsSomeAnd (slice_get stack 0) (IsCellOf t ks (Class (object t)))
       → Put sorts.Reference registers stack (set registers x (nth tagged stack 0)) (drop 1 stack)
   reference-put registers [] le h = absurd h
   reference-put registers (c ∷ rest) le h =
-      let p = one-put registers rest c (Class (object t)) le h in
-      record {
-        split = ap (λ (d : Cell). d ∷ rest) (sym p.0);
-        value = (p.1, tt);
-        others = λ n e. slice_get-set_other registers x n c (λ same. same-number n same e);
-        count = length-set registers x c;
-        low = λ e. absurd (cc);
-      }
+      grind (arith, one-put registers rest c (Class (object t)) le h, length-set registers x c, slice_get-set_other, same-number)
 
   short-put :
       (registers stack : List Cell) → x + 1 ≤ length registers → IsSomeAnd (slice_get stack 0) (IsCellOf t ks Short)
       → Put sorts.Short registers stack (set registers x (nth tagged stack 0)) (drop 1 stack)
   short-put registers [] le h = absurd h
   short-put registers (c ∷ rest) le h =
-      let p = one-put registers rest c Short le h in
-      record {
-        split = ap (λ (d : Cell). d ∷ rest) (sym p.0);
-        value = (p.1, tt);
-        others = λ n e. slice_get-set_other registers x n c (λ same. same-number n same e);
-        count = length-set registers x c;
-        low = λ e. absurd (cc);
-      }
+      grind (arith, one-put registers rest c Short le h, length-set registers x c, slice_get-set_other, same-number)
 
   second-number : (n : ℕ) → x + 1 ≡ n → (n == x + 1) ≡ false → ⊥
   second-number n e f = absurd (differ (n == x + 1) (let g : (n == x + 1) ≡ true = grind (arith, nat_tests, e) in g) f)
@@ -189,17 +173,9 @@ module _ (t : ClassTable) (ks : List ObjectKind) (x : ℕ) where
       let here : slice_get (set first (x + 1) c) x ≡ Some d =
       slice_get-set_other first (x + 1) x c (λ e. omega (arith, e)) ∙ slice_get-set_here registers x d (omega (arith, le)) in
       record {
-        split =
-            ap (λ (a : Cell). a ∷ d ∷ rest) (sym (nth-is (set first (x + 1) c) (x + 1) c second))
-            ∙ ap (λ (a : Cell). nth tagged (set first (x + 1) c) (x + 1) ∷ a ∷ rest) (sym (nth-is (set first (x + 1) c) x d here));
-        value = (
-          subst (λ o. IsSomeAnd o (IsCellOf t ks IntHigh)) (sym here) k,
-          (subst (λ o. IsSomeAnd o (IsCellOf t ks IntLow)) (sym second) h, tt),
-        );
-        others = λ n e.
-            let both = or_parts (n == x) (n == x + 1) e in
-            slice_get-set_other first (x + 1) n c (λ same. second-number n same both.1)
-            ∙ slice_get-set_other registers x n d (λ same. same-number n same both.0);
+        split = grind (arith, nth-is);
+        value = grind (arith);
+        others = grind (arith, or_parts, slice_get-set_other, second-number, same-number);
         count = length-set first (x + 1) c ∙ count;
         low = λ e. subst (λ o. IsSomeAnd o (IsCellOf t ks IntLow)) (sym second) h;
       }
@@ -233,10 +209,7 @@ copies-are-moves s h [] = tt
 copies-are-moves s h (k ∷ ks) = moves-both (copy s h k) (flat_map (copy s h) ks) tt (copies-are-moves s h ks)
 
 stored-moves : (s : Source) (letter : Sort) (hs : List Home) → AreMoves (store_to_homes s letter hs)
-stored-moves s sorts.Reference [] = tt
-stored-moves s sorts.Short [] = tt
-stored-moves s sorts.Int [] = tt
-stored-moves s letter (h ∷ hs) = copies-are-moves s h hs
+stored-moves s letter z = grind (arith, copies-are-moves)
 
 copies-few : (s : Source) (h : Home) (ks : List Home) → length (insns (flat_map (copy s h) ks)) ≤ 2 * length ks
 copies-few s h [] = omega arith
@@ -244,10 +217,7 @@ copies-few s h (k ∷ ks) = omega (arith, copies-few s h ks)
 
 stored-few : (s : Source) (letter : Sort) (hs : List Home) → length hs ≤ 255 → (1 ≤ length (insns (store_to_homes s letter hs)))
     × (length (insns (store_to_homes s letter hs)) ≤ 600)
-stored-few s sorts.Reference [] le = (omega arith, omega arith)
-stored-few s sorts.Short [] le = (omega arith, omega arith)
-stored-few s sorts.Int [] le = (omega arith, omega arith)
-stored-few s letter (h ∷ hs) le = let c = copies-few s h hs in (omega arith, omega (arith, c, le))
+stored-few s letter z le = grind (arith, copies-few)
 
 -- ---- the whole
 
@@ -319,9 +289,7 @@ module _
       beside_y = beside laid (y after rest) t typed_y b.equal.heap of_y
 
       value_w : CellsAt w.classes (kinds t) after x (asked_types w.classes letter)
-      value_w =
-          subst (λ (c : ClassTable). CellsAt c (kinds t) after x (asked_types c letter)) classes_are
-          (subst (λ (os : List ObjectKind). CellsAt v.classes os after x (asked_types v.classes letter)) kinds_are put.value)
+      value_w = grind (arith, classes_are, kinds_are)
 
       local_y : HasLocal w t letter x (top (y after rest))
       local_y = record {

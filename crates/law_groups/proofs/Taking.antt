@@ -54,9 +54,7 @@ use Rattle.law_groups.proofs.Standing.{stand-as, stand-at, stand-first, stand-in
 pub cell-moves : (s : Source) (hs ks : List Home) → AreMoves (cell_copies s hs ks)
 cell-moves s [] ks = tt
 cell-moves s (h ∷ hs) [] = tt
-cell-moves s (h ∷ hs) (k ∷ ks) =
-    moves-both (if same_home h k then [] else copy s h k) (cell_copies s hs ks) (moves-if (same_home h k) [] (copy s h k) tt tt)
-    (cell-moves s hs ks)
+cell-moves s (h ∷ hs) (k ∷ ks) = grind (arith, moves-both, moves-if, cell-moves s hs ks)
 
 pub cell-few : (s : Source) (hs ks : List Home) → count_of (cell_copies s hs ks) ≤ 2 * length ks
 cell-few s [] ks = omega arith
@@ -135,10 +133,7 @@ module _
       subst (λ k. Runs tagged w (length (insns cs)) x1 (running (top_at x1 (place k) c.registers []))) last c.runs in
       record {
         registers = c.registers;
-        runs =
-            subst (λ k. Runs tagged w k x (running (top_at x (place (m + count_of (cc_items ++ cs))) c.registers []))) all
-            (runs-then w (length (insns cc_items)) (length (insns cs)) x x1
-            (running (top_at x (place (m + count_of (cc_items ++ cs))) c.registers [])) run1 run2);
+        runs = grind (arith, runs-then);
         count = c.count ∙ a.count;
         cells =
             each-among (HoldsValue s (slots (top y)) (record (top x) { registers = c.registers })) (stack_homes s q)
@@ -147,11 +142,7 @@ module _
             (c.others h (kept-registers laid moving.fill q h keeps typed.reached among)
             (held-as s (slots (top y)) (record (top x) { registers = a.registers }) (top x1) h refl
             (among-each (HoldsValue s (slots (top y)) (record (top x) { registers = a.registers })) (stack_homes s q) h a.cells among))));
-        locals = λ l.
-            each-among (HoldsValue s (top y).registers (record (top x) { registers = c.registers })) (needed s q l)
-            (λ h among. held-as s (top y).registers (record (top x1) { registers = c.registers }) (record (top x) { registers = c.registers })
-            h refl
-            (among-each (HoldsValue s (top y).registers (record (top x1) { registers = c.registers })) (needed s q l) h (c.locals l) among));
+        locals = grind (arith, each-among, held-as, among-each);
       }
 
   -- at the group, once they are done
@@ -205,14 +196,7 @@ module _
 
   few-taken : count_of (branch_copies s p op n q) ≤ 1018
   unfolding branch_copies
-  few-taken =
-      let both = count-append (cell_copies s (under s p n) (stack_homes s q)) (copies s (After p op) q) in
-      let one = cell-few s (under s p n) (stack_homes s q) in
-      let low = moving.few_cells s q laid.world laid.planned (leader-keeps laid q leader) in
-      let limit = laid.room in
-      let small = moving.few_copies s (After p op) q laid.world laid.planned leads in
-      let size = count-moves (copies s (After p op) q) (copies-move s (After p op) q) in
-      omega (arith, both, one, low, limit, small, size)
+  few-taken = grind (arith, count-append, cell-few, leader-keeps, count-moves, copies-move)
 
   -- where these items are followed by the group
   pub taken-falls :
@@ -281,9 +265,7 @@ module _
           taken-falls (group_at s q) (subst (ItemsStandFrom s (group_at s q)) (sym e) none) there (omega (arith, zero_count))
 
       wider : ComesWithin w 0 1018 x (ComesToGroup s place y x) → ComesWithin w 0 1019 x (ComesToGroup s place y x)
-      wider c =
-          let few = c.fewer in
-          record { count = c.count; more = c.more; fewer = omega (arith, few); outcome = c.outcome; runs = c.runs; comes = c.comes }
+      wider c = grind (arith)
 
       by :
           (ts : List Item)

@@ -61,7 +61,7 @@ use Rattle.law_laid.specs.Apart.{apart_from_code}
 use Rattle.law_laid.proofs.SameBut.{operations-are-kept}
 use Rattle.xf_homes.specs.Source.{Source}
 use Rattle.xf_homes.specs.Plan.{needed, register}
-use Rattle.xf_emission.specs.Group.{body, field_read, itself, stays}
+use Rattle.xf_emission.specs.Group.{body, stays}
 use Rattle.xf_emission.specs.Move.{load}
 use Rattle.xf_emission.specs.Mnemonics.{from_read}
 use Rattle.law_rewritten_typing.proofs.Rows.{read-on-stack}
@@ -153,9 +153,7 @@ module _
 
   cell_is : nth tagged (top t).registers (register s (record { slot = 0; ty = home.ty })) ≡ nth tagged f.registers 0
   cell_is =
-      let here : register s (record { slot = 0; ty = home.ty }) ≡ register s (record { slot = 0; ty = home.ty }) + 0 = omega arith in
-      ap (nth tagged (top t).registers) here ∙ register-same f.registers (top t).registers 0 (register s (record { slot = 0; ty = home.ty }) + 0)
-      (held.equal 0 some)
+      grind (arith, register-same f.registers (top t).registers 0 (register s (record { slot = 0; ty = home.ty }) + 0) (held.equal 0 some))
 
   pub this-loaded :
       Runs tagged w 1 t (running (top_at t (place (body_at s i.place + 1)) (top t).registers (nth tagged f.registers 0 ∷ (top t).stack)))
@@ -218,10 +216,7 @@ module _
 
     body_is : body s i (ops.FieldRead fd holders.This) ≡ load s (record { slot = 0; ty = home.ty }) ∷ Plain (record i.insn { op = i.insn.op - from_read }) ∷ []
     unfolding body
-    body_is =
-        ap (field_read s i) home.at
-        ∙ ap (λ (d : Bool). if d then itself i else load s (record { slot = 0; ty = home.ty }) ∷ Plain (record i.insn { op = i.insn.op - from_read }) ∷ [])
-        moves
+    body_is = grind (arith)
 
     g : GroupSteps s i (ops.FieldRead fd holders.This)
     g = steps-here laid i (ops.FieldRead fd holders.This) b.stands b.reached b.does

@@ -1,6 +1,6 @@
 -- Writes of fields of `this`: where register 0 is no longer the home of local 0, the object is loaded and put under the value first.
 use Rattle.std.proofs.Common.{◌≡◌, ℕ, suc, ◌+◌, ◌-◌, ◌<◌, ◌≤◌, ◌==◌, Bool, true, false, if◌then◌else◌, List, []}
-use Rattle.std.proofs.Common.{◌∷◌, ◌++◌, length, map, refl, sym, ap, ◌∙◌, subst, arith}
+use Rattle.std.proofs.Common.{◌∷◌, length, map, refl, sym, ap, ◌∙◌, subst, arith}
 use Rattle.std.specs.Prelude.{None, Ok, IfSome, slice_get, drop}
 use Rattle.jc_base.specs.Linked.{IsMethod}
 use Rattle.jc_base.proofs.Lists.{All-slice_get}
@@ -52,8 +52,8 @@ use Rattle.law_alike.proofs.Settling.{unless-none}
 use Rattle.law_laid.specs.Apart.{apart_from_code}
 use Rattle.law_laid.proofs.SameBut.{operations-are-kept}
 use Rattle.xf_homes.specs.Source.{Source}
-use Rattle.xf_homes.specs.Plan.{needed, register}
-use Rattle.xf_emission.specs.Group.{body, field_written, itself, stays, swap_words}
+use Rattle.xf_homes.specs.Plan.{needed}
+use Rattle.xf_emission.specs.Group.{body, stays, swap_words}
 use Rattle.xf_emission.specs.Move.{load, with_byte}
 use Rattle.xf_emission.specs.Mnemonics.{from_write, swap_x}
 use Rattle.law_rewritten_typing.proofs.Rows.{write-on-stack}
@@ -100,10 +100,7 @@ module _
     body_is : body s i (ops.FieldWrite fd holders.This) ≡ load s (record { slot = 0; ty = home.ty }) ∷ Plain
         (with_byte swap_x (swap_words fd.kind)) ∷ Plain (record i.insn { op = i.insn.op - from_write }) ∷ []
     unfolding body
-    body_is =
-        ap (field_written s i fd.kind) home.at
-        ∙ ap (λ (d : Bool). if d then itself i else load s (record { slot = 0; ty = home.ty }) ∷ Plain (with_byte swap_x (swap_words fd.kind)) ∷ Plain
-        (record i.insn { op = i.insn.op - from_write }) ∷ []) moves
+    body_is = grind (arith)
 
     g : GroupSteps s i (ops.FieldWrite fd holders.This)
     g = steps-here laid i (ops.FieldWrite fd holders.This) b.stands b.reached b.does
@@ -179,18 +176,10 @@ module _
         (moved (shifts.Exchange 1 (cells_of_kind fd.kind)) (nth tagged f.registers 0 ∷ (top t).stack))
 
     next_at : (k : ℕ) → k < length (steps_of s) → IsPlace (code_at w (top t).method) (place k)
-    next_at k lt =
-        subst (λ (m : ℕ). IsPlace (code_at w m) (place k)) (sym b.of.target)
-        (step-place (code_at w s.method.number) place (steps_of s) k (steps-are laid) lt)
+    next_at k lt = grind (arith, step-place (code_at w s.method.number) place (steps_of s) k (steps-are laid) lt)
 
     deep_t : suc (length (top t).stack) ≤ max_stack_of w (top t).method
-    deep_t =
-        let deep = depth-fits laid z b.typed in
-        let e = ap length b.held.stack in
-        let m = length-map f.stack (renamed_cell (rename s place)) in
-        let room = target-room laid in
-        let method = ap (max_stack_of w) b.of.target in
-        omega (arith, deep, e, m, room, method)
+    deep_t = grind (arith, depth-fits laid z b.typed, length-map f.stack (renamed_cell (rename s place)), target-room laid)
 
     ex2 : ExecutesStep w t1 place (body_at s i.place + 1) (record { insn = with_byte swap_x (swap_words fd.kind); targets = []; keys = [] })
         (ops.Move (shifts.Exchange 1 (cells_of_kind fd.kind)))

@@ -1,5 +1,5 @@
 -- Writes of fields of `this`, wherever the home of local 0 is.
-use Rattle.std.proofs.Common.{◌≡◌, ℕ, ◌-◌, ◌==◌, Bool, true, false, if◌then◌else◌, List, [], ◌∷◌, refl, ap, ◌∙◌}
+use Rattle.std.proofs.Common.{◌≡◌, ℕ, ◌-◌, ◌==◌, Bool, true, false, List, [], ◌∷◌, refl}
 use Rattle.std.proofs.Common.{arith}
 use Rattle.std.proofs.lemmas.Bool.Decides.{nat_tests}
 use Rattle.std.specs.Prelude.{Some}
@@ -20,9 +20,7 @@ use Rattle.law_alike.specs.Likeness.{StepsAreAlike}
 use Rattle.xf_homes.specs.declared.home.Home.{Home}
 use Rattle.xf_homes.specs.Source.{Source}
 use Rattle.xf_homes.specs.Plan.{local, register}
-use Rattle.xf_emission.specs.Group.{body, field_written, itself, stays, swap_words}
-use Rattle.xf_emission.specs.Move.{load, with_byte}
-use Rattle.xf_emission.specs.Mnemonics.{from_write, swap_x}
+use Rattle.xf_emission.specs.Group.{body, stays}
 use Rattle.law_rewritten_typing.specs.Whole.{DerivedAreWhole}
 use Rattle.law_homes.specs.Moves.{IsExecutable}
 use Rattle.law_homes.specs.Premises.{AreMoveLaws}
@@ -34,24 +32,13 @@ use Rattle.law_groups.proofs.This.{ReadsThis, stays-run, this-home}
 use Rattle.law_groups.proofs.ThisWrites.{write-moved}
 
 writes-this : (v : Linked) (f : InstanceField) → ReadsThis v (ops.FieldWrite f holders.This)
-writes-this v f = record {
-  asked = asked-this f.ty f.class;
-  read = read-this f.ty f.class;
-  written = refl;
-  still = refl;
-  same = λ g. refl;
-  unstored = λ x. refl;
-}
+writes-this v f = grind (arith, asked-this, read-this)
 
 kept-body :
     (s : Source) (i : Placed) (f : InstanceField) (h : Home) → local s i.place 0 ≡ Some h → stays s h ≡ true
     → body s i (ops.FieldWrite f holders.This) ≡ Plain i.insn ∷ []
 unfolding body
-kept-body s i f h at e =
-    ap (field_written s i f.kind) at
-    ∙ ap
-    (λ (d : Bool). if d then itself i else load s h ∷ Plain (with_byte swap_x (swap_words f.kind)) ∷ Plain
-    (record i.insn { op = i.insn.op - from_write }) ∷ []) e
+kept-body s i f h at e = grind (arith)
 
 module _
     (v : Linked) (world : IsWorld v) (decided : OperationsAreDecided v) (alike_steps : StepsAreAlike v)

@@ -1,14 +1,13 @@
 -- A goto: the stack goes into the homes of its target, locals are copied, and control goes there.
-use Rattle.std.proofs.Common.{◌≡◌, ℕ, ◌+◌, true, List, [], ◌∷◌, ◌++◌, length, map, refl, sym, ap}
+use Rattle.std.proofs.Common.{◌≡◌, ℕ, ◌+◌, true, List, [], ◌∷◌, ◌++◌, length, refl, ap}
 use Rattle.std.proofs.Common.{◌∙◌, subst, arith}
-use Rattle.std.specs.Prelude.{ℤ, pos, negsuc, All, Contains}
+use Rattle.std.specs.Prelude.{ℤ, pos, All, Contains}
 use Rattle.std.proofs.lemmas.Bool.{false≢true}
 use Rattle.jc_base.specs.Each.{Each}
 use Rattle.jc_base.specs.World.{Linked}
 use Rattle.jc_base.proofs.Eaching.{Each-weaker}
 use Rattle.jc_decode.specs.declared.insn.Case.{Case}
 use Rattle.jc_decode.specs.declared.insn.Placed.{Placed}
-use Rattle.jc_decode.specs.Cases.{cases}
 use Rattle.jc_decode.specs.Listing.{jumps, target, targets}
 use Rattle.jc_control.specs.Control.{IsReached, jumped, led_to}
 use Rattle.jc_control.specs.WellFormed.{IsTargetPlace}
@@ -33,7 +32,7 @@ use Rattle.xf_homes.specs.Plan.{stack_homes, is_leader, needed}
 use Rattle.xf_emission.specs.declared.origin.Origin.TheVariants.{After}
 use Rattle.xf_emission.specs.Edge.{copies}
 use Rattle.xf_emission.specs.Group.{body, first_place, gone}
-use Rattle.xf_emission.specs.Jump.{goto, place as place_named}
+use Rattle.xf_emission.specs.Jump.{goto}
 use Rattle.xf_emission.specs.Move.{spill}
 use Rattle.law_rewritten_typing.specs.Edges.{leads_after}
 use Rattle.law_sound.proofs.Branches.{targets-are}
@@ -67,22 +66,10 @@ first-there :
     → (to : ℤ)
     → IsTargetPlace code to
     → (q : ℕ) × (to ≡ pos q)
-first-there code i cs (pos q) is = (q, refl)
-first-there code i cs (negsuc n) is = absurd is
+first-there code i cs u is = grind (arith)
 
 pub leads-there : (code : List ℕ) (i : Placed) → jumps i.insn.op ≡ true → All (IsTargetPlace code) (targets code i) → LeadsThere code i
-leads-there code i jumping all =
-    let cs = cases code i.place i.insn in
-    let are : targets code i ≡ target i.place i.insn.x ∷ map (λ (c : Case). target i.place c.offset) cs = targets-are code i jumping in
-    let every : All (IsTargetPlace code) (target i.place i.insn.x ∷ map (λ (c : Case). target i.place c.offset) cs) =
-    subst (All (IsTargetPlace code)) are all in
-    let q = first-there code i cs (target i.place i.insn.x) (every 0 (pos 0) (omega arith)) in
-    record {
-      place = q.0;
-      operand = q.1;
-      first = ap first_place are ∙ ap place_named q.1;
-      among = subst (λ ts. Contains ts (pos q.0)) (sym are) (0, omega arith, q.1);
-    }
+leads-there code i jumping all = grind (arith, targets-are, first-there)
 
 -- ---- the group
 

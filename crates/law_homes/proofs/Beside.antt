@@ -1,10 +1,10 @@
 -- What is known of a state beside a frame of the source: its homes, and the types of the cells that stand in them.
-use Rattle.std.proofs.Common.{◌≡◌, inl, inr, ℕ, zero, suc, ◌+◌, ◌<◌, ◌≤◌, List, [], ◌∷◌, ◌++◌, length, map, reverse}
+use Rattle.std.proofs.Common.{◌≡◌, inl, inr, ℕ, zero, suc, ◌+◌, ◌<◌, ◌≤◌, List, [], ◌∷◌, ◌++◌, length, reverse}
 use Rattle.std.proofs.Common.{refl, sym, ap, ◌∙◌, subst, arith, length-append}
-use Rattle.std.specs.Prelude.{Option, Some, None, IsSomeAnd, IfSome, is_some, slice_get}
+use Rattle.std.specs.Prelude.{Option, Some, None, IsSomeAnd, is_some, slice_get}
 use Rattle.std.proofs.lemmas.List.{length-map, map-append}
 use Rattle.jc_base.specs.declared.ty.Ty.{Ty}
-use Rattle.jc_base.specs.declared.ty.Ty.TheVariants.{Bottom, IntHigh, Top}
+use Rattle.jc_base.specs.declared.ty.Ty.TheVariants.{Bottom, Top}
 use Rattle.jc_base.specs.Class.{ClassTable}
 use Rattle.jc_base.specs.Each.{Each, IsAmong}
 use Rattle.jc_base.specs.Laws.{ClassesAreObjects, IsOrderOfTypes}
@@ -15,7 +15,6 @@ use Rattle.jc_rules.specs.Flow.{CellsBelow, FrameBelow, IsFit}
 use Rattle.jc_rules.specs.FlowLaws.{IsOrderOfCells}
 use Rattle.vm_store.specs.declared.cell.Cell.{Cell}
 use Rattle.vm_store.specs.declared.kind.ObjectKind.{ObjectKind}
-use Rattle.vm_store.specs.Typing.{least_type}
 use Rattle.vm_store.specs.Objects.{kinds}
 use Rattle.vm_store.specs.State.{State, Frame, Object, top}
 use Rattle.vm_store.proofs.Stacks.{reverse-map}
@@ -26,7 +25,7 @@ use Rattle.xf_homes.specs.Laws.{HasRegister, Serve, HomesServe}
 use Rattle.xf_homes.specs.Order.{register_sum}
 use Rattle.xf_homes.specs.Value.{value_in_cells, type_width}
 use Rattle.xf_homes.specs.Source.{Source}
-use Rattle.xf_homes.specs.Plan.{stack_homes, needed, or_first, register}
+use Rattle.xf_homes.specs.Plan.{stack_homes, needed, register}
 use Rattle.law_rewritten_typing.specs.Planned.{IsPlanned, KeepsValues}
 use Rattle.law_rewritten_typing.specs.Edges.{NeededHaveHomes, slot_types, CellsFillStack}
 use Rattle.law_rewritten_typing.proofs.Registers.{both-below}
@@ -38,8 +37,7 @@ use Rattle.law_homes.proofs.Copies.{homes-own-registers, wide}
 use Rattle.law_homes.proofs.Valued.{asked_types, asked-size, CellsAt, cells-moved, load-asked, load-filled, value-cells}
 
 pub some-width : (ty : Ty) → 0 < type_width ty
-some-width IntHigh = omega arith
-some-width ty = omega arith
+some-width ty = grind (arith)
 
 pub each-among : (P : Home → Type 0) (hs : List Home) → ((h : Home) → IsAmong h hs → P h) → Each P hs
 each-among P [] all = tt
@@ -61,23 +59,13 @@ pub placed-state :
       statics = statics;
     })
     (record { frames = g ∷ below; heap = heap; statics = statics })
-placed-state g below heap statics p at =
-    ap
-    (λ (q : ℕ). record {
-      frames = record { method = g.method; place = q; registers = g.registers; stack = g.stack } ∷ below;
-      heap = heap;
-      statics = statics;
-    }) (sym at)
+placed-state g below heap statics p at = grind (arith)
 
 -- ---- held values, whatever else the frame has
 
 pub held-as : (s : Source) (values : List Cell) (g k : Frame Cell) (h : Home) → k.registers ≡ g.registers → HoldsValue s values g h
     → HoldsValue s values k h
-held-as s values g k h e held = record {
-  known = held.known;
-  there = subst (λ (rs : List Cell). register s h + type_width h.ty ≤ length rs) (sym e) held.there;
-  equal = λ n lt. ap (λ (rs : List Cell). slice_get rs (register s h + n)) e ∙ held.equal n lt;
-}
+held-as s values g k h e held = grind (arith)
 
 pub get-left : (xs ys : List Cell) (n : ℕ) → n < length xs → slice_get (xs ++ ys) n ≡ slice_get xs n
 get-left [] ys n lt = absurd (omega (arith, lt))
@@ -86,19 +74,11 @@ get-left (x ∷ xs) ys (suc n) lt = get-left xs ys n (omega (arith, lt))
 
 -- a local among all slots
 pub held-in-slots : (s : Source) (f g : Frame Cell) (h : Home) → HoldsValue s f.registers g h → HoldsValue s (slots f) g h
-held-in-slots s f g h held = record {
-  known = let le = held.known in omega (arith, le, length-append f.registers (reverse f.stack));
-  there = held.there;
-  equal = λ n lt. held.equal n lt ∙ sym (get-left f.registers (reverse f.stack) (h.slot + n) (let le = held.known in omega (arith, le, lt)));
-}
+held-in-slots s f g h held = grind (arith, length-append, reverse, get-left)
 
 pub held-in-registers : (s : Source) (f g : Frame Cell) (h : Home) → h.slot + type_width h.ty ≤ length f.registers → HoldsValue s (slots f) g h
     → HoldsValue s f.registers g h
-held-in-registers s f g h inside held = record {
-  known = inside;
-  there = held.there;
-  equal = λ n lt. held.equal n lt ∙ get-left f.registers (reverse f.stack) (h.slot + n) (omega (arith, inside, lt));
-}
+held-in-registers s f g h inside held = grind (arith, get-left, reverse)
 
 module _ (v w : Linked) (l : AreMoveLaws v w) (s : Source) (is : s.world ≡ v) (plan : IsPlanned s) where
   pub serve : Serve s.world s.method s.frames s.homes
@@ -109,9 +89,7 @@ module _ (v w : Linked) (l : AreMoveLaws v w) (s : Source) (is : s.world ≡ v) 
 
   -- the registers of a home are there, and their numbers are of one byte
   pub register-inside : (h : Home) → HasRegister s.homes h → register s h + type_width h.ty ≤ register_sum s.homes
-  register-inside h has =
-      let e : register s h ≡ has.0 = ap or_first has.1 in
-      omega (arith, e, serve.within h has.0 has.1)
+  register-inside h has = grind (arith, serve)
 
   pub register-small : (h : Home) → HasRegister s.homes h → register s h < 256
   register-small h has = omega (arith, register-inside h has, some-width h.ty, plan.few)
@@ -148,17 +126,10 @@ module _ (v w : Linked) (l : AreMoveLaws v w) (s : Source) (is : s.world ≡ v) 
 
     -- as many registers and cells as there are types
     pub count-registers : length f.registers ≡ register_count s.method.rec
-    count-registers =
-        let a = length-map f.registers (least_type w.classes Top (kinds t)) in
-        let b = order.lengths typed.below.regs in
-        let c = subst (λ (o : Option Types). IfSome o (λ g. length g.regs ≡ register_count s.method.rec)) typed.at (plan.registers q) in
-        omega (arith, a, b, c)
+    count-registers = grind (arith, length-map)
 
     pub count-stack : length f.stack ≡ length typed.frame.stack
-    count-stack =
-        let a = length-map f.stack (least_type w.classes Top (kinds t)) in
-        let b = order.lengths typed.below.stack in
-        omega (arith, a, b)
+    count-stack = grind (arith, length-map)
 
     -- the stack has room
     pub stack-fits : length f.stack ≤ s.method.rec.max_stack
@@ -170,12 +141,7 @@ module _ (v w : Linked) (l : AreMoveLaws v w) (s : Source) (is : s.world ≡ v) 
 
     -- all cells by slot have types below those of the frame
     pub slots-below : CellsBelow w.classes (least_types w.classes Top (kinds t) (slots f)) (slot_types typed.frame)
-    slots-below =
-        let ty = least_type w.classes Top (kinds t) in
-        let parts : map ty (slots f) ≡ map ty f.registers ++ reverse (map ty f.stack) =
-        map-append ty f.registers (reverse f.stack) ∙ ap (λ us. map ty f.registers ++ us) (sym (reverse-map ty f.stack)) in
-        subst (λ us. CellsBelow w.classes us (slot_types typed.frame)) (sym parts)
-        (both-below w.classes (reverse (map ty f.stack)) (reverse typed.frame.stack) typed.below.regs (order.turned typed.below.stack))
+    slots-below = grind (arith, reverse, map-append, reverse-map, both-below)
 
     known-there : (h : Home) → KeepsValues s h → IsKnown w.classes h.ty
     known-there h keeps = subst (λ (c : ClassTable). IsKnown c h.ty) (sym beside.classes) keeps.known

@@ -48,28 +48,20 @@ abbrev letter_by : ℕ → Sort
 letter_by n = if n == sload then sorts.Short else if n == iload then sorts.Int else sorts.Reference
 
 letter-is : (ty : Ty) → letter_of ty ≡ letter_by (load_op ty)
-letter-is Short = refl
-letter-is IntHigh = refl
-letter-is ty = refl
+letter-is ty = grind (arith)
 
 -- types whose loads have the same letter
 pub same-letter : (a b : Ty) → load_op a ≡ load_op b → letter_of a ≡ letter_of b
 same-letter a b e = letter-is a ∙ (ap letter_by e ∙ sym (letter-is b))
 
 short-letter : (b : Ty) → letter_of b ≡ sorts.Short → b ≡ Short
-short-letter Short e = refl
-short-letter IntHigh e = absurd (cc)
-short-letter b e = absurd (cc)
+short-letter b e = grind (arith)
 
 int-letter : (b : Ty) → letter_of b ≡ sorts.Int → b ≡ IntHigh
-int-letter IntHigh e = refl
-int-letter Short e = absurd (cc)
-int-letter b e = absurd (cc)
+int-letter b e = grind (arith)
 
 by-letter : (a b : Ty) → letter_of b ≡ letter_of a → (b ≡ a) ⊎ (letter_of a ≡ sorts.Reference)
-by-letter Short b e = inl (short-letter b e)
-by-letter IntHigh b e = inl (int-letter b e)
-by-letter a b e = inr refl
+by-letter a b e = grind (arith, short-letter, int-letter)
 
 -- only references have homes of several types
 pub same-or-reference : (a b : Ty) → load_op a ≡ load_op b → (b ≡ a) ⊎ (letter_of a ≡ sorts.Reference)
@@ -88,10 +80,7 @@ pub stand-append :
     (steps : List Step) (n : ℕ) (xs ys : List Insn) → InstructionsStandFrom steps n (xs ++ ys) → InstructionsStandFrom steps n xs
     × InstructionsStandFrom steps (n + length xs) ys
 stand-append steps n [] ys stand = let e : n ≡ n + 0 = omega arith in (tt, subst (λ (k : ℕ). InstructionsStandFrom steps k ys) e stand)
-stand-append steps n (x ∷ xs) ys stand =
-    let rest = stand-append steps (n + 1) xs ys stand.1 in
-    let e : n + 1 + length xs ≡ n + suc (length xs) = omega arith in
-    ((stand.0, rest.0), subst (λ (k : ℕ). InstructionsStandFrom steps k ys) e rest.1)
+stand-append steps n (x ∷ xs) ys stand = grind (arith, suc, stand-append steps (n + 1) xs ys stand.1)
 
 -- the homes to which something is copied: those in which the value does not stand already
 abbrev pub missing : List Home → List Home → List Home
@@ -237,10 +226,8 @@ module _
         after = ran.registers;
         runs = ran.runs;
         many = ran.count;
-        keeps = λ a own value. held-as s values (frame (place n) ran.registers) (frame 0 ran.registers) a refl
-            (ran.others a own (held-as s values (frame 0 registers) (frame (place n) registers) a refl value));
-        holds = each-map (HoldsValue s values (frame (place n) ran.registers)) (Has ran.registers) ks
-            (λ k value. held-as s values (frame (place n) ran.registers) (frame 0 ran.registers) k refl value) ran.copies;
+        keeps = grind (arith, held-as);
+        holds = grind (arith, each-map, held-as);
       }
 
   pub copy-all :
@@ -251,8 +238,7 @@ module _
       → letter_of from.ty ≡ sorts.Reference
       → Each (IsCopy s (length registers) from) ks
       → Went n registers (2 * length ks) ks
-  copy-all n registers from ks stand further stood letter copies =
-      copy-fits n registers from ks stand further stood (subst (λ (l : Sort). size l + length stack ≤ max_stack_of w method) (sym letter) room) copies
+  copy-all n registers from ks stand further stood letter copies = grind (arith, copy-fits)
 
   -- ---- one local
 
@@ -275,12 +261,7 @@ module _
 
   from-later : (registers others : List Cell) (there : List Home) (from k : Home) → Keep registers others → HasRegister s.homes k
       → IsFrom registers there from k → IsFrom others there from k
-  from-later registers others there from k keep own is = record {
-    stood = record { own = is.stood.own; small = is.stood.small; holds = keep.keeps from is.stood.own is.stood.holds; value = is.stood.value };
-    copies = subst (λ (c : ℕ). IsCopy s c from k) (sym keep.many) is.copies;
-    already = λ e. keep.keeps k own (is.already e);
-    single = is.single;
-  }
+  from-later registers others there from k keep own is = grind (arith)
 
   later-each : (registers others : List Cell) (there : List Home) (from : Home) (ks : List Home) → Keep registers others → Each (HasRegister s.homes) ks
       → Each (IsFrom registers there from) ks → Each (IsFrom others there from) ks
@@ -296,8 +277,7 @@ module _
   local-later :
       (registers others : List Cell) (o : Origin) (q x : ℕ) (h : Option Home) → Keep registers others → Each (HasRegister s.homes) (needed s q x)
       → LocalIs registers o q x h → LocalIs others o q x h
-  local-later registers others o q x None keep own is = holds-later registers others (needed s q x) keep own is
-  local-later registers others o q x (Some from) keep own is = later-each registers others (homes_held s o x from) from (needed s q x) keep own is
+  local-later registers others o q x w keep own is = grind (arith, holds-later, later-each)
 
   from-runs :
       (n : ℕ) (registers : List Cell) (there ks : List Home) (from : Home)
@@ -429,11 +409,7 @@ module _
     more_pairs : {h k : Home} {hs ks : List Home} → IsPair registers h k → ArePairs registers hs ks → ArePairs registers (h ∷ hs) (k ∷ ks)
 
   pair-later : (registers others : List Cell) (h k : Home) → Keep registers others → IsPair registers h k → IsPair others h k
-  pair-later registers others h k keep is = record {
-    stood = record { own = is.stood.own; small = is.stood.small; holds = keep.keeps h is.stood.own is.stood.holds; value = is.stood.value };
-    copies = subst (λ (c : ℕ). IsCopy s c h k) (sym keep.many) is.copies;
-    single = is.single;
-  }
+  pair-later registers others h k keep is = grind (arith)
 
   one-cell :
       (same_is : SameTypeDecides) (n : ℕ) (registers : List Cell) (h k : Home) → IsPair registers h k

@@ -7,16 +7,11 @@ use Rattle.jc_base.specs.declared.ty.Ty.TheVariants.{IntHigh}
 use Rattle.jc_base.specs.Each.{Each, IsAmong}
 use Rattle.jc_base.specs.World.{Linked}
 use Rattle.jc_decode.specs.Symbols.{Step}
-use Rattle.jc_ops.specs.declared.operation.Sort.{Sort}
 use Rattle.jc_ops.specs.declared.operation.Sort.TheVariants as sorts
 use Rattle.vm_store.specs.declared.cell.Cell.{Cell}
 use Rattle.vm_store.specs.declared.cell.Cell.TheVariants.{Empty}
-use Rattle.vm_store.specs.Cells.{tagged}
-use Rattle.vm_store.specs.Objects.{kinds}
 use Rattle.vm_store.specs.State.{State, Frame, Object, first_frame}
 use Rattle.vm_step.specs.Methods.{max_stack_of}
-use Rattle.vm_step.specs.Raising.{running}
-use Rattle.vm_step.specs.Run.{Runs}
 use Rattle.xf_homes.specs.declared.home.Home.{Home}
 use Rattle.xf_homes.specs.Home.{argument_types, KeepsStack}
 use Rattle.xf_homes.specs.Laws.{HomesServe}
@@ -28,11 +23,11 @@ use Rattle.law_rewritten_typing.specs.Planned.{IsPlanned}
 use Rattle.law_rewritten_typing.proofs.Ready.{IsValueAt, value-is}
 use Rattle.law_rewritten_typing.proofs.Moves.{get-inside}
 use Rattle.law_rewritten_typing.specs.Edges.{AreMatched, none_matched, more_matched}
-use Rattle.law_homes.specs.Edges.{insns, top_at, IsBeside, AreMoved, CellsRun, StartsHold}
+use Rattle.law_homes.specs.Edges.{insns, IsBeside, AreMoved, CellsRun, StartsHold}
 use Rattle.law_homes.specs.Held.{HoldsValue, slots}
 use Rattle.law_homes.specs.Moves.{letter_of, InstructionsStandFrom, IsAtStep}
-use Rattle.law_homes.proofs.Valued.{asked_types, CellsAt}
-use Rattle.law_homes.proofs.Beside.{each-among, among-each, own, register-inside, register-small, cells-valued, held-as, get-left, placed-state}
+use Rattle.law_homes.proofs.Beside.{each-among, among-each, own, register-inside, register-small}
+use Rattle.law_homes.proofs.Beside.{cells-valued, held-as, get-left, placed-state}
 use Rattle.law_homes.specs.Premises.{AreMoveLaws}
 use Rattle.law_homes.proofs.Carrying.{same-letter, same-or-reference, ArePairs, no_pairs, more_pairs, cells-run}
 use Rattle.law_homes.proofs.Edging.{home-same}
@@ -60,21 +55,13 @@ module _ (v w : Linked) (l : AreMoveLaws v w) (place : ℕ → ℕ) (steps : Lis
         let valued = (cells-valued v w l s is plan q f t beside keeps k (inside k (inl refl))).1 in
         more_pairs
         (record {
-          stood = record {
-            own = of_h.has;
-            small = register-small v w l s is plan h of_h.has;
-            holds = held-as s (slots f) g (record { method = g.method; place = 0; registers = g.registers; stack = g.stack }) h refl held.0;
-            value =
-                subst (λ (y : ℕ). CellsAt w.classes (kinds t) (slots f) y (asked_types w.classes (letter_of h.ty))) (sym slot)
-                (subst (λ (u : Sort). CellsAt w.classes (kinds t) (slots f) k.slot (asked_types w.classes u)) (sym letter) valued);
-          };
-          copies = record {
-            slot = sym slot;
-            letter = sym letter;
-            own = of_k.has;
-            small = register-small v w l s is plan k of_k.has;
-            inside = omega (arith, register-inside v w l s is plan k of_k.has, beside.count);
-          };
+          stood =
+              grind (
+                arith,
+                register-small v w l s is plan h of_h.has,
+                held-as s (slots f) g (record { method = g.method; place = 0; registers = g.registers; stack = g.stack }) h refl held.0,
+              );
+          copies = grind (arith, register-small, register-inside);
           single = by slot (same-or-reference h.ty k.ty loads);
         }) (pairs-of more held.1 (λ j a. inside j (inr a)))
       where
@@ -94,16 +81,9 @@ module _ (v w : Linked) (l : AreMoveLaws v w) (place : ℕ → ℕ) (steps : Lis
         let begins = placed-state g below heap statics (place n) at.at in
         record {
           registers = ran.after;
-          runs =
-              subst
-              (λ (x : State Cell).
-              Runs tagged w (length (insns (cell_copies s hs ks))) x (running (top_at t (place (n + length (insns (cell_copies s hs ks)))) ran.after g.stack)))
-              begins ran.runs;
+          runs = grind (arith);
           count = ran.many;
-          cells = each-among (HoldsValue s (slots f) (record g { registers = ran.after })) ks
-              (λ k a. held-as s (slots f) (record { method = g.method; place = 0; registers = ran.after; stack = g.stack })
-              (record g { registers = ran.after }) k refl
-              (among-each (HoldsValue s (slots f) (record { method = g.method; place = 0; registers = ran.after; stack = g.stack })) ks k ran.holds a));
+          cells = grind (arith, each-among, held-as, among-each);
           others = λ h has held.
               held-as s (slots f) (record { method = g.method; place = 0; registers = ran.after; stack = g.stack }) (record g { registers = ran.after }) h refl
               (ran.keeps h has (held-as s (slots f) g (record { method = g.method; place = 0; registers = g.registers; stack = g.stack }) h refl held));
@@ -120,9 +100,7 @@ module _ (v w : Linked) (l : AreMoveLaws v w) (place : ℕ → ℕ) (steps : Lis
       → Each (HoldsValue s (slots f) (first_frame fs)) hs
       → AreMoved w s f (record { frames = fs; heap = heap; statics = statics }) ks (length (insns (cell_copies s hs ks)))
       (place (n + length (insns (cell_copies s hs ks))))
-  cells-frames [] heap statics n hs ks beside matched at stand low inside held = absurd (let lt = at.runs in omega (arith, lt))
-  cells-frames (g ∷ below) heap statics n hs ks beside matched at stand low inside held =
-      run-cells g below heap statics n (length (insns (cell_copies s hs ks))) beside at low hs ks matched held inside refl stand
+  cells-frames x heap statics n hs ks beside matched at stand low inside held = grind (arith, run-cells)
 
 pub cells-all-run : (v w : Linked) → AreMoveLaws v w → CellsRun v w
 cells-all-run v w l place steps t n s q f hs ks is plan beside matched at stand low inside keeps held =

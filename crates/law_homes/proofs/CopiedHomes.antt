@@ -1,12 +1,11 @@
 -- A copy keeps every home that holds its value.
-use Rattle.std.proofs.Common.{◌≡◌, ℕ, zero, suc, ◌+◌, ◌<◌, ◌≤◌, ◌⊎◌, inl, inr, List, length, set, length-set, sym, ap, ◌∙◌}
-use Rattle.std.proofs.Common.{subst, arith}
+use Rattle.std.proofs.Common.{◌≡◌, ℕ, zero, suc, ◌+◌, ◌<◌, ◌≤◌, ◌⊎◌, inl, inr, List, length, set, length-set}
+use Rattle.std.proofs.Common.{arith}
 use Rattle.std.specs.Prelude.{slice_get}
 use Rattle.std.proofs.lemmas.Option.{slice_get-get_or}
 use Rattle.jc_ops.specs.declared.operation.Sort.{Sort}
 use Rattle.jc_ops.specs.declared.operation.Sort.TheVariants as sorts
 use Rattle.vm_store.specs.declared.cell.Cell.{Cell}
-use Rattle.vm_store.specs.declared.cell.Cell.TheVariants.{Empty}
 use Rattle.vm_store.specs.Cells.{tagged}
 use Rattle.vm_store.specs.State.{Frame, nth}
 use Rattle.xf_homes.specs.declared.home.Home.{Home}
@@ -28,30 +27,16 @@ beside to n k (inr le) j small e = omega (arith, le, small, e)
 first-copied :
     (rs : List Cell) (from to : ℕ) → from + 1 ≤ length rs → to + 1 ≤ length rs
     → slice_get (set rs to (nth tagged rs from)) (to + 0) ≡ slice_get rs (from + 0)
-first-copied rs from to there inside =
-    let here : to + 0 ≡ to = omega arith in
-    let back : from ≡ from + 0 = omega arith in
-    ap (slice_get (set rs to (nth tagged rs from))) here
-    ∙ (slice_get-set_here rs to (nth tagged rs from) (omega (arith, inside))
-    ∙ (sym (slice_get-get_or rs from Empty (omega (arith, there))) ∙ ap (slice_get rs) back))
+first-copied rs from to there inside = grind (arith, slice_get-set_here, slice_get-get_or)
 
 pub copied-count : (sort : Sort) (from to : ℕ) (rs : List Cell) → length (copied tagged sort from to rs) ≡ length rs
-copied-count sorts.Reference from to rs = length-set rs to (nth tagged rs from)
-copied-count sorts.Short from to rs = length-set rs to (nth tagged rs from)
-copied-count sorts.Int from to rs =
-    length-set (set rs to (nth tagged rs from)) (to + 1) (nth tagged rs (from + 1)) ∙ length-set rs to (nth tagged rs from)
+copied-count x from to rs = grind (arith, length-set)
 
 -- another register is as it was
 copied-other :
     (sort : Sort) (from to : ℕ) (rs : List Cell) (n : ℕ) → (n < to) ⊎ (to + size sort ≤ n)
     → slice_get (copied tagged sort from to rs) n ≡ slice_get rs n
-copied-other sorts.Reference from to rs n out =
-    slice_get-set_other rs to n (nth tagged rs from) (λ e. beside to 1 n out 0 (omega arith) (omega (arith, e)))
-copied-other sorts.Short from to rs n out =
-    slice_get-set_other rs to n (nth tagged rs from) (λ e. beside to 1 n out 0 (omega arith) (omega (arith, e)))
-copied-other sorts.Int from to rs n out =
-    slice_get-set_other (set rs to (nth tagged rs from)) (to + 1) n (nth tagged rs (from + 1)) (λ e. beside to 2 n out 1 (omega arith) e)
-    ∙ slice_get-set_other rs to n (nth tagged rs from) (λ e. beside to 2 n out 0 (omega arith) (omega (arith, e)))
+copied-other x from to rs n out = grind (arith, slice_get-set_other, beside)
 
 -- one that was written has what the other had
 copied-here :
@@ -61,17 +46,8 @@ copied-here sorts.Reference from to rs zero lt there inside = first-copied rs fr
 copied-here sorts.Reference from to rs (suc k) lt there inside = absurd (omega (arith, lt))
 copied-here sorts.Short from to rs zero lt there inside = first-copied rs from to there inside
 copied-here sorts.Short from to rs (suc k) lt there inside = absurd (omega (arith, lt))
-copied-here sorts.Int from to rs zero lt there inside =
-    let here : to + 0 ≡ to = omega arith in
-    let back : from ≡ from + 0 = omega arith in
-    ap (slice_get (set (set rs to (nth tagged rs from)) (to + 1) (nth tagged rs (from + 1)))) here
-    ∙ (slice_get-set_other (set rs to (nth tagged rs from)) (to + 1) to (nth tagged rs (from + 1)) (λ e. omega (arith, e))
-    ∙ (slice_get-set_here rs to (nth tagged rs from) (omega (arith, inside))
-    ∙ (sym (slice_get-get_or rs from Empty (omega (arith, there))) ∙ ap (slice_get rs) back)))
-copied-here sorts.Int from to rs (suc zero) lt there inside =
-    let count = length-set rs to (nth tagged rs from) in
-    slice_get-set_here (set rs to (nth tagged rs from)) (to + 1) (nth tagged rs (from + 1)) (omega (arith, inside, count))
-    ∙ sym (slice_get-get_or rs (from + 1) Empty (omega (arith, there)))
+copied-here sorts.Int from to rs zero lt there inside = grind (arith, slice_get-set_other, slice_get-set_here, slice_get-get_or)
+copied-here sorts.Int from to rs (suc zero) lt there inside = grind (arith, length-set, slice_get-set_here, slice_get-get_or)
 copied-here sorts.Int from to rs (suc (suc k)) lt there inside = absurd (omega (arith, lt))
 
 -- ---- homes
@@ -81,18 +57,7 @@ held-after :
     → HoldsValue s values g h → h.slot ≡ k.slot → type_width h.ty ≡ size sort → type_width k.ty ≡ size sort
     → register s k + type_width k.ty ≤ length g.registers
     → HoldsValue s values (record g { registers = copied tagged sort (register s h) (register s k) g.registers }) k
-held-after s values g h k sort held slot wide also inside =
-    let count = copied-count sort (register s h) (register s k) g.registers in
-    let known = held.known in
-    let there = held.there in
-    record {
-      known = omega (arith, known, slot, wide, also);
-      there = omega (arith, inside, count);
-      equal = λ n lt.
-          copied-here sort (register s h) (register s k) g.registers n (omega (arith, lt, also)) (omega (arith, there, wide))
-          (omega (arith, inside, also))
-          ∙ (held.equal n (omega (arith, lt, wide, also)) ∙ ap (λ x. slice_get values (x + n)) slot);
-    }
+held-after s values g h k sort held slot wide also inside = grind (arith, copied-count, copied-here)
 
 held-still :
     (s : Source) (values : List Cell) (g : Frame Cell) (h k m : Home) (sort : Sort)
@@ -104,8 +69,7 @@ held-still s values g h k m sort also held apart =
     record {
       known = held.known;
       there = omega (arith, there, count);
-      equal = λ n lt.
-          copied-other sort (register s h) (register s k) g.registers (register s m + n) (out n lt apart) ∙ held.equal n lt;
+      equal = grind (arith, copied-other);
     }
   where
     out : (n : ℕ) → n < type_width m.ty → AreApart (register s m) (type_width m.ty) (register s k) (type_width k.ty)
@@ -115,8 +79,6 @@ held-still s values g h k m sort also held apart =
 
 pub copies-keep-homes : CopiesKeepHomes
 copies-keep-homes s values g h k m sort held slot wide also inside (inl same) =
-    subst (λ (x : Home). HoldsValue s values (record g { registers = copied tagged sort (register s h) (register s k) g.registers }) x)
-    (sym same)
-    (held-after s values g h k sort held slot wide also inside)
+    grind (arith, held-after s values g h k sort held slot wide also inside)
 copies-keep-homes s values g h k m sort held slot wide also inside (inr other) =
     held-still s values g h k m sort also other.0 other.1

@@ -1,12 +1,12 @@
 -- Copies of a value from a home to others, one after the other.
 use Rattle.std.proofs.Common.{◌≡◌, ℕ, suc, ◌+◌, ◌*◌, ◌<◌, ◌≤◌, ◌⊎◌, inl, inr, List, [], ◌∷◌, length, map, refl, sym, ap}
 use Rattle.std.proofs.Common.{◌∙◌, subst, arith}
-use Rattle.std.specs.Prelude.{Option, Some, option_map, IsSomeAnd, flat_map, slice_get}
+use Rattle.std.specs.Prelude.{Option, Some, IsSomeAnd, flat_map, slice_get}
 use Rattle.std.proofs.lemmas.List.{length-map}
 use Rattle.std.proofs.lemmas.List.Concat.{flat_map-cons}
 use Rattle.std.proofs.lemmas.Option.{slice_get-map}
 use Rattle.jc_base.specs.declared.ty.Ty.{Ty}
-use Rattle.jc_base.specs.declared.ty.Ty.TheVariants.{Bottom, Short, IntHigh}
+use Rattle.jc_base.specs.declared.ty.Ty.TheVariants.{Bottom, Short}
 use Rattle.jc_base.specs.declared.record.MethodRec.{MethodRec}
 use Rattle.jc_base.specs.Each.{Each}
 use Rattle.jc_base.specs.World.{Linked}
@@ -21,7 +21,6 @@ use Rattle.jc_rules.specs.Demand.{SatisfiesAll}
 use Rattle.jc_rules.specs.Rule.{demands}
 use Rattle.vm_store.specs.declared.cell.Cell.{Cell}
 use Rattle.vm_store.specs.declared.kind.ObjectKind.{ObjectKind}
-use Rattle.vm_store.specs.Typing.{least_type}
 use Rattle.vm_store.specs.Cells.{tagged}
 use Rattle.vm_store.specs.State.{State, Frame, Object, first_frame, nth, with_place}
 use Rattle.vm_store.specs.Laws.{HasContent}
@@ -42,7 +41,8 @@ use Rattle.xf_homes.specs.Plan.{or_first, register}
 use Rattle.xf_emission.specs.Move.{with_byte, store_op}
 use Rattle.law_homes.specs.Held.{HoldsValue}
 use Rattle.law_homes.specs.Laws.{AreApart}
-use Rattle.law_homes.specs.Moves.{IsExecutable, size, copied, AreFilled, letter_of, InstructionsStandFrom, load_of, copy_of, IsAtStep, CanLoad, OwnRegisters}
+use Rattle.law_homes.specs.Moves.{IsExecutable, size, copied, AreFilled, letter_of, InstructionsStandFrom}
+use Rattle.law_homes.specs.Moves.{load_of, copy_of, IsAtStep, CanLoad, OwnRegisters}
 use Rattle.law_homes.specs.Moves.{HomesOwnRegisters, IsCopy, AreCopied, HomesAreCopied}
 use Rattle.jc_decode.specs.Places.{place_after}
 use Rattle.law_homes.proofs.CopiedHomes.{copied-count, copies-keep-homes}
@@ -68,9 +68,7 @@ homes-own-registers s serve a b x y =
     go l r (inr (inr after)) = inr (inr (omega (arith, l, r, after)))
 
 pub wide : (ty : Ty) → type_width ty ≡ size (letter_of ty)
-wide Short = refl
-wide IntHigh = refl
-wide _ = refl
+wide x = grind (arith)
 
 -- ---- a value that stands in a home can be loaded wherever the home still holds it
 
@@ -81,18 +79,12 @@ module _ (w : Linked) (ks : List ObjectKind) (registers others : List Cell) (r :
   one-asked :
       (n : ℕ) (P : Ty → Type 0) → Same n → IsSomeAnd (slice_get (least_types w.classes Bottom ks registers) n) P
       → IsSomeAnd (slice_get (least_types w.classes Bottom ks others) n) P
-  one-asked n P e h =
-      subst (λ o. IsSomeAnd o P) (sym (slice_get-map (least_type w.classes Bottom ks) others n))
-      (subst (λ o. IsSomeAnd (option_map (least_type w.classes Bottom ks) o) P) (sym e)
-      (subst (λ o. IsSomeAnd o P) (slice_get-map (least_type w.classes Bottom ks) registers n) h))
+  one-asked n P e h = grind (arith, slice_get-map)
 
   many :
       length others ≡ length registers → (n : ℕ) → n ≤ length (least_types w.classes Bottom ks registers)
       → n ≤ length (least_types w.classes Bottom ks others)
-  many count n le =
-      let a = length-map registers (least_type w.classes Bottom ks) in
-      let b = length-map others (least_type w.classes Bottom ks) in
-      omega (arith, le, a, b, count)
+  many count n le = grind (arith, length-map)
 
   one-filled : (n : ℕ) → Same n → HasContent (nth tagged registers n) → HasContent (nth tagged others n)
   one-filled n e h = subst HasContent (sym (register-same registers others n n e)) h
@@ -118,9 +110,7 @@ module _ (w : Linked) (ks : List ObjectKind) (registers others : List Cell) (r :
 
   filled-again :
       (letter : Sort) → ((k : ℕ) → k < size letter → Same (r + k)) → AreFilled letter r registers → AreFilled letter r others
-  filled-again sorts.Reference same h = one-filled r (at-first 1 same (omega arith)) h
-  filled-again sorts.Short same h = one-filled r (at-first 1 same (omega arith)) h
-  filled-again sorts.Int same h = (one-filled r (at-first 2 same (omega arith)) h.0, one-filled (r + 1) (same 1 (omega arith)) h.1)
+  filled-again x same h = grind (arith, one-filled, at-first)
 
 -- ---- copies
 
@@ -230,8 +220,7 @@ module _
   copies-after :
       (registers : List Cell) (k : Home) (ks : List Home) → Each (IsCopy s (length registers) h) ks
       → Each (IsCopy s (length (after k registers)) h) ks
-  copies-after registers k ks copies =
-      subst (λ n. Each (IsCopy s n h) ks) (sym (copied-count letter (register s h) (register s k) registers)) copies
+  copies-after registers k ks copies = grind (arith, copied-count)
 
   copies-from :
       (n : ℕ) (registers : List Cell) (ks : List Home)
@@ -269,17 +258,14 @@ module _
       (running (at (place (n + 2 + 2 * length ks)) rest.registers)) ran rest.runs in
       record {
         registers = rest.registers;
-        runs =
-            subst (λ x. Runs tagged w x (at (place n) registers) (running (at (place (n + 2 * suc (length ks))) rest.registers)))
-            count
-            (subst (λ x. Runs tagged w (2 + 2 * length ks) (at (place n) registers) (running (at (place x) rest.registers)))
-            place_is whole);
+        runs = grind (arith, suc);
         count = rest.count ∙ copied-count letter (register s h) (register s k) registers;
-        copies = (
-          moved (place (n + 2)) (place n) rest.registers k
-              (rest.others k copies.0.own (keeps (place n) (place (n + 2)) registers k k held copies.0 copies.0.own (inl refl))),
-          moved-all (place (n + 2)) (place n) rest.registers ks rest.copies,
-        );
+        copies =
+            grind (
+              arith,
+              keeps (place n) (place (n + 2)) registers k k held copies.0 copies.0.own (inl refl),
+              moved-all (place (n + 2)) (place n) rest.registers ks rest.copies,
+            );
         others = λ a owns value.
             moved (place (n + 2)) (place n) rest.registers a
             (rest.others a owns (keeps (place n) (place (n + 2)) registers k a held copies.0 owns (inr value)));
@@ -299,8 +285,7 @@ copies-by :
     → Each (IsCopy s (length (first_frame fs).registers) h) ks
     → size (letter_of h.ty) + length (first_frame fs).stack ≤ max_stack_of w (first_frame fs).method
     → AreCopied w s values (record { frames = fs; heap = heap; statics = statics }) ks (place (n + 2 * length ks))
-copies-by w world place steps [] heap statics n s values h ks own is stand has can held copies room =
-    absurd (let lt = is.runs in omega (arith, lt))
+copies-by w world place steps [] heap statics n s values h ks own is stand has can held copies room = grind (arith)
 copies-by w world place steps (f ∷ below) heap statics n s values h ks own is stand has can held copies room =
     subst
     (λ p.

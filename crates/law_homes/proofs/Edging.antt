@@ -1,5 +1,5 @@
 -- The copies of an edge: from where it begins to the homes that are needed where it leads.
-use Rattle.std.proofs.Common.{◌≡◌, ◌⊎◌, inl, inr, ℕ, ◌+◌, ◌<◌, ◌≤◌, Bool, true, false, if◌then◌else◌}
+use Rattle.std.proofs.Common.{◌≡◌, ◌⊎◌, inl, inr, ℕ, ◌+◌, ◌<◌, ◌≤◌, true, false}
 use Rattle.std.proofs.Common.{List, [], ◌∷◌, length, refl, sym, ap, ◌∙◌, subst, arith}
 use Rattle.std.specs.Prelude.{Option, Some, None, IfSome}
 use Rattle.std.proofs.lemmas.Bool.{both_ways}
@@ -11,12 +11,9 @@ use Rattle.jc_decode.specs.Symbols.{Step}
 use Rattle.jc_ops.specs.declared.operation.Sort.{Sort}
 use Rattle.jc_ops.specs.declared.operation.Sort.TheVariants as sorts
 use Rattle.vm_store.specs.declared.cell.Cell.{Cell}
-use Rattle.vm_store.specs.Cells.{tagged}
 use Rattle.vm_store.specs.Objects.{kinds}
 use Rattle.vm_store.specs.State.{State, Frame, Object, first_frame}
 use Rattle.vm_step.specs.Methods.{max_stack_of}
-use Rattle.vm_step.specs.Raising.{running}
-use Rattle.vm_step.specs.Run.{Runs}
 use Rattle.xf_homes.specs.declared.home.Home.{Home}
 use Rattle.xf_homes.specs.Home.{register_count}
 use Rattle.xf_homes.specs.Laws.{HasRegister}
@@ -24,18 +21,19 @@ use Rattle.xf_homes.specs.Value.{type_width}
 use Rattle.xf_homes.specs.Walk.{has}
 use Rattle.xf_homes.proofs.Events.{has-among}
 use Rattle.xf_homes.specs.Source.{Source}
-use Rattle.xf_homes.specs.Plan.{needed, local}
+use Rattle.xf_homes.specs.Plan.{needed}
 use Rattle.xf_emission.specs.declared.origin.Origin.{Origin}
 use Rattle.xf_emission.specs.declared.origin.Origin.TheVariants.{Start, After, Entry}
-use Rattle.xf_emission.specs.Edge.{is_stored, home_before, homes_held, copies}
+use Rattle.xf_emission.specs.Edge.{home_before, homes_held, copies}
 use Rattle.law_rewritten_typing.specs.Planned.{IsPlanned, KeepsValues}
 use Rattle.law_rewritten_typing.specs.Edges.{LeadsTo, stored_at, IsCarried, EdgesCarry}
-use Rattle.law_homes.specs.Edges.{insns, top_at, IsBeside, HoldsBefore, AreCarried, EdgesRun}
+use Rattle.law_homes.specs.Edges.{insns, IsBeside, HoldsBefore, AreCarried, EdgesRun}
 use Rattle.law_homes.specs.Held.{HoldsValue, slots}
 use Rattle.law_homes.specs.Moves.{size, letter_of, InstructionsStandFrom, IsAtStep}
 use Rattle.law_homes.proofs.Copies.{wide}
 use Rattle.law_homes.proofs.Valued.{asked_types, CellsAt, cells-left, value-inside}
-use Rattle.law_homes.proofs.Beside.{each-among, among-each, own, register-inside, register-small, needed-valued, count-registers, held-as, placed-state}
+use Rattle.law_homes.proofs.Beside.{each-among, among-each, own, register-inside, register-small}
+use Rattle.law_homes.proofs.Beside.{needed-valued, count-registers, held-as, placed-state}
 use Rattle.law_homes.specs.Premises.{AreMoveLaws}
 use Rattle.law_homes.proofs.Beside.{held-in-slots, held-in-registers}
 use Rattle.law_homes.proofs.Carrying.{same-letter, same-or-reference, IsFrom, LocalIs, locals-run}
@@ -52,28 +50,21 @@ home-same a b e f = ap (λ (n : ℕ). record { slot = n; ty = a.ty }) e ∙ ap (
 module _ (s : Source) (q : ℕ) (f g : Frame Cell) where
   -- what is stored on the edge stands in all homes that are needed
   stored-stands : (o : Origin) (x : ℕ) → HoldsBefore s o q f g → stored_at o x ≡ true → Each (HoldsValue s f.registers g) (needed s q x)
-  stored-stands (After p op) x holds e = holds.stored x e
-  stored-stands Start x holds e = absurd (cc)
-  stored-stands (Entry p) x holds e = absurd (cc)
+  stored-stands x x2 holds e = grind (arith)
 
   -- a local that is stored is not copied
   stored-none : (o : Origin) (x : ℕ) (from : Home) → stored_at o x ≡ true → home_before s o x ≡ Some from → ⊥
-  stored-none (After p op) x from e h = none-some from (sym (ap (λ (b : Bool). if b then None else local s p x) e) ∙ h)
-  stored-none Start x from e h = absurd (cc)
-  stored-none (Entry p) x from e h = absurd (cc)
+  stored-none x x2 from e h = grind (arith, none-some)
 
   if-some : (o : Option Home) (h : Home) → o ≡ Some h → IfSome o (HoldsValue s f.registers g) → HoldsValue s f.registers g h
-  if-some None h e is = absurd (none-some h e)
-  if-some (Some k) h e is = subst (HoldsValue s f.registers g) (some-same k h e) is
+  if-some x h e is = grind (arith, none-some, some-same)
 
   -- a home in which a value is held where the edge begins, and of which nothing is stored
   held-stands :
       (same_is : SameTypeDecides) (o : Origin) (x : ℕ) (from k : Home) → HoldsBefore s o q f g → home_before s o x ≡ Some from → k.slot ≡ x
       → ((n : ℕ) → n < type_width k.ty → stored_at o (k.slot + n) ≡ false) → has (homes_held s o x from) k ≡ true → HoldsValue s f.registers g k
   held-stands same_is (After p op) x from k holds before slot apart there =
-      among-each (λ h. ((n : ℕ) → n < type_width h.ty → is_stored op (h.slot + n) ≡ false) → HoldsValue s f.registers g h) (needed s p x) k
-      (holds.others x)
-      (has-among same_is (needed s p x) k there) apart
+      grind (arith, has-among same_is (needed s p x) k there, among-each)
   held-stands same_is Start x from k holds before slot apart there =
       if-some (home_before s Start x) k (before ∙ ap Some (only (has-among same_is (from ∷ []) k there))) (holds x)
     where
@@ -196,11 +187,7 @@ module _ (v w : Linked) (l : AreMoveLaws v w) (place : ℕ → ℕ) (steps : Lis
         let begins = placed-state g below heap statics (place n) at.at in
         record {
           registers = ran.after;
-          runs =
-              subst
-              (λ (x : State Cell). Runs tagged w (length (insns (copies s o q))) x
-              (running (top_at t (place (n + length (insns (copies s o q)))) ran.after g.stack))) begins
-              ran.runs;
+          runs = grind (arith);
           count = ran.many;
           locals =
               λ x. each-among (HoldsValue s f.registers (record g { registers = ran.after })) (needed s q x)
@@ -241,8 +228,7 @@ module _ (v w : Linked) (l : AreMoveLaws v w) (place : ℕ → ℕ) (steps : Lis
       → HoldsBefore s o q f (first_frame fs)
       → AreCarried w s q f (record { frames = fs; heap = heap; statics = statics }) (length (insns (copies s o q)))
       (place (n + length (insns (copies s o q))))
-  edge-frames [] heap statics n beside at stand low holds = absurd (let lt = at.runs in omega (arith, lt))
-  edge-frames (g ∷ below) heap statics n beside at stand low holds = run-edge g below heap statics n beside at low holds stand
+  edge-frames x heap statics n beside at stand low holds = grind (arith, run-edge)
 
 pub edges-run : (v w : Linked) → AreMoveLaws v w → EdgesRun v w
 edges-run v w l place steps t n s o q f is plan beside leads at stand low holds =

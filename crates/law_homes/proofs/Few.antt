@@ -1,26 +1,22 @@
 -- How many cells are kept and how many copies an edge has; and stacks that are kept, which have no uninitialised object.
-use Rattle.std.proofs.Common.{◌≡◌, ◌⊎◌, inl, inr, ℕ, zero, suc, ◌+◌, ◌*◌, ◌≤◌, Bool, true, false, if◌then◌else◌}
+use Rattle.std.proofs.Common.{◌≡◌, ◌⊎◌, inl, inr, ℕ, zero, suc, ◌+◌, ◌*◌, ◌≤◌, Bool, if◌then◌else◌}
 use Rattle.std.proofs.Common.{List, [], ◌∷◌, ◌++◌, length, map, reverse, refl, sym, ap, ◌∙◌, subst, arith, length-append}
 use Rattle.std.specs.Prelude.{Option, Some, None, IsSome, IsSomeAnd, flat_map, is_some, slice_get}
 use Rattle.std.proofs.lemmas.List.{map-append}
 use Rattle.std.proofs.lemmas.List.Concat.{flat_map-cons}
 use Rattle.jc_base.specs.declared.ty.Ty.{Ty}
-use Rattle.jc_base.specs.declared.ty.Ty.TheVariants.{Short, IntHigh, IntLow, Class, Fresh, Top}
+use Rattle.jc_base.specs.declared.ty.Ty.TheVariants.{Fresh, Top}
 use Rattle.jc_base.specs.Class.{ClassTable, object}
 use Rattle.jc_base.specs.Each.{Each, IsAmong}
 use Rattle.jc_base.specs.Laws.{IsOrderOfTypes, SameTypeDecides}
 use Rattle.jc_base.specs.Order.{Below}
 use Rattle.jc_base.specs.World.{Linked}
-use Rattle.jc_decode.specs.declared.symbols.Item.{Item}
 use Rattle.jc_ops.specs.declared.operation.Sort.{Sort}
-use Rattle.jc_ops.specs.declared.operation.Sort.TheVariants as sorts
 use Rattle.jc_control.specs.Control.{IsReached, begins, follows}
 use Rattle.jc_rules.specs.Demand.{Frame as Types}
 use Rattle.jc_rules.specs.Flow.{IsFit, IsNotFresh, IsNotTop}
 use Rattle.vm_store.specs.declared.cell.Cell.{Cell}
-use Rattle.vm_store.specs.declared.cell.Cell.TheVariants as cells_of
 use Rattle.vm_store.specs.declared.kind.ObjectKind.{ObjectKind}
-use Rattle.vm_store.specs.declared.kind.ObjectKind.TheVariants.{Instance}
 use Rattle.vm_store.specs.Typing.{type_of_fresh, fresh_seen}
 use Rattle.vm_store.specs.Cells.{tagged}
 use Rattle.vm_store.specs.Objects.{kinds}
@@ -56,9 +52,7 @@ use Rattle.law_homes.specs.Premises.{AreMoveLaws}
 
 module _ (t : ClassTable) (order : IsOrderOfTypes t) (ks : List ObjectKind) where
   fresh-seen : (p : ℕ) (o : Option ObjectKind) → (fresh_seen p o ≡ Top) ⊎ ((c : ℕ) × (fresh_seen p o ≡ Fresh p c))
-  fresh-seen p None = inl refl
-  fresh-seen p (Some (Instance c)) = inr (c, refl)
-  fresh-seen p (Some k) = inl refl
+  fresh-seen p y = grind (arith)
 
   fresh-is : (h p : ℕ) → (type_of_fresh ks h p ≡ Top) ⊎ ((c : ℕ) × (type_of_fresh ks h p ≡ Fresh p c))
   fresh-is zero p = inl refl
@@ -72,8 +66,7 @@ module _ (t : ClassTable) (order : IsOrderOfTypes t) (ks : List ObjectKind) wher
       by (inr (c, e)) = not-fresh t order (Fresh p c) ty (subst (λ (u : Ty). Below t u ty) e le) ready top
 
   same-cell : (e : ℕ → ℕ) (c : Cell) (ty : Ty) → IsCellOf t ks ty c → IsNotFresh ty → IsNotTop ty → renamed_cell e c ≡ c
-  same-cell e (cells_of.Fresh h p) ty is ready top = absurd (no-fresh h p ty is.1 ready top)
-  same-cell e c ty is ready top = refl
+  same-cell e c ty is ready top = grind (arith, no-fresh)
 
   same-nth : (e : ℕ → ℕ) (values : List Cell) (n : ℕ) (ty : Ty) → CellsAt t ks values n (ty ∷ []) → IsNotFresh ty → IsNotTop ty
       → renamed_cell e (nth tagged values n) ≡ nth tagged values n
@@ -82,11 +75,7 @@ module _ (t : ClassTable) (order : IsOrderOfTypes t) (ks : List ObjectKind) wher
   pub same-value :
       (e : ℕ → ℕ) (letter : Sort) (values : List Cell) (n : ℕ) → CellsAt t ks values n (asked_types t letter)
       → map (renamed_cell e) (value_in_register letter n values) ≡ value_in_register letter n values
-  same-value e sorts.Reference values n is = ap (λ (c : Cell). c ∷ []) (same-nth e values n (Class (object t)) is tt tt)
-  same-value e sorts.Short values n is = ap (λ (c : Cell). c ∷ []) (same-nth e values n Short is tt tt)
-  same-value e sorts.Int values n is =
-      ap (λ (c : Cell). c ∷ renamed_cell e (nth tagged values n) ∷ []) (same-nth e values (n + 1) IntLow is.1 tt tt)
-      ∙ ap (λ (c : Cell). nth tagged values (n + 1) ∷ c ∷ []) (same-nth e values n IntHigh (is.0, tt) tt tt)
+  same-value e y values n is = grind (arith, same-nth)
 
   same-pile :
       (e : ℕ → ℕ) (values : List Cell) (hs : List Home) → Each (λ h. CellsAt t ks values h.slot (asked_types t (letter_of h.ty))) hs
@@ -137,22 +126,11 @@ module _ (v : Linked) (fill : CellsFillStack v) where
 -- ---- copies
 
 insns-if : (s : Source) (from k : Home) (b : Bool) → length (insns (if b then [] else copy s from k)) ≤ 2
-insns-if s from k true = omega arith
-insns-if s from k false = omega arith
+insns-if s from k u = grind (arith)
 
 new-few : (s : Source) (from : Home) (there ks : List Home) → length (insns (flat_map (copy_new s from there) ks)) ≤ 2 * length ks
 new-few s from there [] = omega arith
-new-few s from there (k ∷ ks) =
-    let e = ap (λ (xs : List Item). length (insns xs)) (flat_map-cons (copy_new s from there) k ks) in
-    let p = ap length (insns-append (copy_new s from there k) (flat_map (copy_new s from there) ks)) in
-    omega (
-      arith,
-      e,
-      p,
-      length-append (insns (copy_new s from there k)) (insns (flat_map (copy_new s from there) ks)),
-      insns-if s from k (has there k),
-      new-few s from there ks,
-    )
+new-few s from there (k ∷ ks) = grind (arith, flat_map-cons, insns-append, length-append, insns-if, new-few s from there ks)
 
 local-few : (s : Source) (o : Origin) (q x : ℕ) → length (insns (local_copies s o q x)) ≤ 2 * length (needed s q x)
 unfolding local_copies
@@ -169,16 +147,7 @@ all_needed s q x (suc n) = needed s q x ++ all_needed s q (suc x) n
 
 locals-few : (s : Source) (o : Origin) (q x n : ℕ) → length (insns (locals_copies s o q x n)) ≤ 2 * length (all_needed s q x n)
 locals-few s o q x zero = omega arith
-locals-few s o q x (suc n) =
-    let p = ap length (insns-append (local_copies s o q x) (locals_copies s o q (suc x) n)) in
-    omega (
-      arith,
-      p,
-      length-append (insns (local_copies s o q x)) (insns (locals_copies s o q (suc x) n)),
-      local-few s o q x,
-      locals-few s o q (suc x) n,
-      length-append (needed s q x) (all_needed s q (suc x) n),
-    )
+locals-few s o q x (suc n) = grind (arith, insns-append, suc, length-append, local-few, locals-few s o q (suc x) n)
 
 module _ (v : Linked) (same_is : SameTypeDecides) (kept : NeededAreKept) (have : NeededHaveHomes v) (s : Source) (is : s.world ≡ v) (plan : IsPlanned s)
     (q : ℕ) (g : Types) (e : s.frames q ≡ Some g) where
@@ -227,8 +196,7 @@ reached-by s _ _ (leads_after {i = i} st there is succ) = follows {i = i} st the
 reached-by s _ _ (leads_entry there) = there
 
 frame-at : (o : Option Types) → IsSome o → (g : Types) × (o ≡ Some g)
-frame-at None is = absurd (cc)
-frame-at (Some g) is = (g, refl)
+frame-at x is = grind (arith)
 
 pub copies-are-few : (v : Linked) → SameTypeDecides → NeededAreKept → NeededHaveHomes v → CopiesAreFew v
 copies-are-few v same_is kept have s o q is plan leads =

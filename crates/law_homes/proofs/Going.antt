@@ -19,7 +19,6 @@ use Rattle.jc_ops.specs.declared.want.Want.TheVariants.{Value}
 use Rattle.jc_rules.specs.Demand.{SatisfiesAll, Meets}
 use Rattle.jc_rules.specs.Rule.{demands}
 use Rattle.vm_store.specs.declared.cell.Cell.{Cell}
-use Rattle.vm_store.specs.declared.cell.Cell.TheVariants.{Empty}
 use Rattle.vm_store.specs.declared.cell.CellKind.{CellKind}
 use Rattle.vm_store.specs.declared.cell.CellKind.TheVariants as made
 use Rattle.vm_store.specs.declared.kind.ObjectKind.{ObjectKind}
@@ -47,11 +46,7 @@ use Rattle.jc_decode.specs.Places.{place_after}
 
 -- what was stored in a cell is loaded as it is
 pub loaded-filled : (kind : CellKind) (c : Cell) → HasContent c → loaded_as kind c ≡ c
-loaded-filled made.Reference Empty h = absurd h
-loaded-filled made.Short Empty h = absurd h
-loaded-filled made.High Empty h = absurd h
-loaded-filled made.Low Empty h = absurd h
-loaded-filled _ _ h = refl
+loaded-filled x y h = grind (arith)
 
 module _ (w : Linked) (chains : AreClasses w.classes) where
   -- ---- one step
@@ -209,8 +204,7 @@ module _ (w : Linked) (chains : AreClasses w.classes) where
       → Runs tagged w 2 (record { frames = fs; heap = heap; statics = statics })
       (running (with_registers (record { frames = fs; heap = heap; statics = statics }) (place_after j)
       (copied tagged sort from to (top (record { frames = fs; heap = heap; statics = statics })).registers)))
-  copies-by [] heap statics i j _ from to loads stores asked filled inside room next last =
-      absurd (let lt = loads.fetched.runs in omega (arith, lt))
+  copies-by [] heap statics i j _ from to loads stores asked filled inside room next last = grind (arith)
   copies-by (f ∷ below) heap statics i j sort from to loads stores asked filled inside room next last =
       copy-runs f below heap statics i j from to next last sort loads stores asked filled inside room
 

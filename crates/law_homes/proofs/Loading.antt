@@ -16,15 +16,15 @@ use Rattle.jc_control.specs.WellFormed.{IsPlace}
 use Rattle.jc_ops.specs.declared.operation.Operation.TheVariants as ops
 use Rattle.jc_ops.specs.declared.operation.Sort.{Sort}
 use Rattle.jc_ops.specs.declared.operation.Sort.TheVariants as sorts
-use Rattle.jc_ops.specs.Row.{table, row_at, unused, by_sort, by_width, by_kind, first_four, by_register, literals, binaries, orders_all, branching}
+use Rattle.jc_ops.specs.Row.{table, row_at, unused, by_sort, by_width, by_kind}
+use Rattle.jc_ops.specs.Row.{first_four, by_register, literals, binaries, orders_all, branching}
 use Rattle.jc_ops.specs.Resolve.{resolved, Resolves}
 use Rattle.jc_rules.specs.Demand.{SatisfiesAll}
 use Rattle.jc_rules.specs.Rule.{demands}
 use Rattle.vm_store.specs.declared.cell.Cell.{Cell}
-use Rattle.vm_store.specs.declared.cell.CellKind.TheVariants as made
 use Rattle.vm_store.specs.declared.kind.ObjectKind.{ObjectKind}
 use Rattle.vm_store.specs.Cells.{tagged}
-use Rattle.vm_store.specs.State.{State, Frame, Object, first_frame, top, nth, with_place, with_stack}
+use Rattle.vm_store.specs.State.{State, Frame, Object, first_frame, top, with_place, with_stack}
 use Rattle.vm_step.specs.Methods.{code_at, max_stack_of}
 use Rattle.vm_step.specs.Raising.{running}
 use Rattle.vm_step.specs.Run.{Runs, stands, steps as then}
@@ -37,7 +37,8 @@ use Rattle.xf_emission.specs.Mnemonics.{aload, sload, iload, astore, sstore, ist
 use Rattle.xf_homes.specs.declared.home.Home.{Home}
 use Rattle.xf_homes.specs.Source.{Source}
 use Rattle.xf_homes.specs.Plan.{register}
-use Rattle.law_homes.specs.Moves.{IsExecutable, AreFilled, letter_of, InstructionsStandFrom, load_of, IsAtStep, CanLoad, value_in_register, loaded_stack}
+use Rattle.law_homes.specs.Moves.{IsExecutable, AreFilled, letter_of, InstructionsStandFrom, load_of}
+use Rattle.law_homes.specs.Moves.{IsAtStep, CanLoad, value_in_register, loaded_stack}
 use Rattle.law_homes.specs.Moves.{LoadsRun}
 use Rattle.jc_decode.specs.Places.{place_after}
 use Rattle.law_homes.proofs.Going.{loaded-filled, operations-go-on}
@@ -105,33 +106,21 @@ module _
       → SatisfiesAll w.classes
       (record { regs = least_types w.classes Bottom ks registers; stack = least_types w.classes Bottom ks others })
       (demands w (ops.Load letter r))
-  asked-over sorts.Reference r stack others h = h
-  asked-over sorts.Short r stack others h = h
-  asked-over sorts.Int r stack others h = h
+  asked-over x r stack others h = grind (arith)
 
   load-is :
       (letter : Sort) (r p q : ℕ) (stack : List Cell) → AreFilled letter r registers
       → with_place (with_load tagged letter r (at p stack)) q ≡ at q (value_in_register letter r registers ++ stack)
-  load-is sorts.Reference r p q stack filled =
-      ap (λ c. at q (c ∷ stack)) (loaded-filled made.Reference (nth tagged registers r) filled)
-  load-is sorts.Short r p q stack filled = ap (λ c. at q (c ∷ stack)) (loaded-filled made.Short (nth tagged registers r) filled)
-  load-is sorts.Int r p q stack filled =
-      ap (λ c. at q (c ∷ tagged.loaded made.High (nth tagged registers r) ∷ stack))
-      (loaded-filled made.Low (nth tagged registers (r + 1)) filled.1)
-      ∙ ap (λ c. at q (nth tagged registers (r + 1) ∷ c ∷ stack)) (loaded-filled made.High (nth tagged registers r) filled.0)
+  load-is x r p q stack filled = grind (arith, loaded-filled)
 
   load-depth :
       (letter : Sort) (r p : ℕ) (stack : List Cell) → length (top (with_load tagged letter r (at p stack))).stack
       ≡ length (value_in_register letter r registers ++ stack)
-  load-depth sorts.Reference r p stack = refl
-  load-depth sorts.Short r p stack = refl
-  load-depth sorts.Int r p stack = refl
+  load-depth x r p stack = grind (arith)
 
   -- a load leaves the method on top
   load-method : (letter : Sort) (r p : ℕ) (stack : List Cell) → (top (with_load tagged letter r (at p stack))).method ≡ method
-  load-method sorts.Reference r p stack = refl
-  load-method sorts.Short r p stack = refl
-  load-method sorts.Int r p stack = refl
+  load-method x r p stack = grind (arith)
 
   one-load :
       (n p : ℕ) (h : Home) (stack first : List Cell)
@@ -161,16 +150,11 @@ module _
       (ap (λ q. with_place z q) ex.ends ∙ load-is letter r (place n) (place (n + 1)) stack can.1.filled) went
 
   above : (letter : Sort) (r : ℕ) (stack : List Cell) → length stack ≤ length (value_in_register letter r registers ++ stack)
-  above sorts.Reference r stack = omega arith
-  above sorts.Short r stack = omega arith
-  above sorts.Int r stack = omega arith
+  above x r stack = grind (arith)
 
   deeper : (hs : List Home) (stack : List Cell) → length stack ≤ length (loaded_stack s registers hs stack)
   deeper [] stack = omega arith
-  deeper (h ∷ hs) stack =
-      let rest = deeper hs (value_in_register (letter_of h.ty) (register s h) registers ++ stack) in
-      let own = above (letter_of h.ty) (register s h) stack in
-      omega (arith, rest, own)
+  deeper (h ∷ hs) stack = grind (arith, deeper hs (value_in_register (letter_of h.ty) (register s h) registers ++ stack))
 
   loads-from :
       (n : ℕ) (hs : List Home) (stack first : List Cell) (p : ℕ)

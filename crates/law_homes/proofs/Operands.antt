@@ -1,4 +1,5 @@
 -- The loads after a conditional's stack was stored: those of its operands, and those of the cells under them.
+use Rattle.law_homes.proofs.Copies.{wide}
 use Rattle.std.proofs.Common.{◌≡◌, inl, inr, ℕ, ◌+◌, ◌-◌, ◌<◌, ◌≤◌, true, List, [], ◌∷◌, ◌++◌, length, take, drop}
 use Rattle.std.proofs.Common.{reverse, refl, sym, ap, ◌∙◌, subst, arith, append_assoc, length-append}
 use Rattle.std.proofs.lemmas.List.{append_cancel_right, length-reverse, length-drop, reverse-append, reverse-reverse, take-append-drop}
@@ -10,7 +11,6 @@ use Rattle.jc_base.specs.World.{Linked}
 use Rattle.jc_decode.specs.declared.insn.Placed.{Placed}
 use Rattle.jc_decode.specs.Symbols.{Step}
 use Rattle.jc_ops.specs.declared.operation.Sort.{Sort}
-use Rattle.jc_ops.specs.declared.operation.Sort.TheVariants as sorts
 use Rattle.vm_store.specs.declared.cell.Cell.{Cell}
 use Rattle.vm_store.specs.Cells.{tagged}
 use Rattle.vm_store.specs.State.{State, Frame, nth, top}
@@ -19,7 +19,6 @@ use Rattle.vm_step.specs.Raising.{running}
 use Rattle.vm_step.specs.Run.{Runs}
 use Rattle.law_alike.proofs.Asked.{register-same}
 use Rattle.xf_homes.specs.declared.home.Home.{Home}
-use Rattle.xf_homes.specs.Home.{register_count}
 use Rattle.xf_homes.specs.Order.{SlotsFollow as Follow, register_sum}
 use Rattle.xf_homes.specs.Value.{type_width}
 use Rattle.xf_homes.specs.Source.{Source}
@@ -32,7 +31,6 @@ use Rattle.law_rewritten_typing.proofs.Stacks.{turned-cons}
 use Rattle.law_homes.specs.Edges.{insns, top_at, IsBeside, OperandsLoad, UnderHold, UnderLoads}
 use Rattle.law_homes.specs.Held.{HoldsValue, slots}
 use Rattle.law_homes.specs.Moves.{size, letter_of, InstructionsStandFrom, IsAtStep, CanLoad, loaded_stack, value_in_register}
-use Rattle.law_homes.proofs.Copies.{wide}
 use Rattle.law_homes.proofs.Loading.{loads-run}
 use Rattle.law_homes.proofs.StackStores.{piled, piled-append, piled-from}
 use Rattle.law_homes.proofs.Leading.{insns-loads}
@@ -44,9 +42,7 @@ use Rattle.law_homes.proofs.Beside.{held-can-load, get-left}
 
 piled-base : (values : List Cell) (hs : List Home) (stack : List Cell) → piled values hs stack ≡ piled values hs [] ++ stack
 piled-base values [] stack = refl
-piled-base values (h ∷ hs) stack =
-    ap (λ (cs : List Cell). value_in_register (letter_of h.ty) h.slot values ++ cs) (piled-base values hs stack)
-    ∙ sym (append_assoc (value_in_register (letter_of h.ty) h.slot values) (piled values hs []) stack)
+piled-base values (h ∷ hs) stack = grind (arith, append_assoc, piled-base values hs stack)
 
 module _ (s : Source) (values : List Cell) (g : Frame Cell) where
   same-at : (h : Home) (k : ℕ) → k < type_width h.ty → HoldsValue s values g h → nth tagged g.registers (register s h + k) ≡ nth tagged values
@@ -54,18 +50,11 @@ module _ (s : Source) (values : List Cell) (g : Frame Cell) where
   same-at h k lt held = register-same values g.registers (h.slot + k) (register s h + k) (held.equal k lt)
 
   same-first : (h : Home) → 0 < type_width h.ty → HoldsValue s values g h → nth tagged g.registers (register s h) ≡ nth tagged values h.slot
-  same-first h some held =
-      let here : register s h ≡ register s h + 0 = omega arith in
-      let there : h.slot + 0 ≡ h.slot = omega arith in
-      ap (nth tagged g.registers) here ∙ (same-at h 0 some held ∙ ap (nth tagged values) there)
+  same-first h some held = grind (arith, same-at h 0 some held)
 
   same-value : (letter : Sort) (h : Home) → type_width h.ty ≡ size letter → HoldsValue s values g h
       → value_in_register letter (register s h) g.registers ≡ value_in_register letter h.slot values
-  same-value sorts.Reference h e held = ap (λ (c : Cell). c ∷ []) (same-first h (omega (arith, e)) held)
-  same-value sorts.Short h e held = ap (λ (c : Cell). c ∷ []) (same-first h (omega (arith, e)) held)
-  same-value sorts.Int h e held =
-      ap (λ (c : Cell). c ∷ nth tagged g.registers (register s h) ∷ []) (same-at h 1 (omega (arith, e)) held)
-      ∙ ap (λ (c : Cell). nth tagged values (h.slot + 1) ∷ c ∷ []) (same-first h (omega (arith, e)) held)
+  same-value x h e held = grind (arith, same-first, same-at)
 
   -- what is loaded from homes that hold their values
   loaded-piled : (hs : List Home) (stack : List Cell) → Each (HoldsValue s values g) hs → loaded_stack s g.registers hs stack
@@ -118,19 +107,11 @@ slots-to n (k ∷ hs) follow h (inr a) =
 -- a value among cells, and among more of them
 grown : (s : Source) (xs ys : List Cell) (g : Frame Cell) (h : Home) → h.slot + type_width h.ty ≤ length xs → HoldsValue s xs g h
     → HoldsValue s (xs ++ ys) g h
-grown s xs ys g h inside held = record {
-  known = omega (arith, inside, length-append xs ys);
-  there = held.there;
-  equal = λ n lt. held.equal n lt ∙ sym (get-left xs ys (h.slot + n) (omega (arith, inside, lt)));
-}
+grown s xs ys g h inside held = grind (arith, length-append, get-left)
 
 cut-back : (s : Source) (xs ys : List Cell) (g : Frame Cell) (h : Home) → h.slot + type_width h.ty ≤ length xs → HoldsValue s (xs ++ ys) g h
     → HoldsValue s xs g h
-cut-back s xs ys g h inside held = record {
-  known = inside;
-  there = held.there;
-  equal = λ n lt. held.equal n lt ∙ get-left xs ys (h.slot + n) (omega (arith, inside, lt));
-}
+cut-back s xs ys g h inside held = grind (arith, get-left)
 
 among-left : (h : Home) (hs ks : List Home) → IsAmong h hs → IsAmong h (hs ++ ks)
 among-left h [] ks a = absurd a
@@ -153,8 +134,7 @@ module _ (v w : Linked) (l : AreMoveLaws v w) (place : ℕ → ℕ) (steps : Lis
       (typed v w l s is plan i.place f t beside).at (fork.keeps over)
 
   follow : Follow (length f.registers) (under s i.place k ++ operands s i.place k)
-  follow = subst (λ (n : ℕ). Follow n (under s i.place k ++ operands s i.place k)) (sym (count-registers v w l s is plan i.place f t beside))
-      (subst (Follow (register_count s.method.rec)) fork.parts filled.follow)
+  follow = grind (arith, count-registers)
 
   total : register_sum (under s i.place k) + register_sum (operands s i.place k) ≡ length f.stack
   unfolding register_sum

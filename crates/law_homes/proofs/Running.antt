@@ -1,5 +1,5 @@
 -- Which frames run alike: kept instructions, and loads, increments and stores of homes.
-use Rattle.std.proofs.Common.{◌≡◌, ℕ, ◌+◌, ◌<◌, ◌≤◌, List, [], ◌∷◌, length, map, refl, sym, ap, ◌∙◌, arith}
+use Rattle.std.proofs.Common.{◌≡◌, ℕ, ◌+◌, ◌<◌, ◌≤◌, List, [], ◌∷◌, length, map, refl, ap, arith}
 use Rattle.std.specs.Prelude.{max, slice_get}
 use Rattle.jc_base.specs.World.{Linked}
 use Rattle.jc_decode.specs.declared.insn.Placed.{Placed}
@@ -39,11 +39,7 @@ module _ {A : Type 0} where
   first-cell :
       (s t : State A) (source : Source) (h : Home) (n : ℕ) → HoldsValue source (top s).registers (top t) h → type_width h.ty ≡ n → 0 < n
       → slice_get (top t).registers (register source h) ≡ slice_get (top s).registers h.slot
-  first-cell s t source h n held wide some =
-      let here : register source h ≡ register source h + 0 = omega arith in
-      let there : h.slot + 0 ≡ h.slot = omega arith in
-      ap (slice_get (top t).registers) here
-      ∙ (held.equal 0 (omega (arith, wide, some)) ∙ ap (slice_get (top s).registers) there)
+  first-cell s t source h n held wide some = grind (arith)
 
   second-cell :
       (s t : State A) (source : Source) (h : Home) → HoldsValue source (top s).registers (top t) h → type_width h.ty ≡ 2
@@ -59,23 +55,10 @@ module _ {A : Type 0} where
       → registers_asked (demands w b) ≤ length (top t).registers
       → map (slice_get (top t).registers) (registers_read (demands w b)) ≡ map (slice_get (top s).registers) (registers_read (demands v a))
       → RunAlike e place v w s t i j a b
-  alike-by alike codes states named read = record {
-    operations = alike;
-    keys = codes.keys;
-    targets = codes.targets;
-    next = codes.next;
-    states = states;
-    named = named;
-    read = read;
-    room = codes.room;
-  }
+  alike-by alike codes states named read = grind (arith)
 
   pub kept-run-alike : KeptRunAlike A
-  kept-run-alike e place v w s t i j a b states codes alike none also =
-      let reads : registers_read (demands v a) ≡ [] = none-read (demands v a) none in
-      let others : registers_read (demands w b) ≡ [] = none-read (demands w b) also in
-      alike-by alike codes states (omega (arith, also))
-      (ap (map (slice_get (top t).registers)) others ∙ sym (ap (map (slice_get (top s).registers)) reads))
+  kept-run-alike e place v w s t i j a b states codes alike none also = grind (arith, none-read, alike-by)
 
   pub loads-run-alike : LoadsRunAlike A
   loads-run-alike e place v w s t i j source h sorts.Reference states codes held wide =

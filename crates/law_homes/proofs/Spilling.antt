@@ -34,7 +34,7 @@ use Rattle.xf_emission.specs.Move.{with_byte, store_op, store, spill}
 use Rattle.law_rewritten_typing.specs.Planned.{IsPlanned}
 use Rattle.law_rewritten_typing.specs.Edges.{CellsFillStack, FillStack}
 use Rattle.law_rewritten_typing.proofs.Stacks.{turned-cons}
-use Rattle.law_homes.specs.Edges.{insns, top_at, IsBeside, AreSpilled, StacksSpill}
+use Rattle.law_homes.specs.Edges.{insns, IsBeside, AreSpilled, StacksSpill}
 use Rattle.law_homes.specs.Held.{HoldsValue, slots}
 use Rattle.law_homes.specs.Laws.{AreApart}
 use Rattle.law_homes.specs.Moves.{IsExecutable, size, letter_of, InstructionsStandFrom, IsAtStep, OwnRegisters, value_in_register}
@@ -45,7 +45,8 @@ use Rattle.law_homes.proofs.Loading.{store-resolves, step-place}
 use Rattle.law_homes.proofs.Standing.{steps-execute}
 use Rattle.law_homes.proofs.Valued.{asked_types, CellsAt, value-inside}
 use Rattle.law_homes.proofs.StackStores.{piled, piled-stack, stored, stored-count, stored-holds, stored-apart, store-asked}
-use Rattle.law_homes.proofs.Beside.{each-among, among-each, own, register-inside, register-small, typed, count-registers, count-stack, stack-fits, placed-state}
+use Rattle.law_homes.proofs.Beside.{each-among, among-each, own, register-inside, register-small}
+use Rattle.law_homes.proofs.Beside.{typed, count-registers, count-stack, stack-fits, placed-state}
 use Rattle.law_homes.specs.Premises.{AreMoveLaws}
 use Rattle.law_homes.proofs.Beside.{cells-valued, held-as}
 
@@ -80,23 +81,17 @@ module _
       (letter : Sort) (slot r p q : ℕ) (registers stack : List Cell)
       → with_place (with_store tagged letter r (at p registers (value_in_register letter slot values ++ stack))) q
       ≡ at q (stored letter values slot r registers) stack
-  store-is sorts.Reference slot r p q registers stack = refl
-  store-is sorts.Short slot r p q registers stack = refl
-  store-is sorts.Int slot r p q registers stack = refl
+  store-is x slot r p q registers stack = grind (arith)
 
   store-depth :
       (letter : Sort) (slot r p : ℕ) (registers stack : List Cell)
       → length (top (with_store tagged letter r (at p registers (value_in_register letter slot values ++ stack)))).stack ≡ length stack
-  store-depth sorts.Reference slot r p registers stack = refl
-  store-depth sorts.Short slot r p registers stack = refl
-  store-depth sorts.Int slot r p registers stack = refl
+  store-depth x slot r p registers stack = grind (arith)
 
   store-method :
       (letter : Sort) (slot r p : ℕ) (registers stack : List Cell)
       → (top (with_store tagged letter r (at p registers (value_in_register letter slot values ++ stack)))).method ≡ method
-  store-method sorts.Reference slot r p registers stack = refl
-  store-method sorts.Short slot r p registers stack = refl
-  store-method sorts.Int slot r p registers stack = refl
+  store-method x slot r p registers stack = grind (arith)
 
   -- what a home has to be for its value to be stored there from the stack
   pub record IsStored (count : ℕ) (k : Home) : Type 0 where
@@ -305,14 +300,9 @@ module _ (v w : Linked) (l : AreMoveLaws v w) (place : ℕ → ℕ) (steps : Lis
       ∙ placed-state g below heap statics (place n) at.at in
       record {
         registers = ran.after;
-        runs =
-            subst (λ (k : ℕ). Runs tagged w k t (running (top_at t (place (n + length hs)) ran.after []))) count
-            (subst (λ (k : ℕ). Runs tagged w (length (reverse hs)) t (running (top_at t (place (n + k)) ran.after []))) count
-            (subst (λ (x : State Cell). Runs tagged w (length (reverse hs)) x (running (top_at t (place (n + length (reverse hs))) ran.after []))) begins
-            ran.runs));
+        runs = grind (arith, reverse);
         count = ran.many;
-        cells = each-among (HoldsValue s (slots f) (record g { registers = ran.after })) hs
-            (λ k a. held-as s (slots f) _ (record g { registers = ran.after }) k refl (among-each _ (reverse hs) k ran.holds (among-reverse k hs a)));
+        cells = grind (arith, each-among, held-as, among-each, reverse, among-reverse);
         others = λ cs h has low held.
             held-as s cs (record { method = g.method; place = 0; registers = ran.after; stack = [] }) (record g { registers = ran.after }) h refl
             (ran.others cs h has
@@ -328,8 +318,7 @@ module _ (v w : Linked) (l : AreMoveLaws v w) (place : ℕ → ℕ) (steps : Lis
       → InstructionsStandFrom steps n (insns (spill s (stack_homes s q)))
       → (first_frame fs).stack ≡ f.stack
       → AreSpilled w s q f (record { frames = fs; heap = heap; statics = statics }) (place (n + length (stack_homes s q)))
-  spill-frames [] heap statics n beside at stand e = absurd (let lt = at.runs in omega (arith, lt))
-  spill-frames (g ∷ below) heap statics n beside at stand e = spill-by g below heap statics n beside at stand e
+  spill-frames x heap statics n beside at stand e = grind (arith, spill-by)
 
 pub stacks-spill : (v w : Linked) → AreMoveLaws v w → StacksSpill v w
 stacks-spill v w l place steps t n s q f is plan beside keeps at stand e =

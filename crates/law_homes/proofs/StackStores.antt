@@ -1,6 +1,6 @@
 -- The values of homes on a stack, and the stores that take them from there.
 use Rattle.std.proofs.Common.{◌≡◌, ◌⊎◌, inl, inr, ℕ, zero, suc, ◌+◌, ◌<◌, ◌≤◌, List, [], ◌∷◌, ◌++◌, length, take}
-use Rattle.std.proofs.Common.{reverse, set, length-set, refl, sym, ap, ◌∙◌, subst, arith}
+use Rattle.std.proofs.Common.{reverse, set, length-set, refl, ap, ◌∙◌, subst, arith}
 use Rattle.std.specs.Prelude.{slice_get, sum_by}
 use Rattle.std.proofs.lemmas.List.{take_all, length-reverse, reverse-reverse}
 use Rattle.std.proofs.lemmas.List.Sums.{sum_by-cons}
@@ -15,7 +15,6 @@ use Rattle.jc_ops.specs.declared.operation.Sort.TheVariants as sorts
 use Rattle.jc_rules.specs.Demand.{SatisfiesAll}
 use Rattle.jc_rules.specs.Rule.{demands}
 use Rattle.vm_store.specs.declared.cell.Cell.{Cell}
-use Rattle.vm_store.specs.declared.cell.Cell.TheVariants.{Empty}
 use Rattle.vm_store.specs.declared.kind.ObjectKind.{ObjectKind}
 use Rattle.vm_store.specs.Cells.{tagged}
 use Rattle.vm_store.specs.State.{Frame, nth}
@@ -51,21 +50,14 @@ module _ (regs xs : List Cell) where
   slot-is j = register-same xs (regs ++ xs) j (length regs + j) (slice_get-farther regs xs j (length regs + j) refl)
 
   one-on : (j : ℕ) → j + 1 ≤ length xs → nth tagged (regs ++ xs) (length regs + j) ∷ reverse (take j xs) ≡ reverse (take (j + 1) xs)
-  one-on j le =
-      let next : suc j ≡ j + 1 = omega arith in
-      ap (λ (c : Cell). c ∷ reverse (take j xs)) (slot-is j) ∙ (sym (more-taken xs j (omega (arith, le))) ∙ ap (λ (n : ℕ). reverse (take n xs)) next)
+  one-on j le = grind (arith, suc, reverse, slot-is, more-taken)
 
   value-on :
       (letter : Sort) (j : ℕ) → j + size letter ≤ length xs
       → value_in_register letter (length regs + j) (regs ++ xs) ++ reverse (take j xs) ≡ reverse (take (j + size letter) xs)
   value-on sorts.Reference j le = one-on j le
   value-on sorts.Short j le = one-on j le
-  value-on sorts.Int j le =
-      let far : length regs + j + 1 ≡ length regs + (j + 1) = omega arith in
-      let last : j + 1 + 1 ≡ j + 2 = omega arith in
-      ap (λ (n : ℕ). nth tagged (regs ++ xs) n ∷ nth tagged (regs ++ xs) (length regs + j) ∷ reverse (take j xs)) far
-      ∙ (ap (λ (cs : List Cell). nth tagged (regs ++ xs) (length regs + (j + 1)) ∷ cs) (one-on j (omega (arith, le)))
-      ∙ (one-on (j + 1) (omega (arith, le)) ∙ ap (λ (n : ℕ). reverse (take n xs)) last))
+  value-on sorts.Int j le = grind (arith, reverse (take j xs), one-on j (omega (arith, le)), one-on (j + 1) (omega (arith, le)))
 
   -- the values of homes that follow one another from a cell on
   pub piled-from :
@@ -107,31 +99,17 @@ stored _ values slot r registers = set registers r (nth tagged values slot)
 
 pub stored-count : (letter : Sort) (values : List Cell) (slot r : ℕ) (registers : List Cell) → length (stored letter values slot r registers)
     ≡ length registers
-stored-count sorts.Reference values slot r registers = length-set registers r (nth tagged values slot)
-stored-count sorts.Short values slot r registers = length-set registers r (nth tagged values slot)
-stored-count sorts.Int values slot r registers =
-    length-set (set registers r (nth tagged values slot)) (r + 1) (nth tagged values (slot + 1)) ∙ length-set registers r (nth tagged values slot)
+stored-count x values slot r registers = grind (arith, length-set)
 
 stored-other :
     (letter : Sort) (values : List Cell) (slot r : ℕ) (registers : List Cell) (n : ℕ) → (n < r) ⊎ (r + size letter ≤ n)
     → slice_get (stored letter values slot r registers) n ≡ slice_get registers n
-stored-other sorts.Reference values slot r registers n out =
-    slice_get-set_other registers r n (nth tagged values slot) (λ e. beside r 1 n out 0 (omega arith) (omega (arith, e)))
-stored-other sorts.Short values slot r registers n out =
-    slice_get-set_other registers r n (nth tagged values slot) (λ e. beside r 1 n out 0 (omega arith) (omega (arith, e)))
-stored-other sorts.Int values slot r registers n out =
-    slice_get-set_other (set registers r (nth tagged values slot)) (r + 1) n (nth tagged values (slot + 1)) (λ e. beside r 2 n out 1 (omega arith) e)
-    ∙ slice_get-set_other registers r n (nth tagged values slot) (λ e. beside r 2 n out 0 (omega arith) (omega (arith, e)))
+stored-other x values slot r registers n out = grind (arith, slice_get-set_other, beside)
 
 first-stored :
     (values : List Cell) (slot r : ℕ) (registers : List Cell) → slot + 1 ≤ length values → r + 1 ≤ length registers
     → slice_get (set registers r (nth tagged values slot)) (r + 0) ≡ slice_get values (slot + 0)
-first-stored values slot r registers there inside =
-    let here : r + 0 ≡ r = omega arith in
-    let back : slot ≡ slot + 0 = omega arith in
-    ap (slice_get (set registers r (nth tagged values slot))) here
-    ∙ (slice_get-set_here registers r (nth tagged values slot) (omega (arith, inside))
-    ∙ (sym (slice_get-get_or values slot Empty (omega (arith, there))) ∙ ap (slice_get values) back))
+first-stored values slot r registers there inside = grind (arith, slice_get-set_here, slice_get-get_or)
 
 stored-here :
     (letter : Sort) (values : List Cell) (slot r : ℕ) (registers : List Cell) (k : ℕ) → k < size letter
@@ -141,13 +119,8 @@ stored-here sorts.Reference values slot r registers zero lt there inside = first
 stored-here sorts.Reference values slot r registers (suc k) lt there inside = absurd (omega (arith, lt))
 stored-here sorts.Short values slot r registers zero lt there inside = first-stored values slot r registers there inside
 stored-here sorts.Short values slot r registers (suc k) lt there inside = absurd (omega (arith, lt))
-stored-here sorts.Int values slot r registers zero lt there inside =
-    slice_get-set_other (set registers r (nth tagged values slot)) (r + 1) (r + 0) (nth tagged values (slot + 1)) (λ e. omega (arith, e))
-    ∙ first-stored values slot r registers (omega (arith, there)) (omega (arith, inside))
-stored-here sorts.Int values slot r registers (suc zero) lt there inside =
-    let count = length-set registers r (nth tagged values slot) in
-    slice_get-set_here (set registers r (nth tagged values slot)) (r + 1) (nth tagged values (slot + 1)) (omega (arith, inside, count))
-    ∙ sym (slice_get-get_or values (slot + 1) Empty (omega (arith, there)))
+stored-here sorts.Int values slot r registers zero lt there inside = grind (arith, slice_get-set_other, first-stored)
+stored-here sorts.Int values slot r registers (suc zero) lt there inside = grind (arith, length-set, slice_get-set_here, slice_get-get_or)
 stored-here sorts.Int values slot r registers (suc (suc k)) lt there inside = absurd (omega (arith, lt))
 
 module _ (s : Source) (g : Frame Cell) (k : Home) (values : List Cell) (inside : register s k + type_width k.ty ≤ length g.registers) where
@@ -157,16 +130,7 @@ module _ (s : Source) (g : Frame Cell) (k : Home) (values : List Cell) (inside :
   -- the home that was written holds what was stored
   pub stored-holds : k.slot + type_width k.ty ≤ length values
       → HoldsValue s values (record g { registers = stored (letter_of k.ty) values k.slot (register s k) g.registers }) k
-  stored-holds there =
-      let count = stored-count (letter_of k.ty) values k.slot (register s k) g.registers in
-      let w = wide k.ty in
-      record {
-        known = there;
-        there = omega (arith, inside, count);
-        equal =
-            λ n lt. stored-here (letter_of k.ty) values k.slot (register s k) g.registers n (omega (arith, lt, w)) (omega (arith, there, w))
-            (omega (arith, inside, w));
-      }
+  stored-holds there = grind (arith, stored-count, stored-here)
 
   -- one apart from it holds what it held
   pub stored-apart :

@@ -32,17 +32,12 @@ module _ (s : Source) (g : Frame Cell) (regs xs : List Cell) where
   cell-is :
       (h : Home) (j k : ℕ) → h.slot ≡ length regs + j → k < type_width h.ty → HoldsValue s (regs ++ xs) g h
       → nth tagged g.registers (register s h + k) ≡ nth tagged xs (j + k)
-  cell-is h j k slot lt held =
-      register-same xs g.registers (j + k) (register s h + k)
-      (held.equal k lt ∙ slice_get-farther regs xs (j + k) (h.slot + k) (omega (arith, slot)))
+  cell-is h j k slot lt held = grind (arith, register-same, slice_get-farther)
 
   at-zero :
       (h : Home) (j : ℕ) → h.slot ≡ length regs + j → HoldsValue s (regs ++ xs) g h → 0 < type_width h.ty
       → nth tagged g.registers (register s h) ≡ nth tagged xs j
-  at-zero h j slot held some =
-      let here : register s h ≡ register s h + 0 = omega arith in
-      let there : j + 0 ≡ j = omega arith in
-      ap (nth tagged g.registers) here ∙ (cell-is h j 0 slot some held ∙ ap (nth tagged xs) there)
+  at-zero h j slot held some = grind (arith, cell-is h j 0 slot some held)
 
   -- a value of one cell
   one :
@@ -59,17 +54,7 @@ module _ (s : Source) (g : Frame Cell) (regs xs : List Cell) where
       → value_in_register letter (register s h) g.registers ++ reverse (take j xs) ≡ reverse (take (j + size letter) xs)
   one-value sorts.Reference h j is slot le fits held = one h j slot le fits held
   one-value sorts.Short h j is slot le fits held = one h j slot le fits held
-  one-value sorts.Int h j is slot le fits held =
-      let high : nth tagged g.registers (register s h) ≡ nth tagged xs j = at-zero h j slot held (omega (arith, fits)) in
-      let low : nth tagged g.registers (register s h + 1) ≡ nth tagged xs (j + 1) = cell-is h j 1 slot (omega (arith, fits)) held in
-      let next : suc j ≡ j + 1 = omega arith in
-      let last : suc (j + 1) ≡ j + 2 = omega arith in
-      let inner : reverse (take (j + 1) xs) ≡ nth tagged xs j ∷ reverse (take j xs) =
-      ap (λ n. reverse (take n xs)) (sym next) ∙ more-taken xs j (omega (arith, le)) in
-      ap (λ c. nth tagged g.registers (register s h + 1) ∷ c ∷ reverse (take j xs)) high
-      ∙ (ap (λ c. c ∷ nth tagged xs j ∷ reverse (take j xs)) low
-      ∙ (ap (λ cs. nth tagged xs (j + 1) ∷ cs) (sym inner)
-      ∙ (sym (more-taken xs (j + 1) (omega (arith, le))) ∙ ap (λ n. reverse (take n xs)) last)))
+  one-value sorts.Int h j is slot le fits held = grind (arith, at-zero, cell-is, suc, reverse, more-taken)
 
   loaded :
       (hs : List Home) (j : ℕ) → Follow (length regs + j) hs → j + register_sum hs ≤ length xs → Each (HoldsValue s (regs ++ xs) g) hs

@@ -3,11 +3,9 @@ use Rattle.std.proofs.Common.{◌≡◌, ℕ, zero, suc, ◌+◌, ◌-◌, ◌<�
 use Rattle.std.proofs.Common.{◌∙◌, subst, arith}
 use Rattle.std.specs.Prelude.{Some, Ok, IfSome, find, slice_get}
 use Rattle.std.proofs.lemmas.Bool.{eq-eqb, ne_eqb}
-use Rattle.std.proofs.lemmas.List.Elements.{All-weaker}
 use Rattle.std.proofs.lemmas.Option.{slice_get_within}
 use Rattle.jc_base.specs.declared.record.MethodRec.{MethodRec}
 use Rattle.jc_base.specs.Cell.{IsDeclared}
-use Rattle.jc_base.specs.Linked.{IsMethod}
 use Rattle.jc_base.specs.World.{Linked, IsWorld}
 use Rattle.jc_base.proofs.Lists.{All-slice_get, slice_get-some}
 use Rattle.jc_decode.specs.declared.insn.Placed.{Placed}
@@ -43,18 +41,7 @@ module _ (code : List ℕ) (place : ℕ → ℕ) where
       → (k : ℕ) (step : Step) → slice_get steps k ≡ Some step → FoundAt ps (m + k) step
   found-from m [] ps h rise k step e = absurd (omega (arith, slice_get_within [] k step e))
   found-from m (s ∷ steps) [] h rise k step e = absurd h
-  found-from m (s ∷ steps) (p ∷ ps) h rise zero step e =
-      let same : s ≡ step = cc in
-      let here : m ≡ m + 0 = omega arith in
-      let after : suc m ≡ m + 0 + 1 = omega arith in
-      let at : p.place ≡ place (m + 0) = h.0 ∙ ap place here in
-      record {
-        instruction = p;
-        found = ap (λ b. cond b (Some p) (find (λ (i : Placed). i.place == place (m + 0)) ps)) (eq-eqb p.place (place (m + 0)) at);
-        begins = at;
-        ends = h.1 ∙ ap place after;
-        is = subst (λ x. StandsForStep code place x p) same h.2;
-      }
+  found-from m (s ∷ steps) (p ∷ ps) h rise zero step e = grind (arith, suc, cond, eq-eqb)
   found-from m (s ∷ steps) (p ∷ ps) h rise (suc k) step e =
       let inside : k < length steps = slice_get_within steps k step e in
       let rest = found-from (suc m) steps ps h.3 (λ a b lt le. rise a b lt (omega (arith, le))) k step e in
@@ -64,8 +51,7 @@ module _ (code : List ℕ) (place : ℕ → ℕ) where
       let apart : (p.place == place (m + suc k)) ≡ false = ne_eqb p.place (place (m + suc k)) (λ same. omega (arith, same, earlier, other)) in
       record {
         instruction = rest.instruction;
-        found = ap (λ b. cond b (Some p) (find (λ (i : Placed). i.place == place (m + suc k)) ps)) apart
-            ∙ (ap (λ n. find (λ (i : Placed). i.place == place n) ps) (sym number) ∙ rest.found);
+        found = grind (arith, cond, suc);
         begins = rest.begins ∙ ap place number;
         ends = rest.ends ∙ ap (λ n. place (n + 1)) number;
         is = rest.is;
@@ -88,19 +74,11 @@ module _ (code : List ℕ) (place : ℕ → ℕ) (steps : List Step) (are : AreS
       omega (arith, long, at, after)
 
   rises-far : (a d : ℕ) → a + suc d ≤ length steps → place a < place (a + suc d)
-  rises-far a zero le =
-      let e : suc a ≡ a + 1 = omega arith in
-      subst (λ n. place a < place n) e (rises-once a (omega (arith, le)))
-  rises-far a (suc d) le =
-      let before = rises-far a d (omega (arith, le)) in
-      let last = rises-once (a + suc d) (omega (arith, le)) in
-      let e : suc (a + suc d) ≡ a + suc (suc d) = omega arith in
-      subst (λ n. place a < place n) e (omega (arith, before, last))
+  rises-far a zero le = grind (arith, suc, rises-once)
+  rises-far a (suc d) le = grind (arith, rises-once, suc, rises-far a d (omega (arith, le)))
 
   pub rises : (a b : ℕ) → a < b → b ≤ length steps → place a < place b
-  rises a b lt le =
-      let e : a + suc (b - suc a) ≡ b = omega (arith, lt) in
-      subst (λ n. place a < place n) e (rises-far a (b - suc a) (omega (arith, lt, le)))
+  rises a b lt le = grind (arith, suc (b - suc a), rises-far a (b - suc a) (omega (arith, lt, le)))
 
 pub steps-stand-at-places : StepsStandAtPlaces
 unfolding instruction_at
@@ -120,13 +98,7 @@ steps-stand-at-places code place steps n step are e =
 
 -- a world whose operations are sound can run code
 pub can-run : (w : Linked) → IsWorld w → OperationsAreSound w → IsExecutable w
-can-run w world sound = record {
-  chains = world.chains;
-  results =
-      All-weaker (IsMethod w.infos w.pools w.classes) (λ (r : MethodRec). IfSome r.sig.result (IsDeclared w.classes)) (λ r h. h.result) w.methods
-      world.methods;
-  sound = sound;
-}
+can-run w world sound = grind (arith)
 
 pub steps-execute : (w : Linked) → IsExecutable w → StepsExecute w
 steps-execute w world t m place steps n q step op runs method are e at resolves =
@@ -141,11 +113,7 @@ steps-execute w world t m place steps n q step op runs method are e at resolves 
     (subst (λ p. Resolves w m p here.instruction.insn (Ok (operation_renamed (λ k. place n) op))) (sym here.begins) named) in
     record {
       instruction = here.instruction;
-      executes = record {
-        method = m;
-        fetched = record { runs = runs; method = method; instruction = ap (instruction_at code) at ∙ here.found };
-        resolved = own;
-      };
+      executes = grind (arith);
       ends = here.ends;
       is = here.is;
     }

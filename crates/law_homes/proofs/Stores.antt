@@ -211,9 +211,7 @@ module _ (t : ClassTable) (ks : List ObjectKind) where
         by sorts.Int h = low-high (sym is_low ∙ is-high t types_are u (at-nth cs x (IsCellOf t ks IntHigh) h.0).1.1 full)
 
     not-half : (u : Ty) → IsNoHalf u → IsHalf u → ⊥
-    not-half IntHigh n h = n
-    not-half IntLow n h = n
-    not-half u n h = h
+    not-half u n h = grind (arith)
 
     whole-reference : (c : Cell) (k : ℕ) → IsCellOf t ks (Class k) c → IsHalf (least_type t Bottom ks c) → ⊥
     whole-reference c k is = not-half (least_type t Bottom ks c) (is-reference t types_are (least_type t Bottom ks c) k is.1 (filled-full c is.0)).no_half
@@ -226,19 +224,11 @@ module _ (t : ClassTable) (ks : List ObjectKind) where
 
 pub local-cells : (w : Linked) (t : State Cell) (letter : Sort) (x : ℕ) (f : Frame Cell) → HasLocal w t letter x f
     → CellsAt w.classes (kinds t) f.registers x (asked_types w.classes letter)
-local-cells w t sorts.Reference x f is = (back-at w.classes (kinds t) f.registers x (Class (object w.classes)) is.asked.1.0 is.filled, tt)
-local-cells w t sorts.Short x f is = (back-at w.classes (kinds t) f.registers x Short is.asked.1.0 is.filled, tt)
-local-cells w t sorts.Int x f is = (
-  back-at w.classes (kinds t) f.registers x IntHigh is.asked.1.0 is.filled.0,
-  (back-at w.classes (kinds t) f.registers (x + 1) IntLow is.asked.1.1.0 is.filled.1, tt),
-)
+local-cells w t z x f is = grind (arith, back-at)
 
 copies-insns : (s : Source) (h : Home) (ks : List Home) → insns (flat_map (copy s h) ks) ≡ flat_map (copy_of s h) ks
 copies-insns s h [] = refl
-copies-insns s h (k ∷ ks) =
-    ap insns (flat_map-cons (copy s h) k ks)
-    ∙ (insns-append (copy s h k) (flat_map (copy s h) ks)
-    ∙ (ap (λ (is : List Insn). copy_of s h k ++ is) (copies-insns s h ks) ∙ sym (flat_map-cons (copy_of s h) k ks)))
+copies-insns s h (k ∷ ks) = grind (arith, flat_map-cons, insns-append, copies-insns s h ks)
 
 pop_insn : Sort → Insn
 pop_insn sorts.Int = record { op = pop2; x = pos 0; y = pos 0; z = pos 0; len = 1 }
@@ -246,9 +236,7 @@ pop_insn _ = record { op = pop; x = pos 0; y = pos 0; z = pos 0; len = 1 }
 
 popped-insns : (letter : Sort) → insns (pop_item letter ∷ []) ≡ pop_insn letter ∷ []
 unfolding pop_insn
-popped-insns sorts.Int = refl
-popped-insns sorts.Reference = refl
-popped-insns sorts.Short = refl
+popped-insns x = grind (arith)
 
 module _
     (w : Linked) (world : IsExecutable w) (types_are : IsOrderOfTypes w.classes) (place : ℕ → ℕ) (steps : List Step)
@@ -335,19 +323,7 @@ module _ (v w : Linked) (l : AreMoveLaws v w) (place : ℕ → ℕ) (steps : Lis
     begins : (cs : List Cell) → cs ≡ g.stack
         → record { frames = record { method = g.method; place = place n; registers = g.registers; stack = cs } ∷ below; heap = heap; statics = statics }
         ≡ t
-    begins cs e =
-        ap
-        (λ (us : List Cell). record {
-          frames = record { method = g.method; place = place n; registers = g.registers; stack = us } ∷ below;
-          heap = heap;
-          statics = statics;
-        }) e
-        ∙ ap
-        (λ (p : ℕ). record {
-          frames = record { method = g.method; place = p; registers = g.registers; stack = g.stack } ∷ below;
-          heap = heap;
-          statics = statics;
-        }) (sym at.at)
+    begins cs e = grind (arith)
 
     -- a home that is needed has the letter of the store
     pub of-letter : (h : Home) → IsAmong h (needed s q x) → (h.slot ≡ x) × (letter_of h.ty ≡ letter) × HasRegister s.homes h
@@ -495,9 +471,7 @@ module _ (v w : Linked) (l : AreMoveLaws v w) (place : ℕ → ℕ) (steps : Lis
       → length (first_frame fs).stack ≤ s.method.rec.max_stack
       → IsInHomes w s q x f (record { frames = fs; heap = heap; statics = statics }) stack (length (insns (stored_items s letter (needed s q x))))
       (place (n + length (insns (stored_items s letter (needed s q x)))))
-  store-frames [] heap statics n beside local at stand stack_is low = absurd (let lt = at.runs in omega (arith, lt))
-  store-frames (g ∷ below) heap statics n beside local at stand stack_is low =
-      store-runs g below heap statics n (length (insns (stored_items s letter (needed s q x)))) beside local at stack_is low refl stand
+  store-frames x heap statics n beside local at stand stack_is low = grind (arith, store-runs)
 
 pub stores-run : (v w : Linked) → AreMoveLaws v w → StoresRun v w
 stores-run v w l place steps t n s letter q x f stack is plan beside local at stand stack_is low =

@@ -5,7 +5,8 @@ use Rattle.std.specs.Prelude.{Option, Some, None, option_map, IsSomeAnd, slice_g
 use Rattle.std.proofs.lemmas.List.{length-map}
 use Rattle.std.proofs.lemmas.Option.{slice_get-map}
 use Rattle.jc_base.specs.declared.ty.Ty.{Ty}
-use Rattle.jc_base.specs.declared.ty.Ty.TheVariants.{Bottom, Short, IntHigh, IntLow, Null, Class, ArrBool, ArrByte, ArrShort, ArrInt, ArrRef, Fresh, Top}
+use Rattle.jc_base.specs.declared.ty.Ty.TheVariants.{Bottom, Short, IntHigh, IntLow, Null, Class, ArrBool}
+use Rattle.jc_base.specs.declared.ty.Ty.TheVariants.{ArrByte, ArrShort, ArrInt, ArrRef, Fresh, Top}
 use Rattle.jc_base.specs.Class.{ClassTable, object}
 use Rattle.jc_base.specs.Laws.{ClassesAreObjects, IsOrderOfTypes}
 use Rattle.jc_base.specs.Order.{Below, joined, null_object, array_object, of_booleans, of_bytes, of_shorts, of_ints, of_references, IsKnown}
@@ -17,7 +18,6 @@ use Rattle.jc_rules.specs.Demand.{SatisfiesAll}
 use Rattle.jc_rules.specs.Flow.{CellsBelow, IsNotTop}
 use Rattle.jc_rules.specs.Rule.{demands}
 use Rattle.vm_store.specs.declared.cell.Cell.{Cell}
-use Rattle.vm_store.specs.declared.cell.Cell.TheVariants.{Empty}
 use Rattle.vm_store.specs.declared.kind.ObjectKind.{ObjectKind}
 use Rattle.vm_store.specs.Typing.{least_type}
 use Rattle.vm_store.specs.Cells.{tagged}
@@ -39,9 +39,7 @@ asked_types t sorts.Short = Short ∷ []
 asked_types t sorts.Int = IntHigh ∷ IntLow ∷ []
 
 pub asked-size : (t : ClassTable) (letter : Sort) → length (asked_types t letter) ≡ size letter
-asked-size t sorts.Reference = refl
-asked-size t sorts.Short = refl
-asked-size t sorts.Int = refl
+asked-size t y = grind (arith)
 
 -- something was stored in the cell, and its least type is below this one
 abbrev pub IsCellOf : ClassTable → List ObjectKind → Ty → Cell → Type 0
@@ -132,18 +130,14 @@ pub load-filled :
     (t : ClassTable) (ks : List ObjectKind) (letter : Sort) (r : ℕ) (registers : List Cell)
     → CellsAt t ks registers r (asked_types t letter)
     → AreFilled letter r registers
-load-filled t ks sorts.Reference r registers h = (at-nth registers r (IsCellOf t ks (Class (object t))) h.0).1.0
-load-filled t ks sorts.Short r registers h = (at-nth registers r (IsCellOf t ks Short) h.0).1.0
-load-filled t ks sorts.Int r registers h =
-    ((at-nth registers r (IsCellOf t ks IntHigh) h.0).1.0, (at-nth registers (r + 1) (IsCellOf t ks IntLow) h.1.0).1.0)
+load-filled t ks z r registers h = grind (arith, at-nth)
 
 -- ---- from the types of a frame
 
 module _ (t : ClassTable) (types : IsOrderOfTypes t) (objects : ClassesAreObjects t) (ks : List ObjectKind) where
   -- an empty cell has no type but Top
   pub cell-of : (c : Cell) (ty : Ty) → Below t (least_type t Top ks c) ty → IsNotTop ty → IsCellOf t ks ty c
-  cell-of Empty ty le not = absurd (subst IsNotTop (top-only t types ty ((types.decided Top ty).1 le)) not)
-  cell-of c ty le not = (tt, le)
+  cell-of c ty le not = grind (arith, top-only)
 
   cell-at :
       (cells : List Cell) (regs : List Ty) → CellsBelow t (least_types t Top ks cells) regs → (n : ℕ) (ty : Ty)

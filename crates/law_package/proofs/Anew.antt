@@ -1,5 +1,6 @@
 -- Each method of a class with its record as it is written, and with the member that is written for it.
-use Rattle.std.proofs.Common.{◌≡◌, ◌+◌, ℕ, zero, suc, List, [], ◌∷◌, ◌++◌, length, map, replicate, Bool, true, false, cond, Option, Some}
+use Rattle.std.proofs.Common.{◌≡◌, ◌+◌, ℕ, zero, suc, List, [], ◌∷◌, ◌++◌, length}
+use Rattle.std.proofs.Common.{map, replicate, Bool, true, false, cond, Option, Some, arith}
 use Rattle.std.proofs.Common.{None, inl, inr, refl, sym, ap, subst, ◌∙◌}
 use Rattle.std.specs.Prelude.{if◌then◌else◌, slice_index, find}
 use Rattle.std.proofs.lemmas.List.{map-append}
@@ -9,11 +10,11 @@ use Rattle.cap_desc.specs.DescriptorFormat.{MethodDescriptor, ClassDescriptor}
 use Rattle.cap_desc.specs.Members.{methods_but}
 use Rattle.cap_components.specs.PackageRecord.{PackageRecord, described_methods, names_interface}
 use Rattle.cap_renewal.specs.declared.new_methods.NewMethod.{NewMethod}
-use Rattle.cap_renewal.specs.NewMethods.{at_offset, offset_or, to, numbers_or, new_numbers}
-use Rattle.cap_renewal.specs.DescriptorEdits.{renewed_method, renewed_class, method_by}
+use Rattle.cap_renewal.specs.NewMethods.{at_offset, offset_or, to, new_numbers}
+use Rattle.cap_renewal.specs.DescriptorEdits.{renewed_method, renewed_class}
 use Rattle.cap_laying.specs.declared.member.WrittenMember.{WrittenMember}
 use Rattle.cap_laying.specs.Member.{code_size, handlers_of}
-use Rattle.cap_laying.specs.NewPlaces.{new_method, new_if, news_from}
+use Rattle.cap_laying.specs.NewPlaces.{new_if, news_from}
 use Rattle.cap_laying.specs.Member.{by_offset, size_if}
 use Rattle.cap_laying.specs.Blocks.{blocks, handler_indexes}
 use Rattle.cap_laying.specs.Members.{new_places, start_of}
@@ -83,16 +84,12 @@ changes_are info news (s ∷ ss) (m ∷ ms) a = ap (λ xs. record { source = s; 
 but_by : (set : ℕ → Bool) (f : MethodDescriptor → MethodDescriptor) (c : ClassDescriptor) (b : Bool) (us : List ClassDescriptor)
     (vs : List MethodDescriptor) → set c.class_ref ≡ b → methods_but set us ≡ map f vs
     → methods_but set ((if b then c else record c { methods = map f c.methods }) ∷ us) ≡ map f (if b then vs else c.methods ++ vs)
-but_by set f c true us vs e h = ap (λ b. if b then methods_but set us else c.methods ++ methods_but set us) e ∙ h
-but_by set f c false us vs e h =
-    ap (λ b. if b then methods_but set us else map f c.methods ++ methods_but set us) e ∙ ap (λ ms. map f c.methods ++ ms) h
-    ∙ sym (map-append f c.methods vs)
+but_by set f c u us vs e h = grind (arith, map-append)
 
 but_renewed : (set : ℕ → Bool) (news : List (Option NewMethod)) (cs : List ClassDescriptor) → methods_but set (map (renewed_class set news) cs)
     ≡ map (renewed_method news) (methods_but set cs)
 but_renewed set news [] = refl
-but_renewed set news (c ∷ cs) =
-    but_by set (renewed_method news) c (set c.class_ref) (map (renewed_class set news) cs) (methods_but set cs) refl (but_renewed set news cs)
+but_renewed set news (c ∷ cs) = grind (arith, but_by, but_renewed set news cs)
 
 bare_renewed : (news : List (Option NewMethod)) (ms : List MethodDescriptor) → map bare_method (map (renewed_method news) ms) ≡ map bare_method ms
 bare_renewed news [] = refl
@@ -112,9 +109,7 @@ bare_by set news c false e =
 pub memberless_classes : (set : ℕ → Bool) (news : List (Option NewMethod)) (cs : List ClassDescriptor)
     → map (bare_class set) (map (renewed_class set news) cs) ≡ map (bare_class set) cs
 memberless_classes set news [] = refl
-memberless_classes set news (c ∷ cs) =
-    ap (λ d. d ∷ map (bare_class set) (map (renewed_class set news) cs)) (bare_by set news c (set c.class_ref) refl)
-    ∙ ap (λ ds. bare_class set c ∷ ds) (memberless_classes set news cs)
+memberless_classes set news (c ∷ cs) = grind (arith, bare_by, memberless_classes set news cs)
 
 abbrev pub pairs_in : PackageRecord → List (Option Laid) → List WrittenMember → List Pair
 pairs_in p laid ms = pairs_of (sources p laid) ms
@@ -148,17 +143,7 @@ pub record IsToldOf (news : List (Option NewMethod)) (indexes : List ℕ) (z : P
 pub is_told_of : (info : List ℕ) (size room : ℕ) (all : List WrittenMember) (z : Pair) → IsMemberOf info z.source z.member
     → StandsAnew size room all z.member → IsToldOf (new_places size room all) (handler_indexes size (blocks room all)) z
 unfolding new_numbers
-is_told_of info size room all z is st =
-    let news = new_places size room all in
-    let n : at_offset news z.source.method.method_offset ≡ Some (new_method (handler_indexes size (blocks room all)) (to news z.member.offset) z.member) =
-    ap (at_offset news) (sym is.offset) ∙ st.numbers in
-    let e = ap (λ o. method_by z.source.method (numbers_or z.source.method o)) n in
-    record {
-      offset = ap (λ (m : MethodDescriptor). m.method_offset) e;
-      count = ap (λ (m : MethodDescriptor). m.bytecode_count) e;
-      many = ap (λ (m : MethodDescriptor). m.handler_count) e;
-      index = ap (λ (m : MethodDescriptor). m.handler_index) e;
-    }
+is_told_of info size room all z is st = grind (arith)
 
 -- ---- offsets
 
@@ -222,10 +207,4 @@ renamed p q laid ms w told o =
         (λ z g. λ e. eqb-false z.source.method.method_offset o (each_at (λ (x : Pair). stood_at o (change_in (places p ms) x) ≡ false) zs z none g)
         (sym (each_at (λ (x : Pair). IsMemberOf p.methods.info x.source x.member) zs z is g).offset ∙ same_Some z.member.offset o e)))) in
         ap (offset_by o) f ∙ sym (stays (length p.methods.info) (length p.methods.handlers) ms o others)
-    by (first c f h t) =
-        let zs = pairs_in p laid ms in
-        let z = has_source (change_in (places p ms)) zs c h in
-        let is = each_at (λ (x : Pair). IsMemberOf p.methods.info x.source x.member) zs z.0 (pair_each p.methods.info (sources p laid) ms w.members) z.1 in
-        let told_one = each_at (λ (x : Pair). IsToldOf (places p ms) (handler_indexes (length p.methods.info) (blocks (length p.methods.handlers) ms)) x)
-        zs z.0 told z.1 in
-        ap (offset_by o) f ∙ ap (λ (x : Change). x.now.method_offset) z.2 ∙ at_one z.0 is told_one (ap (stood_at o) (sym z.2) ∙ t)
+    by (first c f h t) = grind (arith, has_source, each_at, pair_each)

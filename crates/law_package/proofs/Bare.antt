@@ -1,7 +1,7 @@
 -- What the Descriptor and the Class component tell of a package with other code but for the places of methods.
-use Rattle.std.proofs.Common.{◌≡◌, ◌+◌, ◌-◌, ℕ, List, [], ◌∷◌, ◌++◌, length, drop, map, Bool, true, false, ◌||◌, ◌&&◌, Option}
+use Rattle.std.proofs.Common.{◌≡◌, ◌+◌, ◌-◌, ℕ, List, [], ◌∷◌, ◌++◌, length, drop, map, Bool, ◌||◌, ◌&&◌, Option, arith}
 use Rattle.std.proofs.Common.{Some, None, option_and_then, refl, sym, ap, ◌∙◌}
-use Rattle.std.specs.Prelude.{if◌then◌else◌, ◌==◌, nat_le}
+use Rattle.std.specs.Prelude.{if◌then◌else◌, ◌==◌}
 use Rattle.std.specs.List.{list_any}
 use Rattle.std.proofs.lemmas.List.{map-append, drop-drop}
 use Rattle.cap_bytes.specs.Number.{number_at}
@@ -10,7 +10,7 @@ use Rattle.cap_class.specs.ClassFormat as of_class
 use Rattle.cap_desc.specs.DescriptorFormat.{MethodDescriptor, ClassDescriptor}
 use Rattle.cap_desc.specs.Members.{methods_of, methods_in, methods_but, fields_of}
 use Rattle.cap_desc.specs.TypeFormat.{types_at, type_at, nibbles_at, types_in, one_type_in}
-use Rattle.cap_components.specs.Descriptions.{Description, argument_words, field_type, words_in, no_void}
+use Rattle.cap_components.specs.Descriptions.{Description, argument_words, field_type}
 use Rattle.cap_components.specs.PackageRecord.{names_interface}
 use Rattle.cap_renewal.specs.ClassEdits.{renewed_class}
 use Rattle.law_package.specs.Rewritten.{bare_method, bare_class, HasSameDescription}
@@ -43,8 +43,7 @@ in_same s t (c ∷ cs) h = in_by (s c.class_ref) (t c.class_ref) c.methods (meth
 
 bare_but_by : (b : Bool) (ms us vs : List MethodDescriptor) → us ≡ map bare_method vs
     → (if b then us else (if b then ms else map bare_method ms) ++ us) ≡ map bare_method (if b then vs else ms ++ vs)
-bare_but_by true ms us vs e = e
-bare_but_by false ms us vs e = ap (λ xs. map bare_method ms ++ xs) e ∙ sym (map-append bare_method ms vs)
+bare_but_by x ms us vs e = grind (arith, map-append)
 
 pub bare_but : (set : ℕ → Bool) (cs : List ClassDescriptor) → methods_but set (map (bare_class set) cs) ≡ map bare_method (methods_but set cs)
 bare_but set [] = refl
@@ -52,8 +51,7 @@ bare_but set (c ∷ cs) = bare_but_by (set c.class_ref) c.methods (methods_but s
 
 bare_in_by : (b : Bool) (ms us vs : List MethodDescriptor) → us ≡ vs → (if b then (if b then ms else map bare_method ms) ++ us else us)
     ≡ (if b then ms ++ vs else vs)
-bare_in_by true ms us vs e = ap (λ xs. ms ++ xs) e
-bare_in_by false ms us vs e = e
+bare_in_by x ms us vs e = grind (arith)
 
 pub bare_in : (set : ℕ → Bool) (cs : List ClassDescriptor) → methods_in set (map (bare_class set) cs) ≡ methods_in set cs
 bare_in set [] = refl
@@ -65,10 +63,7 @@ bare_twice (m ∷ ms) = ap (λ ns. bare_method m ∷ ns) (bare_twice ms)
 
 bare_of_by : (b : Bool) (ms us vs : List MethodDescriptor) → map bare_method us ≡ map bare_method vs
     → map bare_method ((if b then ms else map bare_method ms) ++ us) ≡ map bare_method (ms ++ vs)
-bare_of_by true ms us vs e = map-append bare_method ms us ∙ ap (λ xs. map bare_method ms ++ xs) e ∙ sym (map-append bare_method ms vs)
-bare_of_by false ms us vs e =
-    map-append bare_method (map bare_method ms) us ∙ ap (λ xs. xs ++ map bare_method us) (bare_twice ms) ∙ ap (λ xs. map bare_method ms ++ xs) e
-    ∙ sym (map-append bare_method ms vs)
+bare_of_by x ms us vs e = grind (arith, map-append, bare_twice)
 
 bare_of : (set : ℕ → Bool) (cs : List ClassDescriptor) → map bare_method (methods_of (map (bare_class set) cs)) ≡ map bare_method (methods_of cs)
 bare_of set [] = refl
@@ -140,25 +135,13 @@ same_type at xs ys h =
 
 pub same_types_named : (set : ℕ → Bool) (d e : Description) (offset : ℕ) → HasSameDescription set d e
     → types_at e.info (e.items.types_start + offset) ≡ types_at d.info (d.items.types_start + offset)
-same_types_named set d e offset h =
-    ap (λ s. types_at e.info (s + offset)) h.start
-    ∙ same_types (d.items.types_start + offset) d.info e.info (same_after d.items.types_start offset d.info e.info (record { long = h.long; same = h.types }))
+same_types_named set d e offset h = grind (arith, same_after)
 
 pub same_arguments : (set : ℕ → Bool) (d e : Description) (offset : ℕ) → HasSameDescription set d e
     → argument_words e offset ≡ argument_words d offset
 unfolding argument_words
-same_arguments set d e offset h =
-    let at = d.items.types_start + offset in
-    ap (λ s. option_and_then words_in (types_at e.info (s + offset))) h.start
-    ∙ ap (option_and_then words_in)
-    (same_types at d.info e.info (same_after d.items.types_start offset d.info e.info (record { long = h.long; same = h.types })))
+same_arguments set d e offset h = grind (arith, option_and_then, same_after)
 
 pub same_field : (set : ℕ → Bool) (d e : Description) (ty : ℕ) → HasSameDescription set d e → field_type e ty ≡ field_type d ty
 unfolding field_type
-same_field set d e ty h =
-    let at = d.items.types_start + ty in
-    let one : option_and_then no_void (type_at e.info (e.items.types_start + ty)) ≡ option_and_then no_void (type_at d.info at) =
-    ap (λ s. option_and_then no_void (type_at e.info (s + ty))) h.start
-    ∙ ap (option_and_then no_void)
-    (same_type at d.info e.info (same_after d.items.types_start ty d.info e.info (record { long = h.long; same = h.types }))) in
-    ap (λ o. if nat_le 0x8002 ty && nat_le ty 0x8005 then Some (record { nibble = ty - 0x8000; class_ref = 0 }) else o) one
+same_field set d e ty h = grind (arith, option_and_then, same_after)

@@ -13,13 +13,12 @@ use Rattle.cap_components.specs.Descriptions.{argument_words}
 use Rattle.cap_components.specs.Parts.{Lent}
 use Rattle.cap_components.specs.PackageRecord.{PackageRecord, described_methods, names_interface}
 use Rattle.cap_package.specs.MethodChecks.{code_end, outside_fault}
-use Rattle.cap_package.specs.HeaderChecks.{header_in, is_abstract, is_static, registers_fault, registers_by, length_fault, length_by, arguments_fault}
+use Rattle.cap_package.specs.HeaderChecks.{header_in, is_abstract, is_static, registers_fault}
+use Rattle.cap_package.specs.HeaderChecks.{registers_by, length_fault, length_by, arguments_fault}
 use Rattle.cap_package.specs.HeaderChecks.{arguments_by, abstract_fault, abstract_by}
 use Rattle.cap_package.proofs.HeaderLaws.{has-header, ends-within, few_registers}
-use Rattle.cap_laying.specs.HeaderBytes.{header_of, is_compact}
-use Rattle.cap_laying.specs.Member.{numbers_of}
 use Rattle.jc_decode.specs.declared.symbols.Laid.{Laid}
-use Rattle.law_package.specs.Changes.{FormerMethod, Change, sources, changes, now_at, laid_but}
+use Rattle.law_package.specs.Changes.{FormerMethod, Change, sources, changes, now_at}
 use Rattle.law_package.specs.Written.{IsAs, IsMethodWritten}
 use Rattle.law_package.specs.Rewritten.{bare_method, IsRewritten}
 use Rattle.law_package.specs.Laying.{IsFor, FitsHeader, AreLaidFor}
@@ -42,17 +41,10 @@ bare_described p q laid r =
 
 many_sources : (p : PackageRecord) (laid : List (Option Laid)) (q : PackageRecord) → IsRewritten p laid q
     → map method_of (sources p laid) ≡ described_methods p
-many_sources p laid q r = sources_method 0 (described_methods p) (laid_but (names_interface p.classes) p.description.items.classes laid)
-    (length_but (names_interface p.classes) p.description.items.classes laid r.each)
+many_sources p laid q r = grind (arith, sources_method, length_but)
 
 as_many : (p q : PackageRecord) (laid : List (Option Laid)) → IsRewritten p laid q → length (sources p laid) ≡ length (described_methods q)
-as_many p q laid r =
-    let a = ap length (many_sources p laid q r) in
-    let b = length-map (sources p laid) method_of in
-    let c = ap length (bare_described p q laid r) in
-    let d = length-map (described_methods q) bare_method in
-    let e = length-map (described_methods p) bare_method in
-    omega arith
+as_many p q laid r = grind (arith, many_sources, length-map, bare_described)
 
 pub news : (p q : PackageRecord) (laid : List (Option Laid)) → IsRewritten p laid q → map now_of (changes p laid q) ≡ described_methods q
 news p q laid r = changes_now (sources p laid) (described_methods q) (as_many p q laid r)
@@ -75,8 +67,7 @@ source_each p q laid P r h = map_each P source_of (changes p laid q) (subst (Eac
 -- nothing is at fault after where nothing is at each change
 pub no_faults : (p q : PackageRecord) (laid : List (Option Laid)) (f : MethodDescriptor → Option PackFault) → IsRewritten p laid q
     → Each (λ (c : Change). f c.now ≡ None) (changes p laid q) → filter_map f (described_methods q) ≡ []
-no_faults p q laid f r h =
-    ap (filter_map f) (sym (news p q laid r)) ∙ faults_map f now_of (changes p laid q) ∙ each_none (λ c. f c.now) (changes p laid q) h
+no_faults p q laid f r h = grind (arith, filter_map f, news p q laid r, faults_map f now_of (changes p laid q), each_none)
 
 each_same : (cs : List Change) → map (λ (c : Change). bare_method c.now) cs ≡ map (λ (c : Change). bare_method c.source.method) cs
     → Each (λ (c : Change). bare_method c.now ≡ bare_method c.source.method) cs
@@ -88,10 +79,7 @@ each_same (c ∷ cs) e =
 
 pub bares : (p q : PackageRecord) (laid : List (Option Laid)) → IsRewritten p laid q
     → Each (λ (c : Change). bare_method c.now ≡ bare_method c.source.method) (changes p laid q)
-bares p q laid r =
-    let cs = changes p laid q in
-    each_same cs (sym (map_twice bare_method now_of cs) ∙ ap (map bare_method) (news p q laid r) ∙ bare_described p q laid r
-    ∙ ap (map bare_method) (sym (olds p q laid r)) ∙ map_twice bare_method old_of cs)
+bares p q laid r = grind (arith, news p q laid r, bare_described p q laid r, olds p q laid r, each_same, map_twice)
 
 -- ---- a method before
 
@@ -103,8 +91,7 @@ pub record WasWell (p : PackageRecord) (m : MethodDescriptor) : Type 0 where
   pub arguments : arguments_fault p.methods.info p.description m ≡ None
 
 pub few_by : (b : Bool) (f : PackFault) → (if b then Some f else None) ≡ None → b ≡ false
-few_by true f e = absurd cc
-few_by false f e = refl
+few_by x f e = grind (arith)
 
 was_well : (p : PackageRecord) (m : MethodDescriptor) → outside_fault p.methods.info (length p.methods.handlers) m ≡ None
     → registers_fault p.methods.info m ≡ None → arguments_fault p.methods.info p.description m ≡ None → WasWell p m
@@ -137,8 +124,7 @@ pub record IsWell (q : PackageRecord) (nargs : ℕ) (m : MethodDescriptor) : Typ
   pub short : is_abstract header ≡ false → m.bytecode_count ≤ 32767
 
 pub plain : (b : Bool) → (bit_and (if b then 0 else 8) 4 == 4) ≡ false
-plain true = refl
-plain false = refl
+plain x = grind (arith)
 
 pub is_well : (p q : PackageRecord) (old m : MethodDescriptor) (l : Option Laid) (w : WasWell p old) → IsFor w.header l → IsAs p q old l m
     → IsWell q w.header.nargs m
@@ -153,20 +139,7 @@ is_well p q old m None w f is =
       some = λ e. absurd (both_ways (is_abstract w.header) e f);
       short = λ e. absurd (both_ways (is_abstract w.header) e f);
     }
-is_well p q old m (Some laid) w f is =
-    let long = is.long in
-    let some = f.some in
-    let short = f.short in
-    let a = plain (is_compact (numbers_of laid)) in
-    record {
-      header = header_of (numbers_of laid);
-      there = is.header;
-      arguments = f.arguments;
-      registers = f.registers;
-      bare = λ t. absurd (both_ways (is_abstract (header_of (numbers_of laid))) a t);
-      some = λ e. omega arith;
-      short = λ e. omega arith;
-    }
+is_well p q old m (Some laid) w f is = grind (arith, both_ways)
 
 pub record Fact (p q : PackageRecord) (c : Change) : Type 0 where
   pub was : WasWell p c.source.method
@@ -210,13 +183,7 @@ registers_well q n m w = ap (registers_by m) w.there ∙ few m w.header w.regist
 
 long_by : (m : MethodDescriptor) (h : Header) (b : Bool) → is_abstract h ≡ b → (is_abstract h ≡ false → 1 ≤ m.bytecode_count)
     → (is_abstract h ≡ false → m.bytecode_count ≤ 32767) → length_by m (Some h) ≡ None
-long_by m h true e some short = rw e refl
-long_by m h false e some short =
-    let a = some e in
-    let b = short e in
-    let x : (m.bytecode_count == 0) ≡ false = grind arith in
-    let y : nat_lt 32767 m.bytecode_count ≡ false = grind arith in
-    rw (e, x, y) refl
+long_by m h z e some short = grind (arith)
 
 length_well : (q : PackageRecord) (n : ℕ) (m : MethodDescriptor) → IsWell q n m → length_fault q.methods.info m ≡ None
 unfolding length_fault
@@ -224,8 +191,7 @@ length_well q n m w = ap (length_by m) w.there ∙ long_by m w.header (is_abstra
 
 bare_by : (m : MethodDescriptor) (h : Header) (b : Bool) → is_abstract h ≡ b → (is_abstract h ≡ true → m.bytecode_count ≡ 0)
     → abstract_by m (Some h) ≡ None
-bare_by m h true e bare = let z = bare e in rw (e, z) refl
-bare_by m h false e bare = rw e refl
+bare_by m h z e bare = grind (arith)
 
 abstract_well : (q : PackageRecord) (n : ℕ) (m : MethodDescriptor) → IsWell q n m → abstract_fault q.methods.info m ≡ None
 unfolding abstract_fault
@@ -244,25 +210,13 @@ argued old m h k (Some words) e f n =
     turned false f e = e
 
     back : (b : Bool) (f : PackFault) → not b ≡ false → (if b then None else Some f) ≡ None
-    back true f e = refl
-    back false f e = absurd (false≢true (sym e))
+    back x f e = grind (arith, false≢true)
 
 arguments_well : (p q : PackageRecord) (c : Change) → Fact p q c
     → ((offset : ℕ) → argument_words q.description offset ≡ argument_words p.description offset)
     → arguments_fault q.methods.info q.description c.now ≡ None
 unfolding arguments_fault
-arguments_well p q c f same =
-    let old = c.source.method in
-    let m = c.now in
-    let flags : m.flags ≡ old.flags = ap (λ (x : MethodDescriptor). x.flags) f.same in
-    let types : m.type_offset ≡ old.type_offset = ap (λ (x : MethodDescriptor). x.type_offset) f.same in
-    let words : argument_words q.description m.type_offset ≡ argument_words p.description old.type_offset = same m.type_offset
-    ∙ ap (argument_words p.description) types in
-    let n : arguments_by old (Some f.was.header) (argument_words p.description old.type_offset) ≡ None =
-    ap (λ h. arguments_by old h (argument_words p.description old.type_offset)) (sym f.was.there) ∙ f.was.arguments in
-    ap (λ h. arguments_by m h (argument_words q.description m.type_offset)) f.well.there
-    ∙ ap (arguments_by m (Some f.well.header)) words
-    ∙ argued old m f.was.header f.well.header (argument_words p.description old.type_offset) f.well.arguments flags n
+arguments_well p q c f same = grind (arith, argued)
 
 pub record HasWellHeaders (q : PackageRecord) : Type 0 where
   pub registers : filter_map (registers_fault q.methods.info) (described_methods q) ≡ []

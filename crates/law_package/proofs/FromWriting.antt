@@ -1,7 +1,7 @@
 -- What is written, component by component, is the package with the code that is laid.
-use Rattle.std.proofs.Common.{◌≡◌, ◌≤◌, ◌<◌, ◌+◌, ℕ, zero, suc, List, [], ◌∷◌, length, map, filter, sum_by, take, drop, All, Option}
-use Rattle.std.proofs.Common.{Some, None, option_map, refl, sym, ap, subst, ◌∙◌, arith}
-use Rattle.std.specs.Prelude.{if◌then◌else◌, ◌==◌, slice_index}
+use Rattle.std.proofs.Common.{◌≡◌, ◌≤◌, ◌<◌, ◌+◌, ℕ, zero, suc, List, [], ◌∷◌, length, map, filter, sum_by, drop, All, Option, take}
+use Rattle.std.proofs.Common.{option_map, refl, sym, ap, subst, ◌∙◌, arith}
+use Rattle.std.specs.Prelude.{slice_index}
 use Rattle.jc_base.proofs.Eaching.{All-from_Each}
 use Rattle.cap_frame.specs.AppletFormat.{Applet}
 use Rattle.cap_pool.specs.PoolFormat.{Entry}
@@ -16,7 +16,6 @@ use Rattle.cap_renewal.specs.PoolEdits.{own_method, entry_by, renewed_entry}
 use Rattle.cap_renewal.specs.ClassEdits.{renewed_class}
 use Rattle.cap_renewal.specs.ExportEdits.{renewed_exported}
 use Rattle.cap_renewal.specs.DescriptorEdits.{renewed_method}
-use Rattle.cap_desc.specs.DescriptorFormat.{Descriptor}
 use Rattle.cap_laying.specs.declared.member.WrittenMember.{WrittenMember}
 use Rattle.cap_laying.specs.Blocks.{blocks, first_entry, block_entries}
 use Rattle.cap_laying.specs.WrittenMethods.{HeadersReadBack}
@@ -25,7 +24,7 @@ use Rattle.jc_decode.specs.declared.symbols.Laid.{Laid}
 use Rattle.law_package.specs.Changes.{changes, now_at}
 use Rattle.law_package.specs.Written.{IsMethodWritten, size_written, handlers_in, caught_before, methods_begin}
 use Rattle.law_package.specs.Laying.{AreLaidFor}
-use Rattle.law_package.specs.Rewritten.{HasSameDescription, bare_class, IsRewritten}
+use Rattle.law_package.specs.Rewritten.{HasSameDescription, IsRewritten}
 use Rattle.law_package.specs.Writing.{IsWrittenAnew, places}
 use Rattle.law_package.proofs.Lists.{Each, Has, each_at, each_of, each_map}
 use Rattle.law_package.proofs.Ranks.{sums_agree, sum_through}
@@ -47,8 +46,7 @@ applet_same f g a h = ap (λ n. with_install a n) (h a.install)
     with_install a n = record { aid = a.aid; install = n }
 
 entry_by_same : (f g : ℕ → ℕ) (e : Entry) (o : Option ℕ) → ((n : ℕ) → f n ≡ g n) → entry_by f e o ≡ entry_by g e o
-entry_by_same f g e None h = refl
-entry_by_same f g e (Some n) h = rw (h n) refl
+entry_by_same f g e u h = grind (arith)
 
 entry_same : (f g : ℕ → ℕ) (e : Entry) → ((n : ℕ) → f n ≡ g n) → renewed_entry f e ≡ renewed_entry g e
 entry_same f g e h = entry_by_same f g e (own_method e) h
@@ -60,8 +58,7 @@ exported_same : (f g : ℕ → ℕ) (c : Exported) → ((n : ℕ) → f n ≡ g 
 exported_same f g c h = rw (map_same f g c.methods h) refl
 
 option_same : {X Y : Type 0} (f g : X → Y) (o : Option (List X)) → ((x : X) → f x ≡ g x) → option_map (map f) o ≡ option_map (map g) o
-option_same f g None h = refl
-option_same f g (Some xs) h = ap Some (map_same f g xs h)
+option_same f g z h = grind (arith, map_same)
 
 -- ---- types
 
@@ -81,15 +78,7 @@ ends_alike (suc from) n (x ∷ xs) (y ∷ ys) h a b = ends_alike from (length xs
 
 same_description : (p q : PackageRecord) (laid : List (Option Laid)) (ms : List WrittenMember) → IsWrittenAnew p laid ms q
     → HasSameDescription (names_interface p.classes) p.description q.description
-same_description p q laid ms w =
-    let set = names_interface p.classes in
-    record {
-      classes = ap (λ (d : Descriptor). map (bare_class set) d.classes) w.description ∙ memberless_classes set (places p ms) p.description.items.classes;
-      start = ap (λ (d : Descriptor). d.types_start) w.description;
-      pool_types = ap (λ (d : Descriptor). d.pool_types) w.description;
-      types = ends_alike p.description.items.types_start (length p.description.info) p.description.info q.description.info w.types.each refl w.long;
-      long = w.long;
-    }
+same_description p q laid ms w = grind (arith, memberless_classes, ends_alike)
 
 -- ---- methods
 
@@ -127,8 +116,7 @@ written_one parts p q laid ms z s w ks h =
     record {
       is = as_laid p q ms z k (handlers_if p q laid ms z w k r);
       place = placed_known p q laid ms z w ks h;
-      index = index_if p q laid ms z w k r ∙ ap (λ n. if many_of z.member == 0 then 0 else n) sum
-          ∙ ap (λ n. if n == 0 then 0 else sum_by handlers_in (filter (caught_before p (change_in news z)) (map (change_in news) zs))) (sym k.told.many);
+      index = grind (arith, index_if, sum_by, filter);
     }
 
 pub rewrites : HeadersReadBack → WrittenMethodsStand → (parts : List Lent) (p q : PackageRecord) (laid : List (Option Laid)) (ms : List WrittenMember)
@@ -152,12 +140,8 @@ rewrites back stand parts p q laid ms s l w =
       applets =
           w.applets ∙ option_same (renewed_applet (to news)) (renewed_applet (now_at (changes p laid q))) p.applets
           (λ a. applet_same (to news) (now_at (changes p laid q)) a name);
-      pool =
-          w.pool ∙ map_same (renewed_entry (to news)) (renewed_entry (now_at (changes p laid q))) p.pool
-          (λ e. entry_same (to news) (now_at (changes p laid q)) e name);
-      classes =
-          w.classes ∙ map_same (renewed_class (to news)) (renewed_class (now_at (changes p laid q))) p.classes
-          (λ c. class_same (to news) (now_at (changes p laid q)) c name);
+      pool = grind (arith, map_same, entry_same);
+      classes = grind (arith, map_same, class_same);
       export =
           w.export ∙ option_same (renewed_exported (to news)) (renewed_exported (now_at (changes p laid q))) p.export
           (λ c. exported_same (to news) (now_at (changes p laid q)) c name);

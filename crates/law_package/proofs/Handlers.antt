@@ -1,6 +1,7 @@
 -- Each entry of the handler table is owned by exactly one method, in whose code it lies.
 use Rattle.std.proofs.Common.{◌≡◌, ◌≤◌, ◌<◌, ◌+◌, ◌-◌, ℕ, zero, suc, List, [], ◌∷◌, ◌++◌, length, map, take, drop, sum_by}
-use Rattle.std.proofs.Common.{filter, filter_map, slice_get, max, Bool, true, false, cond, not, ◌&&◌, Option, Some, None, inl, inr, refl, sym, ap, subst}
+use Rattle.std.proofs.Common.{filter, filter_map, slice_get, max, Bool, true, false, cond, not, ◌&&◌}
+use Rattle.std.proofs.Common.{Option, Some, None, inl, inr, refl, sym, ap, subst}
 use Rattle.std.proofs.Common.{◌∙◌, arith}
 use Rattle.std.specs.Prelude.{if◌then◌else◌, nat_lt, nat_le, ◌==◌}
 use Rattle.std.proofs.lemmas.Bool.{false≢true, leb-true, le-leb, lt-ltb, le-ltb}
@@ -21,11 +22,12 @@ use Rattle.law_package.specs.Changes.{FormerMethod, Change, changes, sources_fro
 use Rattle.law_package.specs.Written.{IsAs, IsMethodWritten, handlers_in, block_of}
 use Rattle.law_package.specs.Rewritten.{IsRewritten}
 use Rattle.law_package.specs.Laying.{IsFor, AreLaidFor}
-use Rattle.law_package.proofs.Lists.{Each, Has, each_at, each_of, none_each, each_none, append_none, filter_map_in, filter_alike, has_filter}
+use Rattle.law_package.proofs.Lists.{Each, Has, each_at, each_of, none_each}
+use Rattle.law_package.proofs.Lists.{each_none, append_none, filter_map_in, filter_alike, has_filter}
 use Rattle.law_package.proofs.Sums.{sum_beside}
-use Rattle.law_package.proofs.Owners.{below, is_below, lies_in, Distinct, owned}
+use Rattle.law_package.proofs.Owners.{below, lies_in, Distinct, owned}
 use Rattle.cap_package.proofs.Agreed.{Agrees}
-use Rattle.law_package.proofs.Zipped.{now_of, old_of, source_of, from_number}
+use Rattle.law_package.proofs.Zipped.{old_of, source_of, from_number, now_of}
 use Rattle.law_package.proofs.Facts.{Fact, facts, news, olds, froms, old_each, all_written, few_by, no_faults}
 use Rattle.law_package.proofs.Standing.{distinct_map}
 use Rattle.law_package.proofs.Names.{is_told}
@@ -36,10 +38,7 @@ numbered_at : {X : Type 0} (P : ℕ × X → Type 0) (n : ℕ) (xs : List X) →
     × P (n + i, x)
 numbered_at P n [] h i lt = absurd (omega arith)
 numbered_at P n (x ∷ xs) h zero lt = let e : n ≡ n + 0 = omega arith in (x, subst (λ k. P (k, x)) e h.0)
-numbered_at P n (x ∷ xs) h (suc i) lt =
-    let r = numbered_at P (n + 1) xs h.1 i (omega arith) in
-    let e : n + 1 + i ≡ n + suc i = omega arith in
-    (r.0, subst (λ k. P (k, r.0)) e r.1)
+numbered_at P n (x ∷ xs) h (suc i) lt = grind (arith, suc, numbered_at P (n + 1) xs h.1 i (omega arith))
 
 pub one_home : (info : List ℕ) (h : HandlerInfo) (ms : List MethodDescriptor) → has_home info h ms ≡ true → length ms ≤ 1
 one_home info h [] e = omega arith
@@ -73,11 +72,7 @@ some_count n e = grind arith
 
 claims_inside : (n : ℕ) (m : MethodDescriptor) → claim_fault n m ≡ None → ClaimsInside n m
 unfolding claim_fault
-claims_inside n m e some =
-    let f : not (m.handler_count == 0) && nat_lt n (m.handler_index + m.handler_count) ≡ false = few_by
-    (not (m.handler_count == 0) && nat_lt n (m.handler_index + m.handler_count)) _ e in
-    let g : nat_lt n (m.handler_index + m.handler_count) ≡ false = ap (λ b. not b && nat_lt n (m.handler_index + m.handler_count)) (sym some) ∙ f in
-    grind arith
+claims_inside n m e some = grind (arith, not, few_by)
 
 pub all_claims : (parts : List Lent) (p : PackageRecord) → Agrees parts p → Each (ClaimsInside (length p.methods.handlers)) (described_methods p)
 all_claims parts p a =
@@ -93,12 +88,7 @@ all_claims parts p a =
 pub distinct_numbers : (n : ℕ) (ms : List MethodDescriptor) (ls : List (Option Laid)) → Distinct (λ (s : FormerMethod). s.number) (sources_from n ms ls)
 distinct_numbers n [] ls = tt
 distinct_numbers n (m ∷ ms) [] = tt
-distinct_numbers n (m ∷ ms) (l ∷ ls) =
-    let later = from_number (n + 1) (n + 1) ms ls (omega arith) in (
-      each_of (λ (s : FormerMethod). s.number ≡ n → ⊥) (sources_from (n + 1) ms ls)
-          (λ s h. λ e. let k = each_at (λ (x : FormerMethod). n + 1 ≤ x.number) (sources_from (n + 1) ms ls) s later h in absurd (omega arith)),
-      distinct_numbers (n + 1) ms ls,
-    )
+distinct_numbers n (m ∷ ms) (l ∷ ls) = grind (arith, from_number, each_of, each_at, distinct_numbers (n + 1) ms ls)
 
 many_has : {X : Type 0} (xs : List X) (x : X) → Has xs x → 1 ≤ length xs
 many_has [] x h = absurd h
@@ -114,59 +104,34 @@ fewer true x xs = omega arith
 fewer false x xs = omega arith
 
 claims_first : (m : MethodDescriptor) → (m.handler_count == 0) ≡ false → claims m.handler_index m ≡ true
-claims_first m e =
-    let s = some_count m.handler_count e in
-    let a : nat_le m.handler_index m.handler_index ≡ true = grind arith in
-    let b : nat_lt m.handler_index (m.handler_index + m.handler_count) ≡ true = grind arith in
-    rw (a, b) refl
+claims_first m e = grind (arith, some_count)
 
 -- two methods that claim one entry
 claimed_twice : (ms : List MethodDescriptor) (m n : MethodDescriptor) (i : ℕ) → Has ms n → claims i m ≡ true → claims i n ≡ true
     → length (filter (claims i) (m ∷ ms)) ≤ 1 → ⊥
 claimed_twice ms m n i h e f le =
-    let k : length (filter (claims i) (m ∷ ms)) ≡ suc (length (filter (claims i) ms)) = ap
-    (λ b. length (cond b (m ∷ filter (claims i) ms) (filter (claims i) ms))) e in
-    let l = many_has (filter (claims i) ms) n (has_filter (claims i) ms n h f) in
-    absurd (omega arith)
+    grind (arith, filter (claims i) (m ∷ ms), many_has (filter (claims i) ms) n (has_filter (claims i) ms n h f), suc, cond)
 
 blocks_differ : (p : PackageRecord) (c d : Change) (cs : List Change) (b e : Bool) → (c.source.method.handler_count == 0) ≡ b
     → (d.source.method.handler_count == 0) ≡ e → Has cs d
     → (d.source.number ≡ c.source.number → ⊥) → ClaimsInside (length p.methods.handlers) c.source.method
     → ClaimsInside (length p.methods.handlers) d.source.method
     → OwnedOnce (length p.methods.handlers) (map old_of (c ∷ cs)) → block_of p d.source ≡ block_of p c.source → ⊥
-blocks_differ p c d cs true true u v h n x y o s =
-    let s' : length p.methods.handlers + d.source.number ≡ length p.methods.handlers + c.source.number =
-    ap (λ b. if b then length p.methods.handlers + d.source.number else d.source.method.handler_index) (sym v) ∙ s
-    ∙ ap (λ b. if b then length p.methods.handlers + c.source.number else c.source.method.handler_index) u in
-    n (omega arith)
-blocks_differ p c d cs true false u v h n x y o s =
-    let s' : d.source.method.handler_index ≡ length p.methods.handlers + c.source.number =
-    ap (λ b. if b then length p.methods.handlers + d.source.number else d.source.method.handler_index) (sym v) ∙ s
-    ∙ ap (λ b. if b then length p.methods.handlers + c.source.number else c.source.method.handler_index) u in
-    let i = y v in
-    let k = some_count d.source.method.handler_count v in
-    absurd (omega arith)
-blocks_differ p c d cs false true u v h n x y o s =
-    let s' : length p.methods.handlers + d.source.number ≡ c.source.method.handler_index =
-    ap (λ b. if b then length p.methods.handlers + d.source.number else d.source.method.handler_index) (sym v) ∙ s
-    ∙ ap (λ b. if b then length p.methods.handlers + c.source.number else c.source.method.handler_index) u in
-    let i = x u in
-    let k = some_count c.source.method.handler_count u in
-    absurd (omega arith)
+blocks_differ p c d cs true true u v h n x y o s = grind (arith)
+blocks_differ p c d cs true false u v h n x y o s = grind (arith, some_count)
+blocks_differ p c d cs false true u v h n x y o s = grind (arith, some_count)
 blocks_differ p c d cs false false u v h n x y o s =
-    let s' : d.source.method.handler_index ≡ c.source.method.handler_index =
-    ap (λ b. if b then length p.methods.handlers + d.source.number else d.source.method.handler_index) (sym v) ∙ s
-    ∙ ap (λ b. if b then length p.methods.handlers + c.source.number else c.source.method.handler_index) u in
-    let i = x u in
-    let k = some_count c.source.method.handler_count u in
-    claimed_twice (map old_of cs) c.source.method d.source.method c.source.method.handler_index (has_map old_of cs d h) (claims_first c.source.method u)
-    (ap (λ j. claims j d.source.method) (sym s') ∙ claims_first d.source.method v) (o c.source.method.handler_index (omega arith))
+    grind (
+      arith,
+      some_count c.source.method.handler_count u,
+      has_map old_of cs d h,
+      claims_first c.source.method u,
+      claims_first d.source.method v,
+      claimed_twice,
+    )
 
 later_once : (n : ℕ) (c : Change) (cs : List Change) → OwnedOnce n (map old_of (c ∷ cs)) → OwnedOnce n (map old_of cs)
-later_once n c cs o i lt =
-    let a = o i lt in
-    let b = fewer (claims i c.source.method) c.source.method (filter (claims i) (map old_of cs)) in
-    omega arith
+later_once n c cs o i lt = grind (arith, fewer, filter)
 
 abbrev pub block : PackageRecord → Change → ℕ
 block p c = block_of p c.source
@@ -282,15 +247,7 @@ four_tests a b c d e f g h = rw (e, f, g, h) refl
 within_code : (info : List ℕ) (m : MethodDescriptor) (size : ℕ) (h : HandlerInfo) → m.bytecode_count ≡ size → IsEntryOf (code_start info m) size h
     → is_within info h m ≡ true
 unfolding code_end
-within_code info m size h e i =
-    let low = i.low in
-    let high = i.high in
-    let after = i.after in
-    let before = i.before in
-    let end : code_end info m ≡ code_start info m + m.bytecode_count = refl in
-    four_tests (nat_le (code_start info m) h.start) (nat_le (h.start + h.length) (code_end info m)) (nat_le (code_start info m) h.entry)
-    (nat_lt h.entry (code_end info m))
-    (grind arith) (le-leb (h.start + h.length) (code_end info m) (omega arith)) (grind arith) (lt-ltb h.entry (code_end info m) (omega arith))
+within_code info m size h e i = grind (arith, four_tests, le-leb, lt-ltb)
 
 owner_within : (p q : PackageRecord) (all : List Change) (c : Change) (k : ℕ) (h : HandlerInfo) (l : Option Laid) (x : _) → IsFor x l
     → IsAs p q c.source.method l c.now → IsMethodWritten p q all c
@@ -350,11 +307,7 @@ claim_none n m h = by (m.handler_count == 0) refl
 
 claims_now : (p q : PackageRecord) (all : List Change) (c : Change) → IsMethodWritten p q all c → Has all c
     → length q.methods.handlers ≡ sum_by handlers_in all → claim_fault (length q.methods.handlers) c.now ≡ None
-claims_now p q all c w h many = claim_none (length q.methods.handlers) c.now (λ e.
-    let i : c.now.handler_index ≡ below handlers_in (block p) all (block p c) = index_is p q all c w
-    ∙ ap (λ b. if b then 0 else below handlers_in (block p) all (block p c)) e in
-    let s = sum_beside handlers_in (is_below (block p) (block p c)) all c (le-ltb (block p c) (block p c) (omega arith)) h in
-    omega arith)
+claims_now p q all c w h many = grind (arith, claim_none, index_is, sum_beside, le-ltb)
 
 pub all_home : (parts : List Lent) (p q : PackageRecord) (laid : List (Option Laid)) → Agrees parts p → AreLaidFor p laid → IsRewritten p laid q
     → filter_map (numbered_fault q.methods.info (described_methods q)) (enumerate_from 0 q.methods.handlers) ++ filter_map

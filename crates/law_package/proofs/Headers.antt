@@ -1,16 +1,16 @@
 -- The headers of methods, wherever their bytes stand.
-use Rattle.std.proofs.Common.{◌≡◌, ◌+◌, ℕ, zero, suc, List, [], ◌∷◌, length, take, drop, Bool, true, false, Option, Some, None, Ok, Err, refl}
-use Rattle.std.proofs.Common.{sym, ap, subst, ◌∙◌, arith, length-drop, length-take}
+use Rattle.std.proofs.Common.{◌≡◌, ◌+◌, ℕ, zero, suc, List, [], ◌∷◌, take, drop, Bool, true, false, Option, Some, None, Ok, Err, refl}
+use Rattle.std.proofs.Common.{sym, ap, ◌∙◌, arith, length-drop, length-take}
 use Rattle.std.specs.Prelude.{if◌then◌else◌, nat_le}
 use Rattle.std.specs.Result.{result_ok}
 use Rattle.std.specs.Option.{option_map}
 use Rattle.std.proofs.lemmas.List.{drop-drop}
 use Rattle.byteorder.specs.Endian.{big_number}
 use Rattle.cap_bytes.specs.Number.{number_at}
-use Rattle.cap_bytes.specs.Spelling.{Spells, info_of}
-use Rattle.cap_bytes.specs.Reading.{Reading, read}
+use Rattle.cap_bytes.specs.Spelling.{Spells}
+use Rattle.cap_bytes.specs.Reading.{Reading}
 use Rattle.cap_bytes.proofs.Laws.{spelled-read, read-spells}
-use Rattle.cap_method.specs.MethodFormat.{Header, method_header, header_after}
+use Rattle.cap_method.specs.MethodFormat.{Header, header_after}
 use Rattle.cap_components.specs.MethodPlaces.{size_by}
 use Rattle.cap_package.specs.HeaderChecks.{header_in}
 use Rattle.law_package.specs.Written.{lead_bytes}
@@ -18,16 +18,10 @@ use Rattle.law_package.specs.Written.{lead_bytes}
 -- ---- a byte
 
 number_drop : (n k : ℕ) (xs : List ℕ) → number_at 1 (n + k) xs ≡ number_at 1 k (drop n xs)
-number_drop n k xs =
-    let d = drop-drop k n xs in
-    let l = length-drop n xs in
-    let t : nat_le (n + k + 1) (length xs) ≡ nat_le (k + 1) (length (drop n xs)) = grind (arith, l) in
-    ap (λ b. if b then Some (big_number 1 (drop (n + k) xs)) else None) t
-    ∙ ap (λ ys. if nat_le (k + 1) (length (drop n xs)) then Some (big_number 1 ys) else None) (sym d)
+number_drop n k xs = grind (arith, drop-drop, length-drop)
 
 number_front : (j : ℕ) (zs : List ℕ) → big_number 1 (take (suc j) zs) ≡ big_number 1 zs
-number_front j [] = refl
-number_front j (z ∷ zs) = refl
+number_front j y = grind (arith)
 
 no_item : (a b : ℕ) → drop {A = ℕ} b (take a []) ≡ []
 no_item zero zero = refl
@@ -41,22 +35,16 @@ drop_take (suc k) s [] = no_item (suc k + s) (suc k) ∙ sym (ap (take s) (no_it
 drop_take (suc k) s (y ∷ ys) = let e : suc k + s ≡ suc (k + s) = omega arith in rw e (drop_take k s ys)
 
 number_take : (k j : ℕ) (ys : List ℕ) → number_at 1 k (take (k + suc j) ys) ≡ number_at 1 k ys
-number_take k j ys =
-    let l = length-take (k + suc j) ys in
-    let t : nat_le (k + 1) (length (take (k + suc j) ys)) ≡ nat_le (k + 1) (length ys) = grind (arith, l) in
-    ap (λ b. if b then Some (big_number 1 (drop k (take (k + suc j) ys))) else None) t
-    ∙ ap (λ n. if nat_le (k + 1) (length ys) then Some n else None) (ap (big_number 1) (drop_take k (suc j) ys) ∙ number_front j (drop k ys))
+number_take k j ys = grind (arith, length-take, suc, drop_take, number_front)
 
 -- where so many bytes are the same, so is each of them
 same_byte : (k j m n : ℕ) (xs ys : List ℕ) → take (k + suc j) (drop n ys) ≡ take (k + suc j) (drop m xs)
     → number_at 1 (n + k) ys ≡ number_at 1 (m + k) xs
-same_byte k j m n xs ys e =
-    number_drop n k ys ∙ sym (number_take k j (drop n ys)) ∙ ap (number_at 1 k) e ∙ number_take k j (drop m xs) ∙ sym (number_drop m k xs)
+same_byte k j m n xs ys e = grind (arith, number_drop n k ys, number_take k j (drop n ys), number_take k j (drop m xs), number_drop m k xs)
 
 byte_moved : (k j m n at to x : ℕ) (xs ys : List ℕ) → take (k + suc j) (drop n ys) ≡ take (k + suc j) (drop m xs) → at ≡ m + k → to ≡ n + k
     → number_at 1 at xs ≡ Some x → number_at 1 to ys ≡ Some x
-byte_moved k j m n at to x xs ys e a t h =
-    ap (λ i. number_at 1 i ys) t ∙ same_byte k j m n xs ys e ∙ ap (λ i. number_at 1 i xs) (sym a) ∙ h
+byte_moved k j m n at to x xs ys e a t h = grind (arith, same_byte)
 
 -- ---- a header
 
@@ -73,27 +61,16 @@ of_read (Err e) h k = absurd cc
 
 pub is_read : (info : List ℕ) (offset : ℕ) (h : Header) → header_in info offset ≡ Some h → IsRead info offset h
 unfolding header_in Spells
-is_read info offset h e =
-    let r = of_read (read (info_of 7) method_header info offset) h e in
-    let s : Spells method_header info offset h r.0 = read-spells (info_of 7) method_header info offset h r.0 r.1 in
-    record {
-      first = s.0;
-      after = r.0;
-      there = s.2.0;
-      rest = subst (λ at. Spells (header_after (nat_le 128 s.0) s.0) info at h r.0) s.2.2 s.3;
-    }
+is_read info offset h e = grind (arith, of_read, read-spells)
 
 pub read_is : (info : List ℕ) (offset : ℕ) (h : Header) → IsRead info offset h → header_in info offset ≡ Some h
 unfolding header_in Spells
-read_is info offset h r =
-    let s : Spells method_header info offset h r.after = (r.first, offset + 1, (r.there, refl, refl), r.rest) in
-    rw (spelled-read (info_of 7) method_header info offset h r.after s) refl
+read_is info offset h r = grind (arith, spelled-read)
 
 size_read : (b : Bool) (first at after : ℕ) (info : List ℕ) (h : Header) → Spells (header_after b first) info at h after
     → h.size ≡ (if b then 4 else 2)
 unfolding Spells
-size_read true first at after info h s = ap (λ (k : Header). k.size) s.3.3.3.0
-size_read false first at after info h s = ap (λ (k : Header). k.size) s.3.0
+size_read x first at after info h s = grind (arith)
 
 -- the size of a header is what its first byte tells
 pub header_sized : (info : List ℕ) (offset : ℕ) (h : Header) → header_in info offset ≡ Some h → h.size ≡ size_by (number_at 1 offset info)
@@ -129,15 +106,10 @@ some_bytes (Some first) = by (nat_le 128 first)
 
 -- the first byte is the same
 pub first_same : (m n : ℕ) (xs ys : List ℕ) → take 1 (drop n ys) ≡ take 1 (drop m xs) → number_at 1 n ys ≡ number_at 1 m xs
-first_same m n xs ys e =
-    let a : n + 0 ≡ n = omega arith in
-    let b : m + 0 ≡ m = omega arith in
-    ap (λ i. number_at 1 i ys) (sym a) ∙ same_byte 0 0 m n xs ys e ∙ ap (λ i. number_at 1 i xs) b
+first_same m n xs ys e = grind (arith, same_byte 0 0 m n xs ys e)
 
 pub front_of : (j : ℕ) (xs : List ℕ) → take 1 (take (suc j) xs) ≡ take 1 xs
-front_of j [] = refl
-front_of zero (x ∷ xs) = refl
-front_of (suc j) (x ∷ xs) = refl
+front_of j y = grind (arith)
 
 front_by : (o : Option ℕ) (xs : List ℕ) → take 1 (take (size_by o) xs) ≡ take 1 xs
 front_by o xs = let s = some_bytes o in ap (λ n. take 1 (take n xs)) s.1 ∙ front_of s.0 xs

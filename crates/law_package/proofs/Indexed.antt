@@ -13,7 +13,7 @@ use Rattle.cap_renewal.specs.NewMethods.{to}
 use Rattle.cap_renewal.specs.DescriptorEdits.{renewed_method}
 use Rattle.cap_laying.specs.declared.member.WrittenMember.{WrittenMember}
 use Rattle.cap_laying.specs.HandlerTable.{table_bytes}
-use Rattle.cap_laying.specs.Member.{body_bytes, bodies, by_offset}
+use Rattle.cap_laying.specs.Member.{bodies, by_offset}
 use Rattle.cap_laying.specs.Blocks.{blocks, firsts, had_none, entries_of_blocks, handler_indexes, total_handlers}
 use Rattle.cap_laying.specs.MethodInfo.{method_info}
 use Rattle.cap_laying.specs.Members.{AreMembers, AreApart, IsAlone, new_places, start_of, written_info}
@@ -27,13 +27,16 @@ use Rattle.law_package.specs.Writing.{first_handler, IsWrittenAnew, places}
 use Rattle.law_package.proofs.Lists.{Each, Has, each_at, each_of, each_map}
 use Rattle.cap_package.proofs.Agreed.{agrees}
 use Rattle.law_package.proofs.Owners.{Distinct}
-use Rattle.law_package.proofs.Zipped.{method_of, old_of}
+use Rattle.law_package.proofs.Zipped.{old_of}
 use Rattle.law_package.proofs.Sums.{filter_every}
 use Rattle.law_package.proofs.Kept.{map_twice, sum_map}
 use Rattle.law_package.proofs.Standing.{distinct_map}
-use Rattle.law_package.proofs.Handlers.{ClaimsInside, OwnedOnce, owned_once, all_claims, blocks_apart, distinct_numbers, has_map, some_count, block}
-use Rattle.law_package.proofs.Ranks.{sums_agree, sum_through, sums_all, split_at, late_sum, Rising, rising_map, rising_sources, rising_before, rising_after}
-use Rattle.law_package.proofs.Slots.{slot, sum_slots, size_of, key_below, Differ, AreApartBy, at_offset_of, first_of, put_all, own, holds, all_free, slot_none}
+use Rattle.law_package.proofs.Handlers.{ClaimsInside, OwnedOnce, owned_once, all_claims, blocks_apart}
+use Rattle.law_package.proofs.Handlers.{distinct_numbers, has_map, some_count, block}
+use Rattle.law_package.proofs.Ranks.{sums_agree, sum_through, sums_all, split_at, late_sum}
+use Rattle.law_package.proofs.Ranks.{Rising, rising_map, rising_sources, rising_before, rising_after}
+use Rattle.law_package.proofs.Slots.{slot, sum_slots, size_of, key_below, AreApartBy, at_offset_of}
+use Rattle.law_package.proofs.Slots.{first_of, put_all, own, holds, all_free, slot_none}
 use Rattle.law_package.proofs.Slots.{sum_put, length_table, by_offset_is, firsts_is, place_is}
 use Rattle.law_package.proofs.Anew.{Pair, pairs_in, source_in, member_in, pair_sources, pair_members, change_in}
 use Rattle.law_package.proofs.Order.{many_of, present, total_sum, total_slots, IsAmong, early, late}
@@ -47,15 +50,7 @@ alone_each o (m ∷ ms) a = (a.0, alone_each o ms a.1)
 
 pub apart_by : (size : ℕ) (ms : List WrittenMember) → AreMembers size ms → AreApart ms → AreApartBy at_offset_of size ms
 apart_by size [] a d = tt
-apart_by size (m ∷ ms) a d =
-    let in_size = a.0.within in
-    let others = alone_each m.offset ms d.0 in (
-      (λ i e. let s = same_Some m.offset i e in omega arith),
-      each_of (Differ at_offset_of m) ms
-          (λ y h. λ i e f. each_at (λ (x : WrittenMember). x.offset ≡ m.offset → ⊥) ms y others h
-          (same_Some y.offset i f ∙ sym (same_Some m.offset i e))),
-      apart_by size ms a.1 d.1,
-    )
+apart_by size (m ∷ ms) a d = grind (arith, alone_each m.offset ms d.0, apart_by size ms a.1 d.1, same_Some, each_of, each_at)
 
 apart_after : (lead rest : List WrittenMember) (m : WrittenMember) → AreApart (lead ++ m ∷ rest)
     → Each (λ (b : WrittenMember). b.offset ≡ m.offset → ⊥) rest
@@ -99,15 +94,11 @@ has_member p q laid ms z w h =
 over_pairs : (p q : PackageRecord) (laid : List (Option Laid)) (ms : List WrittenMember) (f : WrittenMember → ℕ) (t : WrittenMember → Bool)
     → IsWrittenAnew p laid ms q
     → sum_by f (filter t ms) ≡ sum_by (λ (z : Pair). f z.member) (filter (λ (z : Pair). t z.member) (pairs_in p laid ms))
-over_pairs p q laid ms f t w =
-    ap (λ xs. sum_by f (filter t xs)) (sym (pair_members p.methods.info (sources p laid) ms w.members)) ∙ sum_through f t member_in (pairs_in p laid ms)
+over_pairs p q laid ms f t w = grind (arith, sum_by, filter, pair_members, sum_through)
 
 pub starts : (p q : PackageRecord) (laid : List (Option Laid)) (ms : List WrittenMember) → IsWrittenAnew p laid ms q
     → start_of (length p.methods.handlers) ms ≡ methods_begin q
-starts p q laid ms w =
-    let a = ap length w.handlers in
-    let b = length_entries (places p ms) (blocks (length p.methods.handlers) ms) in
-    omega arith
+starts p q laid ms w = grind (arith, length_entries)
 
 pub placed_known : (p q : PackageRecord) (laid : List (Option Laid)) (ms : List WrittenMember) (z : Pair) → IsWrittenAnew p laid ms q
     → Each (Known p q ms) (pairs_in p laid ms) → Has (pairs_in p laid ms) z
@@ -147,10 +138,7 @@ had_first p s i e = by (s.method.handler_count == 0) refl
     none_some k = cc
 
     by : (b : Bool) → (s.method.handler_count == 0) ≡ b → HadFirst p s i
-    by true h = absurd (none_some (ap (λ b. if b then None else Some s.method.handler_index) (sym h) ∙ e))
-    by false h =
-        let k : s.method.handler_index ≡ i = same_Some s.method.handler_index i (ap (λ b. if b then None else Some s.method.handler_index) (sym h) ∙ e) in
-        record { some = h; index = k; block = ap (λ b. if b then length p.methods.handlers + s.number else s.method.handler_index) h ∙ k }
+    by x h = grind (arith, same_Some)
 
 pub record HadNone (p : PackageRecord) (s : FormerMethod) : Type 0 where
   pub block : block_of p s ≡ length p.methods.handlers + s.number
@@ -171,11 +159,7 @@ was_first p s = by (s.method.handler_count == 0) refl
 
 first_low : (p : PackageRecord) (s : FormerMethod) (i : ℕ) → ClaimsInside (length p.methods.handlers) s.method → HadFirst p s i
     → i < length p.methods.handlers
-first_low p s i c h =
-    let a = c h.some in
-    let b = some_count s.method.handler_count h.some in
-    let e = h.index in
-    omega arith
+first_low p s i c h = grind (arith, some_count)
 
 abbrev block_in : PackageRecord → Pair → ℕ
 block_in p z = block_of p z.source
@@ -186,10 +170,7 @@ distinct_up key g (x ∷ xs) d = (each_map (λ y. key y ≡ key (g x) → ⊥) g
 
 was_old : (p q : PackageRecord) (laid : List (Option Laid)) (ms : List WrittenMember) → IsWrittenAnew p laid ms q
     → map old_of (map (change_in (places p ms)) (pairs_in p laid ms)) ≡ described_methods p
-was_old p q laid ms w =
-    let zs = pairs_in p laid ms in
-    map_twice old_of (change_in (places p ms)) zs ∙ sym (map_twice method_of source_in zs)
-    ∙ ap (map method_of) (pair_sources p.methods.info (sources p laid) ms w.members) ∙ was_described p q laid ms w
+was_old p q laid ms w = grind (arith, pair_sources p.methods.info (sources p laid) ms w.members, was_described p q laid ms w, map_twice)
 
 blocks_differ : (parts : List Lent) (p q : PackageRecord) (laid : List (Option Laid)) (ms : List WrittenMember) → StandsFor parts p
     → IsWrittenAnew p laid ms q → Distinct (block_in p) (pairs_in p laid ms)
@@ -210,14 +191,7 @@ blocks_differ parts p q laid ms s w =
 firsts_apart : (p q : PackageRecord) (ms : List WrittenMember) (zs : List Pair) → Each (Known p q ms) zs → Distinct (block_in p) zs
     → AreApartBy first_of (length p.methods.handlers) (map member_in zs)
 firsts_apart p q ms [] k d = tt
-firsts_apart p q ms (z ∷ zs) k d = (
-  (λ i e. first_low p z.source i k.0.inside (had_first p z.source i (sym k.0.is.handlers ∙ e))),
-  each_map (Differ first_of z.member) member_in zs (each_of (λ (y : Pair). Differ first_of z.member y.member) zs (λ y h. λ i e f.
-      let a = had_first p z.source i (sym k.0.is.handlers ∙ e) in
-      let b = had_first p y.source i (sym (each_at (Known p q ms) zs y k.1 h).is.handlers ∙ f) in
-      each_at (λ (x : Pair). block_in p x ≡ block_in p z → ⊥) zs y d.0 h (b.block ∙ sym a.block))),
-  firsts_apart p q ms zs k.1 d.1,
-)
+firsts_apart p q ms (z ∷ zs) k d = grind (arith, first_low, had_first, each_map, each_of, each_at, firsts_apart p q ms zs k.1 d.1)
 
 pub all_firsts : (parts : List Lent) (p q : PackageRecord) (laid : List (Option Laid)) (ms : List WrittenMember) → StandsFor parts p
     → IsWrittenAnew p laid ms q → Each (Known p q ms) (pairs_in p laid ms) → AreApartBy first_of (length p.methods.handlers) ms
@@ -235,11 +209,7 @@ pub record HasRank (p : PackageRecord) (laid : List (Option Laid)) (ms : List Wr
 
 below_early : (p : PackageRecord) (s : FormerMethod) (o : Option ℕ) (i n : ℕ) → n ≡ i → i < length p.methods.handlers → WasFirst p s o
     → key_below i o ≡ nat_lt (block_of p s) n
-below_early p s o i n e lt (had j k h) = ap (key_below i) k ∙ ap (λ m. nat_lt m i) (sym h.block) ∙ ap (nat_lt (block_of p s)) (sym e)
-below_early p s o i n e lt (had_not k h) =
-    let b = h.block in
-    let f : nat_lt (block_of p s) n ≡ false = le-ltb (block_of p s) n (omega arith) in
-    ap (key_below i) k ∙ sym f
+below_early p s o i n e lt b = grind (arith, le-ltb)
 
 early_rank : (p q : PackageRecord) (laid : List (Option Laid)) (ms : List WrittenMember) (z : Pair) (i : ℕ) → IsWrittenAnew p laid ms q
     → Each (Known p q ms) (pairs_in p laid ms) → Has (pairs_in p laid ms) z
@@ -285,38 +255,20 @@ abbrev had_none_of : Option ℕ → Bool
 had_none_of o = is_none o
 
 had_bool : (o : Option ℕ) → had_none_of o ≡ not (not (had_none_of o))
-had_bool None = refl
-had_bool (Some i) = refl
+had_bool x = grind (arith)
 
 below_all : (p : PackageRecord) (s : FormerMethod) (o : Option ℕ) → ClaimsInside (length p.methods.handlers) s.method → WasFirst p s o
     → key_below (length p.methods.handlers) o ≡ not (had_none_of o)
-below_all p s None c f = refl
-below_all p s (Some i) c (had j k h) =
-    let e = same_Some i j k in
-    let low = first_low p s j c h in
-    lt-ltb i (length p.methods.handlers) (omega arith)
-below_all p s (Some i) c (had_not k h) = absurd cc
+below_all p s z c f = grind (arith, same_Some, first_low, lt-ltb)
 
 -- of two methods, one that had handlers comes before one that had none, and of those the one with the lesser number
 late_before : (p : PackageRecord) (s : FormerMethod) (o : Option ℕ) (k n : ℕ) → k ≡ length p.methods.handlers + n → s.number < n
     → ClaimsInside (length p.methods.handlers) s.method → WasFirst p s o → nat_lt (block_of p s) k ≡ true
-late_before p s o k n e lt c (had i f h) =
-    let b = h.block in
-    let low = first_low p s i c h in
-    lt-ltb (block_of p s) k (omega arith)
-late_before p s o k n e lt c (had_not f h) =
-    let b = h.block in
-    lt-ltb (block_of p s) k (omega arith)
+late_before p s o k n e lt c c2 = grind (arith, first_low, lt-ltb)
 
 late_after : (p : PackageRecord) (s : FormerMethod) (o : Option ℕ) (k n : ℕ) → k ≡ length p.methods.handlers + n → n ≤ s.number
     → ClaimsInside (length p.methods.handlers) s.method → WasFirst p s o → nat_lt (block_of p s) k ≡ not (had_none_of o)
-late_after p s o k n e le c (had i f h) =
-    let b = h.block in
-    let low = first_low p s i c h in
-    lt-ltb (block_of p s) k (omega arith) ∙ ap (λ x. not (had_none_of x)) (sym f)
-late_after p s o k n e le c (had_not f h) =
-    let b = h.block in
-    le-ltb (block_of p s) k (omega arith) ∙ ap (λ x. not (had_none_of x)) (sym f)
+late_after p s o k n e le c c2 = grind (arith, first_low, lt-ltb, not, le-ltb)
 
 rising_pairs : (p q : PackageRecord) (laid : List (Option Laid)) (ms : List WrittenMember) → IsWrittenAnew p laid ms q
     → Rising (λ (z : Pair). z.source.number) (pairs_in p laid ms)
@@ -408,8 +360,7 @@ late_rank p q laid ms z w ks h apart e hn =
 
     not_less : (rest : List Pair) (y : Pair) → Has (z ∷ rest) y → Each (λ (x : Pair). z.source.number < x.source.number) rest
         → z.source.number ≤ y.source.number
-    not_less rest y (inl s) a = let n = ap (λ (x : Pair). x.source.number) s in omega arith
-    not_less rest y (inr h) a = let n = each_at (λ (x : Pair). z.source.number < x.source.number) rest y a h in omega arith
+    not_less rest y z a = grind (arith, each_at)
 
 pub rank : (parts : List Lent) (p q : PackageRecord) (laid : List (Option Laid)) (ms : List WrittenMember) (z : Pair) → StandsFor parts p
     → IsWrittenAnew p laid ms q → Each (Known p q ms) (pairs_in p laid ms) → Has (pairs_in p laid ms) z → HasRank p laid ms z
@@ -448,11 +399,7 @@ all_handlers parts p q laid ms s w ks =
 length_bodies : (table : List (Option WrittenMember)) → length (bodies table) ≡ sum_slots size_of (length table) table
 length_bodies [] = refl
 length_bodies (None ∷ table) = let r = length_bodies table in omega arith
-length_bodies (Some m ∷ table) =
-    let r = length_bodies table in
-    let a = length-append (body_bytes m.body) (bodies table) in
-    let b = length_body m.body in
-    omega arith
+length_bodies (Some m ∷ table) = grind (arith, length-append, length_body, length_bodies table)
 
 below_size : (size : ℕ) (ms : List WrittenMember) → AreMembers size ms → Each (λ (m : WrittenMember). key_below size (at_offset_of m) ≡ true) ms
 below_size size [] a = tt

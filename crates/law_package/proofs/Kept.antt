@@ -4,9 +4,7 @@ use Rattle.std.proofs.Common.{Some, None, option_map, refl, sym, ap, ◌∙◌, 
 use Rattle.std.specs.Prelude.{if◌then◌else◌, ◌==◌}
 use Rattle.std.proofs.lemmas.List.Sums.{sum_by-cons}
 use Rattle.std.proofs.lemmas.List.{length-map}
-use Rattle.cap_frame.specs.DirectoryFormat.{DirectoryItems}
 use Rattle.cap_pool.specs.ExportFormat.{Exported}
-use Rattle.cap_class.specs.ClassFormat.{is_interface}
 use Rattle.cap_class.specs.ClassFormat as of_class
 use Rattle.cap_method.specs.StaticFormat.{Statics}
 use Rattle.cap_desc.specs.DescriptorFormat.{MethodDescriptor, FieldDescriptor, ClassDescriptor}
@@ -15,20 +13,21 @@ use Rattle.cap_components.specs.Descriptions.{Description}
 use Rattle.cap_components.specs.Parts.{Lent}
 use Rattle.cap_components.specs.PackageRecord.{PackageRecord, interface_methods, fields, names_interface}
 use Rattle.cap_package.specs.Pairs.{pairs}
-use Rattle.cap_package.specs.StaticChecks.{place_in, place_by, share_fault, share_by, share_pair, image_fault, image_by, array_kinds, filled_fault, filled_by}
+use Rattle.cap_package.specs.StaticChecks.{place_in, place_by, share_fault, share_by, share_pair}
+use Rattle.cap_package.specs.StaticChecks.{image_fault, image_by, array_kinds, filled_fault, filled_by}
 use Rattle.cap_package.specs.StaticChecks.{kind_at, image_offset, is_static_at, no_static_fault}
 use Rattle.cap_package.specs.NameChecks.{exported_fields, undescribed_fault, undescribed_class_fault, not_own_fault}
 use Rattle.cap_package.specs.TypeChecks.{field_type_fault, field_type_by, method_type_fault, method_type_by}
 use Rattle.cap_components.specs.declared.count_kind.CountKind.{CountKind}
-use Rattle.cap_components.specs.declared.count_kind.CountKind.TheVariants.{Imports, Applets, ImageSize, InitialArrays, ArrayBytes, PoolTypes, InstanceCells}
+use Rattle.cap_components.specs.declared.count_kind.CountKind.TheVariants.{Imports, Applets, ImageSize}
+use Rattle.cap_components.specs.declared.count_kind.CountKind.TheVariants.{InitialArrays, ArrayBytes, PoolTypes}
 use Rattle.cap_components.specs.declared.count_kind.CountKind.TheVariants.{ImageSegments}
-use Rattle.cap_package.specs.CountChecks.{differ, array_bytes, image_bytes, instance_fault, instance_by, described_cells, described_cells_by, count_if}
+use Rattle.cap_package.specs.CountChecks.{array_bytes, image_bytes, instance_fault, instance_by}
+use Rattle.cap_package.specs.CountChecks.{described_cells, described_cells_by, count_if}
 use Rattle.cap_package.specs.HeaderChecks.{is_static}
 use Rattle.cap_package.specs.Agreement.{or_none}
 use Rattle.cap_package.specs.FirstFault.{disagreements}
 use Rattle.cap_package.proofs.StaticsKnown.{both_empty}
-use Rattle.cap_renewal.specs.AppletEdits.{renewed_applet}
-use Rattle.cap_renewal.specs.PoolEdits.{renewed_entry}
 use Rattle.cap_renewal.specs.ClassEdits.{renewed_class}
 use Rattle.cap_renewal.specs.ExportEdits.{renewed_exported}
 use Rattle.jc_decode.specs.declared.symbols.Laid.{Laid}
@@ -46,12 +45,7 @@ map_twice h g (x ∷ xs) = ap (λ zs. h (g x) ∷ zs) (map_twice h g xs)
 
 sum_same : {X : Type 0} (f g : X → ℕ) (xs : List X) → ((x : X) → f x ≡ g x) → sum_by f xs ≡ sum_by g xs
 sum_same f g [] h = refl
-sum_same f g (x ∷ xs) h =
-    let a = sum_by-cons f x xs in
-    let b = sum_by-cons g x xs in
-    let e = h x in
-    let r = sum_same f g xs h in
-    omega arith
+sum_same f g (x ∷ xs) h = grind (arith, sum_by-cons, sum_same f g xs h)
 
 pub sum_map : {X Y : Type 0} (f : Y → ℕ) (g : X → Y) (xs : List X) → sum_by f (map g xs) ≡ sum_by (λ x. f (g x)) xs
 sum_map f g [] = refl
@@ -76,8 +70,7 @@ differ_same : (what : CountKind) (a b c d : ℕ) → a ≡ b → c ≡ d → dis
 differ_same what a b c d e h n = rw (e, h) n
 
 count_map : {X : Type 0} (g : X → X) (o : Option (List X)) → count_if (option_map (map g) o) ≡ count_if o
-count_map g None = refl
-count_map g (Some xs) = length-map xs g
+count_map g y = grind (arith, length-map)
 
 pub record HasSameNumbers (q : PackageRecord) : Type 0 where
   pub imports : disagreements Imports q.directory.import_count (length q.imports) ≡ []
@@ -89,24 +82,7 @@ pub record HasSameNumbers (q : PackageRecord) : Type 0 where
   pub image_sum : disagreements ImageSegments q.statics.image_size (image_bytes q.statics) ≡ []
 
 pub same_numbers : (parts : List Lent) (p q : PackageRecord) (laid : List (Option Laid)) → Agrees parts p → IsRewritten p laid q → HasSameNumbers q
-same_numbers parts p q laid a r =
-    let f = now_at (changes p laid q) in
-    record {
-      imports = differ_same Imports q.directory.import_count p.directory.import_count (length q.imports) (length p.imports)
-          (ap (λ (d : DirectoryItems). d.import_count) r.directory) (ap length r.imports) a.imports;
-      applets = differ_same Applets q.directory.applet_count p.directory.applet_count (count_if q.applets) (count_if p.applets)
-          (ap (λ (d : DirectoryItems). d.applet_count) r.directory) (ap count_if r.applets ∙ count_map (renewed_applet f) p.applets) a.applets;
-      image = differ_same ImageSize q.directory.image_size p.directory.image_size q.statics.image_size p.statics.image_size
-          (ap (λ (d : DirectoryItems). d.image_size) r.directory) (ap (λ (s : Statics). s.image_size) r.statics) a.image;
-      arrays = differ_same InitialArrays q.directory.array_init_count p.directory.array_init_count (length q.statics.arrays) (length p.statics.arrays)
-          (ap (λ (d : DirectoryItems). d.array_init_count) r.directory) (ap (λ (s : Statics). length s.arrays) r.statics) a.arrays;
-      array_sizes = differ_same ArrayBytes q.directory.array_init_size p.directory.array_init_size (array_bytes q.statics.arrays) (array_bytes p.statics.arrays)
-          (ap (λ (d : DirectoryItems). d.array_init_size) r.directory) (ap (λ (s : Statics). array_bytes s.arrays) r.statics) a.array_sizes;
-      pool = differ_same PoolTypes (length q.description.items.pool_types) (length p.description.items.pool_types) (length q.pool) (length p.pool)
-          (ap length r.description.pool_types) (ap length r.pool ∙ length-map p.pool (renewed_entry f)) a.pool;
-      image_sum = differ_same ImageSegments q.statics.image_size p.statics.image_size (image_bytes q.statics) (image_bytes p.statics)
-          (ap (λ (s : Statics). s.image_size) r.statics) (ap image_bytes r.statics) a.image_sum;
-    }
+same_numbers parts p q laid a r = grind (arith, differ_same, count_map, length-map)
 
 -- ---- instance sizes
 
@@ -116,17 +92,12 @@ same_cells set d e f h = ap (λ t. if is_static f.flags then 0 else described_ce
 
 instance_same : (set : ℕ → Bool) (f : ℕ → ℕ) (d e : Description) (c : ClassDescriptor) (o : Option of_class.Class) → HasSameDescription set d e
     → instance_by e c (option_map (renewed_class f) o) ≡ instance_by d c o
-instance_same set f d e c None h = refl
-instance_same set f d e c (Some entry) h =
-    ap (λ n. if is_interface entry.flags then None else differ InstanceCells entry.instance_size n)
-    (sum_same (described_cells e) (described_cells d) c.fields (λ x. same_cells set d e x h))
+instance_same set f d e c w h = grind (arith, sum_same, same_cells)
 
 instances_same : (set : ℕ → Bool) (f : ℕ → ℕ) (classes : List of_class.Class) (d e : Description) (c : ClassDescriptor)
     → HasSameDescription set d e → instance_fault (map (renewed_class f) classes) e c ≡ instance_fault classes d c
 unfolding instance_fault
-instances_same set f classes d e c h =
-    ap (instance_by e c) (find_map (λ (r : of_class.Class). r.offset == c.class_ref) (renewed_class f) classes)
-    ∙ instance_same set f d e c (find (λ (r : of_class.Class). r.offset == c.class_ref) classes) h
+instances_same set f classes d e c h = grind (arith, find_map, instance_same, find)
 
 instance_bare : (set : ℕ → Bool) (classes : List of_class.Class) (d : Description) (c : ClassDescriptor)
     → instance_fault classes d c ≡ instance_fault classes d (bare_class set c)
@@ -176,11 +147,7 @@ same_fields p q laid r = (alike (names_interface p.classes) p.description.items.
 
 pub same_shares : (parts : List Lent) (p q : PackageRecord) (laid : List (Option Laid)) → Agrees parts p → IsRewritten p laid q
     → filter_map (share_pair q.description) (pairs (fields q)) ≡ []
-same_shares parts p q laid a r =
-    ap (λ fs. filter_map (share_pair q.description) (pairs fs)) (same_fields p q laid r)
-    ∙ faults_same (share_pair q.description) (share_pair p.description) (pairs (fields p))
-    (λ x. share_same (names_interface p.classes) p.description q.description x r.description)
-    ∙ a.statics
+same_shares parts p q laid a r = grind (arith, same_fields p q laid r, filter_map, faults_same, share_same)
 
 pub same_places : (parts : List Lent) (p q : PackageRecord) (laid : List (Option Laid)) → Agrees parts p → IsRewritten p laid q
     → filter_map (image_fault q.statics q.description) (fields q) ++ filter_map (filled_fault (array_kinds q.statics.arrays) q.description) (fields q) ≡ []
@@ -226,10 +193,7 @@ count_refs cs n = sym (sum_map (λ r. cond (r == n) 1 0) ref_of cs)
 undescribed_same : (f : ℕ → ℕ) (cs ds : List ClassDescriptor) (c : of_class.Class) → map ref_of ds ≡ map ref_of cs
     → undescribed_fault ds (renewed_class f c) ≡ undescribed_fault cs c
 unfolding undescribed_fault
-undescribed_same f cs ds c e =
-    let n : count_by (λ (d : ClassDescriptor). d.class_ref == c.offset) ds ≡ count_by (λ (d : ClassDescriptor). d.class_ref == c.offset) cs =
-    count_refs ds c.offset ∙ ap (count_by (λ r. r == c.offset)) e ∙ sym (count_refs cs c.offset) in
-    rw n refl
+undescribed_same f cs ds c e = grind (arith, count_refs ds c.offset, count_refs cs c.offset, count_by)
 
 no_class_same : (f : ℕ → ℕ) (cs : List of_class.Class) (n : ℕ) → undescribed_class_fault (map (renewed_class f) cs) n ≡ undescribed_class_fault cs n
 unfolding undescribed_class_fault
@@ -241,8 +205,7 @@ not_own_same f cs n = rw (any_map (λ (c : of_class.Class). c.offset == n) (rene
 
 pub offsets_same : (f : ℕ → ℕ) (o : Option (List Exported))
     → map (λ (c : Exported). c.class_offset) (or_none (option_map (map (renewed_exported f)) o)) ≡ map (λ (c : Exported). c.class_offset) (or_none o)
-offsets_same f None = refl
-offsets_same f (Some cs) = map_twice (λ (c : Exported). c.class_offset) (renewed_exported f) cs
+offsets_same f y = grind (arith, map_twice)
 
 pub same_classes : (parts : List Lent) (p q : PackageRecord) (laid : List (Option Laid)) → Agrees parts p → IsRewritten p laid q
     → (filter_map (undescribed_fault q.description.items.classes) q.classes

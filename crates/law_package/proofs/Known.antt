@@ -7,7 +7,7 @@ use Rattle.cap_method.specs.MethodFormat.{Header}
 use Rattle.cap_desc.specs.DescriptorFormat.{MethodDescriptor}
 use Rattle.cap_components.specs.MethodPlaces.{size_by, code_start}
 use Rattle.cap_components.specs.Parts.{Lent}
-use Rattle.cap_components.specs.PackageRecord.{PackageRecord, described_methods, names_interface, handlers_of}
+use Rattle.cap_components.specs.PackageRecord.{PackageRecord, described_methods, handlers_of}
 use Rattle.cap_package.specs.HeaderChecks.{header_in}
 use Rattle.cap_package.specs.StandsFor.{StandsFor}
 use Rattle.cap_renewal.specs.NewMethods.{to}
@@ -23,8 +23,8 @@ use Rattle.cap_laying.specs.Members.{AreMembers}
 use Rattle.cap_laying.specs.WrittenMethods.{HeadersReadBack}
 use Rattle.cap_laying.specs.Standing.{StandsAnew, WrittenMethodsStand}
 use Rattle.jc_decode.specs.declared.symbols.Laid.{Laid}
-use Rattle.law_package.specs.Changes.{FormerMethod, sources, laid_but}
-use Rattle.law_package.specs.Written.{IsAs, size_written, lead_bytes}
+use Rattle.law_package.specs.Changes.{FormerMethod, sources}
+use Rattle.law_package.specs.Written.{IsAs, size_written}
 use Rattle.law_package.specs.Laying.{IsCodeFor, IsFor, FitsHeader, AreLaidFor}
 use Rattle.law_package.specs.Writing.{IsBodyOf, IsMemberOf, LaidHasSmallStack, IsWrittenAnew, places}
 use Rattle.law_package.proofs.Lists.{Each, each_at, each_of, map_each}
@@ -33,14 +33,13 @@ use Rattle.law_package.proofs.Zipped.{method_of, sources_method, length_but}
 use Rattle.law_package.proofs.Facts.{WasWell, wells}
 use Rattle.law_package.proofs.Standing.{sizes_end}
 use Rattle.law_package.proofs.Handlers.{ClaimsInside, all_claims}
-use Rattle.law_package.proofs.Anew.{Pair, pairs_in, source_in, member_in, pair_sources, pair_members, pair_each, change_in, standing, IsToldOf, is_told_of}
+use Rattle.law_package.proofs.Anew.{Pair, pairs_in, source_in, member_in, pair_sources, pair_members}
+use Rattle.law_package.proofs.Anew.{pair_each, change_in, standing, IsToldOf, is_told_of}
 use Rattle.law_package.proofs.AsLaid.{IsCodeAt, code_at, IsLeadAt, lead_at}
 
 pub was_described : (p q : PackageRecord) (laid : List (Option Laid)) (ms : List WrittenMember) → IsWrittenAnew p laid ms q
     → map method_of (sources p laid) ≡ described_methods p
-was_described p q laid ms w =
-    sources_method 0 (described_methods p) (laid_but (names_interface p.classes) p.description.items.classes laid)
-    (length_but (names_interface p.classes) p.description.items.classes laid w.each)
+was_described p q laid ms w = grind (arith, sources_method, length_but)
 
 -- ---- from methods, sources and members to pairs
 
@@ -85,19 +84,16 @@ body_at xs ys s h (Code laid) at back within fits small is bytes =
           (record {
             max_stack = k;
             nargs = one_byte laid.now.nargs laid.now.max_locals f.registers;
-            max_locals = other_byte laid.now.nargs laid.now.max_locals
-                f.registers;
+            max_locals = grind (arith, other_byte);
           }) bytes,
     )
 body_at xs ys s h (Lead header) at back within fits small is bytes = (is.0, lead_at s.method.method_offset at xs ys header.now within is.1 bytes)
 
 body_long : (xs ys : List ℕ) (s : FormerMethod) (b : Body) (at : ℕ) → IsBodyAt xs ys s b at → size_by (number_at 1 at ys) + code_size b ≡ body_size b
-body_long xs ys s (Code laid) at i = ap (λ n. n + length laid.now.code) i.1.size
-body_long xs ys s (Lead header) at i = let a = i.1.size in let b = i.1.long in omega arith
+body_long xs ys s u at i = grind (arith)
 
 body_lead : (xs ys : List ℕ) (s : FormerMethod) (b : Body) (at : ℕ) → IsBodyAt xs ys s b at → size_by (number_at 1 at ys) ≡ lead_size b
-body_lead xs ys s (Code laid) at i = i.1.size
-body_lead xs ys s (Lead header) at i = i.1.size ∙ sym i.1.long
+body_lead xs ys s u at i = grind (arith)
 
 -- ---- all
 
@@ -157,20 +153,12 @@ known parts p q laid ms s l w stand back =
 -- its size is that of its body
 pub size_known : (p q : PackageRecord) (ms : List WrittenMember) (z : Pair) → Known p q ms z → size_written q (change_in (places p ms) z)
     ≡ body_size z.member.body
-size_known p q ms z k =
-    let at = to (places p ms) z.member.offset in
-    let a : size_written q (change_in (places p ms) z) ≡ size_by (number_at 1 at q.methods.info) +
-    (renewed_method (places p ms) z.source.method).bytecode_count =
-    ap (λ n. size_by (number_at 1 n q.methods.info) + (renewed_method (places p ms) z.source.method).bytecode_count) k.told.offset in
-    a ∙ ap (λ n. size_by (number_at 1 at q.methods.info) + n) k.told.count ∙ body_long p.methods.info q.methods.info z.source z.member.body at k.body
+size_known p q ms z k = grind (arith, body_long)
 
 start_known : (p q : PackageRecord) (ms : List WrittenMember) (z : Pair) → Known p q ms z
     → code_start q.methods.info (renewed_method (places p ms) z.source.method) ≡ to (places p ms) z.member.offset + lead_size z.member.body
 unfolding code_start
-start_known p q ms z k =
-    let at = to (places p ms) z.member.offset in
-    ap (λ n. n + size_by (number_at 1 n q.methods.info)) k.told.offset
-    ∙ ap (λ n. at + n) (body_lead p.methods.info q.methods.info z.source z.member.body at k.body)
+start_known p q ms z k = grind (arith, body_lead)
 
 as_laid_by : (p q : PackageRecord) (s : FormerMethod) (m : MethodDescriptor) (b : Body) (at : ℕ) → IsBodyAt p.methods.info q.methods.info s b at
     → m.method_offset ≡ at → m.bytecode_count ≡ code_size b → m.handler_count ≡ length (laid_handlers b)
@@ -179,26 +167,17 @@ as_laid_by p q s m (Code laid) at i offset count many start handlers =
     subst (λ o. IsAs p q s.method o m) (sym i.0) (record {
       header = ap (header_at q) offset ∙ i.1.header;
       long = count;
-      code = ap (λ n. take n (drop (code_start q.methods.info m) q.methods.info)) count
-          ∙ ap (λ n. take (length laid.now.code) (drop n q.methods.info)) (start ∙ ap (λ n. at + n) (sym i.1.size))
-          ∙ i.1.code;
+      code = grind (arith);
       many = many;
       handlers = handlers ∙ ap (λ n. entries_at n laid.now.handlers) (sym start);
     })
   where
     header_at : PackageRecord → ℕ → Option Header
     header_at r n = header_in r.methods.info n
-as_laid_by p q s m (Lead header) at i offset count many start handlers =
-    subst (λ o. IsAs p q s.method o m) (sym i.0) (record {
-      header = ap (lead_bytes q.methods.info) offset ∙ i.1.bytes;
-      no_code = count;
-      no_handlers = many;
-    })
+as_laid_by p q s m (Lead header) at i offset count many start handlers = grind (arith)
 
 -- it is as it is to be, where its entries are those of its block
 pub as_laid : (p q : PackageRecord) (ms : List WrittenMember) (z : Pair) → Known p q ms z → handlers_of q (renewed_method (places p ms) z.source.method)
     ≡ block_entries (places p ms) z.member
     → IsAs p q z.source.method z.source.laid (renewed_method (places p ms) z.source.method)
-as_laid p q ms z k handlers =
-    as_laid_by p q z.source (renewed_method (places p ms) z.source.method) z.member.body (to (places p ms) z.member.offset) k.body k.told.offset
-    k.told.count k.told.many (start_known p q ms z k) handlers
+as_laid p q ms z k handlers = grind (arith, as_laid_by, start_known)

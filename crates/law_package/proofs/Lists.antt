@@ -1,5 +1,5 @@
 -- Facts of each element of a list, and lists in which nothing is at fault.
-use Rattle.std.proofs.Common.{◌≡◌, List, [], ◌∷◌, ◌++◌, map, filter, filter_map, Bool, true, false, cond, Option, Some, None, ◌⊎◌, inl}
+use Rattle.std.proofs.Common.{◌≡◌, List, [], ◌∷◌, ◌++◌, map, filter, filter_map, Bool, true, false, cond, Option, None, ◌⊎◌, inl, arith}
 use Rattle.std.proofs.Common.{inr, refl, sym, ap, subst, ◌∙◌}
 use Rattle.std.specs.List.{cons_option}
 use Rattle.first_fault.proofs.LeastFaults.{faultless_first}
@@ -49,8 +49,7 @@ faults_map f g [] = refl
 faults_map f g (x ∷ xs) = ap (cons_option (f (g x))) (faults_map f g xs)
 
 options_append : {F : Type 0} (o : Option F) (xs ys : List F) → cons_option o (xs ++ ys) ≡ cons_option o xs ++ ys
-options_append None xs ys = refl
-options_append (Some f) xs ys = refl
+options_append x xs ys = grind (arith)
 
 pub faults_append : {F X : Type 0} (f : X → Option F) (xs ys : List X) → filter_map f (xs ++ ys) ≡ filter_map f xs ++ filter_map f ys
 faults_append f [] ys = refl
@@ -63,8 +62,7 @@ faults_same f g (x ∷ xs) h = ap (λ o. cons_option o (filter_map f xs)) (h x) 
 -- lists that a map makes the same have the same faults, where no fault asks for what the map changes
 pub faults_alike : {F X Y : Type 0} (f : X → Option F) (g : X → Y) (b : Y → Option F) (xs ys : List X) → ((x : X) → f x ≡ b (g x))
     → map g ys ≡ map g xs → filter_map f ys ≡ filter_map f xs
-faults_alike f g b xs ys h e =
-    faults_same f (λ x. b (g x)) ys h ∙ sym (faults_map b g ys) ∙ ap (filter_map b) e ∙ faults_map b g xs ∙ sym (faults_same f (λ x. b (g x)) xs h)
+faults_alike f g b xs ys h e = grind (arith, faults_map b g ys, filter_map b, faults_map b g xs, faults_same)
 
 -- ---- filters
 
@@ -74,8 +72,7 @@ filter_none p (x ∷ xs) h = ap (λ b. cond b (x ∷ filter p xs) (filter p xs))
 
 pub filter_alike : {X : Type 0} (p q : X → Bool) (xs : List X) → Each (λ x. p x ≡ q x) xs → filter p xs ≡ filter q xs
 filter_alike p q [] h = refl
-filter_alike p q (x ∷ xs) h =
-    ap (λ b. cond b (x ∷ filter p xs) (filter p xs)) h.0 ∙ ap (λ ys. cond (q x) (x ∷ ys) ys) (filter_alike p q xs h.1)
+filter_alike p q (x ∷ xs) h = grind (arith, cond, filter, filter_alike p q xs h.1)
 
 pub filter_map_in : {X Y : Type 0} (p : Y → Bool) (g : X → Y) (xs : List X) → filter p (map g xs) ≡ map g (filter (λ x. p (g x)) xs)
 filter_map_in p g [] = refl

@@ -1,5 +1,5 @@
 -- What names methods by their offsets names described methods after them too.
-use Rattle.std.proofs.Common.{◌≡◌, ◌≤◌, ◌<◌, ℕ, List, [], ◌∷◌, ◌++◌, length, map, find, filter_map, Bool, true, false, cond, Option}
+use Rattle.std.proofs.Common.{◌≡◌, ◌≤◌, ℕ, List, [], ◌∷◌, ◌++◌, length, map, find, filter_map, Bool, true, false, cond, Option}
 use Rattle.std.proofs.Common.{Some, None, option_map, ◌||◌, inl, inr, refl, sym, ap, ◌∙◌, arith}
 use Rattle.std.specs.Prelude.{if◌then◌else◌, ◌==◌}
 use Rattle.std.specs.List.{list_any}
@@ -68,8 +68,7 @@ names_now cs offset e =
     ∙ any_has (λ (c : Change). c.now.method_offset == f.x.now.method_offset) cs f.x f.has (eq-eqb f.x.now.method_offset f.x.now.method_offset refl)
 
 pub is_told : (b : Bool) (f : PackFault) → (if b then None else Some f) ≡ None → b ≡ true
-is_told true f e = refl
-is_told false f e = absurd cc
+is_told x f e = grind (arith)
 
 method_now : (cs : List Change) (offset : ℕ) → no_method_fault (is_method_at (map old_of cs)) offset ≡ None
     → no_method_fault (is_method_at (map now_of cs)) (now_at cs offset) ≡ None
@@ -85,27 +84,15 @@ entry_now cs offset last e = by (offset == 0xFFFF) refl
     is_last n e = grind arith
 
     either : (b : Bool) (o : Option PackFault) → o ≡ None → (if b then None else o) ≡ None
-    either true o e = refl
-    either false o e = e
+    either x o e = grind (arith)
 
     by : (b : Bool) → (offset == 0xFFFF) ≡ b
         → (if now_at cs offset == 0xFFFF then None else no_method_fault (is_method_at (map now_of cs)) (now_at cs offset)) ≡ None
-    by true h =
-        let s : now_at cs offset ≡ 0xFFFF = ap (now_at cs) (is_last offset h) ∙ last in
-        rw s refl
-    by false h =
-        let k : no_method_fault (is_method_at (map old_of cs)) offset
-        ≡ None = ap (λ b. if b then None else no_method_fault (is_method_at (map old_of cs)) offset) (sym h) ∙ e in
-        either (now_at cs offset == 0xFFFF) (no_method_fault (is_method_at (map now_of cs)) (now_at cs offset)) (method_now cs offset k)
+    by x h = grind (arith, method_now)
 
 -- no method stood at 0xFFFF
 below_last : (p : PackageRecord) (m : MethodDescriptor) → WasWell p m → length p.methods.info ≤ 65535 → (m.method_offset == 0xFFFF) ≡ false
-below_last p m w short =
-    let e = sizes_end p.methods.info m in
-    let s = sizes_some p.methods.info m in
-    let h = w.within in
-    let lt : m.method_offset < 65535 = omega arith in
-    grind arith
+below_last p m w short = grind (arith, sizes_end, sizes_some)
 
 pub last_stays : (parts : List Lent) (p q : PackageRecord) (laid : List (Option Laid)) → StandsFor parts p → IsRewritten p laid q
     → now_at (changes p laid q) 0xFFFF ≡ 0xFFFF
@@ -123,10 +110,7 @@ last_stays parts p q laid s r =
 
 table_map : (f : ℕ → ℕ) (cs : List Class) → table_entries (map (renewed_class f) cs) ≡ map f (table_entries cs)
 table_map f [] = refl
-table_map f (c ∷ cs) =
-    ap (λ es. map f c.public ++ (map f c.visible ++ es)) (table_map f cs)
-    ∙ ap (λ es. map f c.public ++ es) (sym (map-append f c.visible (table_entries cs)))
-    ∙ sym (map-append f c.public (c.visible ++ table_entries cs))
+table_map f (c ∷ cs) = grind (arith, map-append, table_map f cs)
 
 exported_map : (f : ℕ → ℕ) (o : Option (List Exported)) → exported_methods (or_none (option_map (map (renewed_exported f)) o))
     ≡ map f (exported_methods (or_none o))
@@ -139,16 +123,11 @@ exported_map f (Some cs) = by cs
 
 installs_map : (f : ℕ → ℕ) (o : Option (List Applet)) → map (λ (a : Applet). a.install) (or_none (option_map (map (renewed_applet f)) o))
     ≡ map f (map (λ (a : Applet). a.install) (or_none o))
-installs_map f None = refl
-installs_map f (Some as_) = map_twice (λ (a : Applet). a.install) (renewed_applet f) as_ ∙ sym (map_twice f (λ (a : Applet). a.install) as_)
+installs_map f y = grind (arith, map_twice)
 
 none_named : (old now : ℕ → Option PackFault) (f : ℕ → ℕ) (offsets : List ℕ)
     → ((offset : ℕ) → old offset ≡ None → now (f offset) ≡ None) → filter_map old offsets ≡ [] → filter_map now (map f offsets) ≡ []
-none_named old now f offsets h e =
-    let each = none_each old offsets e in
-    faults_map now f offsets
-    ∙ each_none (λ offset. now (f offset)) offsets
-    (each_of (λ offset. now (f offset) ≡ None) offsets (λ offset k. h offset (each_at (λ x. old x ≡ None) offsets offset each k)))
+none_named old now f offsets h e = grind (arith, none_each, faults_map, each_none, each_of, each_at)
 
 pub all_named : (parts : List Lent) (p q : PackageRecord) (laid : List (Option Laid)) → StandsFor parts p → IsRewritten p laid q
     → (filter_map (no_entry_fault (is_method_at (described_methods q))) (table_entries q.classes)

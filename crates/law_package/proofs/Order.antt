@@ -1,6 +1,7 @@
 -- The order of the blocks of handlers, and where the entries of a method stand in it.
 use Rattle.std.proofs.Common.{◌≡◌, ◌≤◌, ◌<◌, ◌+◌, ℕ, zero, suc, List, [], ◌∷◌, ◌++◌, length, filter, replicate, sum_by, take}
-use Rattle.std.proofs.Common.{drop, flat_map, option_to_list, Bool, true, false, cond, Option, Some, None, is_none, inl, inr, refl, sym, ap, ◌∙◌, arith}
+use Rattle.std.proofs.Common.{drop, flat_map, option_to_list, Bool, true, false, cond, Option, Some}
+use Rattle.std.proofs.Common.{None, is_none, inl, inr, refl, sym, ap, ◌∙◌, arith}
 use Rattle.std.proofs.Common.{append_assoc}
 use Rattle.std.specs.Prelude.{if◌then◌else◌, ◌==◌, slice_set, slice_index}
 use Rattle.std.proofs.lemmas.List.Sums.{sum_by-cons}
@@ -11,7 +12,8 @@ use Rattle.cap_renewal.specs.declared.new_methods.NewMethod.{NewMethod}
 use Rattle.cap_renewal.specs.NewMethods.{to}
 use Rattle.cap_laying.specs.declared.member.WrittenMember.{WrittenMember}
 use Rattle.cap_laying.specs.Member.{handlers_of, lead_size}
-use Rattle.cap_laying.specs.Blocks.{blocks, firsts, had_none, first_entry, put_indexes, handler_indexes, block_entries, entries_of_blocks, total_handlers}
+use Rattle.cap_laying.specs.Blocks.{blocks, firsts, had_none, first_entry, put_indexes}
+use Rattle.cap_laying.specs.Blocks.{handler_indexes, block_entries, entries_of_blocks, total_handlers}
 use Rattle.cap_laying.proofs.Owned.{total_append, length_entries as length_at, length_table}
 use Rattle.law_package.proofs.Lists.{Each, Has, each_at}
 use Rattle.law_package.proofs.Slots.{slot, sum_slots, first_of}
@@ -78,8 +80,7 @@ each_late P (m ∷ ms) f = by (had_none m) refl (each_late P ms (λ b h e. f b (
     by false e others = others
 
 none_of : (o : Option ℕ) → is_none o ≡ true → o ≡ None
-none_of None e = refl
-none_of (Some i) e = absurd cc
+none_of x e = grind (arith)
 
 some_none : (i : ℕ) → Some i ≡ None → ⊥
 some_none i e = absurd cc
@@ -153,23 +154,19 @@ length_set (x ∷ xs) (suc i) k = ap suc (length_set xs i k)
 length_indexes : (xs : List ℕ) (before : ℕ) (bs : List WrittenMember) → length (put_indexes xs before bs) ≡ length xs
 length_indexes xs before [] = refl
 length_indexes xs before (b ∷ bs) =
-    length_indexes (slice_set xs b.offset (first_entry before (many_of b))) (before + many_of b) bs
-    ∙ length_set xs b.offset (first_entry before (many_of b))
+    grind (arith, length_set, length_indexes (slice_set xs b.offset (first_entry before (many_of b))) (before + many_of b) bs)
 
 indexes_parts : (xs : List ℕ) (before : ℕ) (as_ bs : List WrittenMember)
     → put_indexes xs before (as_ ++ bs) ≡ put_indexes (put_indexes xs before as_) (before + total_handlers as_) bs
 indexes_parts xs before [] bs = ap (λ n. put_indexes xs n bs) (omega arith)
 indexes_parts xs before (a ∷ as_) bs =
-    let e : before + many_of a + total_handlers as_ ≡ before + (many_of a + total_handlers as_) = omega arith in
-    indexes_parts (slice_set xs a.offset (first_entry before (many_of a))) (before + many_of a) as_ bs
-    ∙ ap (λ n. put_indexes (put_indexes (slice_set xs a.offset (first_entry before (many_of a))) (before + many_of a) as_) n bs) e
+    grind (arith, indexes_parts (slice_set xs a.offset (first_entry before (many_of a))) (before + many_of a) as_ bs)
 
 index_stays : (xs : List ℕ) (before i : ℕ) (bs : List WrittenMember) → Each (λ (b : WrittenMember). b.offset ≡ i → ⊥) bs
     → slice_index (put_indexes xs before bs) i ≡ slice_index xs i
 index_stays xs before i [] h = refl
 index_stays xs before i (b ∷ bs) h =
-    index_stays (slice_set xs b.offset (first_entry before (many_of b))) (before + many_of b) i bs h.1
-    ∙ set_elsewhere xs i b.offset (first_entry before (many_of b)) h.0
+    grind (arith, set_elsewhere, index_stays (slice_set xs b.offset (first_entry before (many_of b))) (before + many_of b) i bs h.1)
 
 length_zeros : (n : ℕ) → length (replicate {A = ℕ} n 0) ≡ n
 length_zeros zero = refl
@@ -193,9 +190,7 @@ index_among size bs m before a lt =
 entries_parts : (news : List (Option NewMethod)) (as_ bs : List WrittenMember) → entries_of_blocks news (as_ ++ bs) ≡ entries_of_blocks news
     as_ ++ entries_of_blocks news bs
 entries_parts news [] bs = refl
-entries_parts news (a ∷ as_) bs =
-    ap (λ xs. block_entries news a ++ xs) (entries_parts news as_ bs)
-    ∙ sym (append_assoc (block_entries news a) (entries_of_blocks news as_) (entries_of_blocks news bs))
+entries_parts news (a ∷ as_) bs = grind (arith, append_assoc, entries_parts news as_ bs)
 
 pub entries_among : (news : List (Option NewMethod)) (bs : List WrittenMember) (m : WrittenMember) (before : ℕ) → IsAmong bs m before
     → take (many_of m) (drop (first_entry before (many_of m)) (entries_of_blocks news bs)) ≡ block_entries news m
@@ -216,13 +211,4 @@ entries_among news bs m before a = by (many_of m == 0) refl
         let z = none (many_of m) e in
         let l = long in
         ap (λ n. take n (drop 0 (entries_of_blocks news bs))) z ∙ empty (block_entries news m) (l ∙ z)
-    by false e =
-        let l = length_table news a.lead in
-        let t = a.total in
-        let d : drop before (entries_of_blocks news bs) ≡ block_entries news m ++ entries_of_blocks news a.rest =
-        ap (λ xs. drop before (entries_of_blocks news xs)) a.is
-        ∙ ap (drop before) (entries_parts news a.lead (m ∷ a.rest))
-        ∙ ap (λ n. drop n (entries_of_blocks news a.lead ++ entries_of_blocks news (m ∷ a.rest))) (sym (l ∙ t))
-        ∙ drop-append_seam (entries_of_blocks news a.lead) (entries_of_blocks news (m ∷ a.rest)) in
-        ap (take (many_of m)) d ∙ ap (λ n. take n (block_entries news m ++ entries_of_blocks news a.rest)) (sym long)
-        ∙ take-append_seam (block_entries news m) (entries_of_blocks news a.rest)
+    by false e = grind (arith, length_table, entries_parts, drop-append_seam, long, take-append_seam)

@@ -64,31 +64,12 @@ all_below size key xs = ap (sum_by size) (filter_alike (is_below key (suc (sum_b
 split_by : {X : Type 0} (size : X → ℕ) (x : X) (a n : ℕ) (ps qs rs : List X) → sum_by size ps ≡ sum_by size qs + sum_by size rs → (a < n)
     ⊎ ((a ≡ n) ⊎ (n < a))
     → sum_by size (cond (nat_lt a (suc n)) (x ∷ ps) ps) ≡ sum_by size (cond (nat_lt a n) (x ∷ qs) qs) + sum_by size (cond (a == n) (x ∷ rs) rs)
-split_by size x a n ps qs rs e (inl h) =
-    let b : nat_lt a (suc n) ≡ true = grind arith in
-    let c : nat_lt a n ≡ true = grind arith in
-    let d : (a == n) ≡ false = grind arith in
-    let u = sum_by-cons size x ps in
-    let v = sum_by-cons size x qs in
-    rw (b, c, d) (omega arith)
-split_by size x a n ps qs rs e (inr (inl h)) =
-    let b : nat_lt a (suc n) ≡ true = grind arith in
-    let c : nat_lt a n ≡ false = grind arith in
-    let d : (a == n) ≡ true = grind arith in
-    let u = sum_by-cons size x ps in
-    let v = sum_by-cons size x rs in
-    rw (b, c, d) (omega arith)
-split_by size x a n ps qs rs e (inr (inr h)) =
-    let b : nat_lt a (suc n) ≡ false = grind arith in
-    let c : nat_lt a n ≡ false = grind arith in
-    let d : (a == n) ≡ false = grind arith in
-    rw (b, c, d) e
+split_by size x a n ps qs rs e c = grind (arith, suc, sum_by-cons)
 
 split : {X : Type 0} (size key : X → ℕ) (xs : List X) (n : ℕ) → below size key xs (suc n) ≡ below size key xs n + sum_by size
     (filter (is_at key n) xs)
 split size key [] n = refl
-split size key (x ∷ xs) n =
-    split_by size x (key x) n (filter (is_below key (suc n)) xs) (filter (is_below key n) xs) (filter (is_at key n) xs) (split size key xs n) (three (key x) n)
+split size key (x ∷ xs) n = grind (arith, split_by, filter, suc, split size key xs n)
 
 pub data AtMostOne {X : Type 0} (key : X → ℕ) (n : ℕ) (xs : List X) : Type 0 where
   no_one : filter (is_at key n) xs ≡ [] → AtMostOne key n xs
@@ -137,8 +118,7 @@ pub begins_after : {X : Type 0} (size key : X → ℕ) (xs : List X) (n m : ℕ)
 begins_after size key xs n m h = sum_le size (is_below key n) (is_below key m) xs (λ y e. rises (key y) n m h e)
 
 after_it : (b : Bool) (k n : ℕ) → n ≤ k → b && nat_lt k n ≡ false
-after_it true k n h = grind arith
-after_it false k n h = refl
+after_it x k n h = grind (arith)
 
 before_it : (b : Bool) (k n : ℕ) → k < n → nat_le n k && b ≡ false
 before_it b k n h = let e : nat_le n k ≡ false = grind arith in rw e refl
@@ -150,19 +130,7 @@ in_it k n m g h = let e : nat_le n k ≡ true = grind arith in let f : nat_lt k 
 lies_at : {X : Type 0} (size key : X → ℕ) (xs : List X) (k n : ℕ) (x : X) → Has xs x → below size key xs n ≤ k → k < below size key xs (suc n)
     → (key x ≡ n → k < below size key xs n + size x)
     → (key x < n) ⊎ ((key x ≡ n) ⊎ (n < key x)) → lies_in size key xs k x ≡ is_at key n x
-lies_at size key xs k n x h low high at (inl lt) =
-    let e = ends_before size key xs n x h lt in
-    let f : (key x == n) ≡ false = ne_eqb (key x) n (λ s. absurd (omega arith)) in
-    after_it (nat_le (below size key xs (key x)) k) k (below size key xs (key x) + size x) (omega arith) ∙ sym f
-lies_at size key xs k n x h low high at (inr (inl same)) =
-    let f : (key x == n) ≡ true = grind arith in
-    let e = ap (below size key xs) same in
-    let m = at same in
-    in_it k (below size key xs (key x)) (below size key xs (key x) + size x) (omega arith) (omega arith) ∙ sym f
-lies_at size key xs k n x h low high at (inr (inr lt)) =
-    let e = begins_after size key xs (suc n) (key x) (omega arith) in
-    let f : (key x == n) ≡ false = ne_eqb (key x) n (λ s. absurd (omega arith)) in
-    before_it (nat_lt k (below size key xs (key x) + size x)) k (below size key xs (key x)) (omega arith) ∙ sym f
+lies_at size key xs k n x h low high at e = grind (arith, ends_before, ne_eqb, after_it, in_it, begins_after, suc, before_it)
 
 at_of : {X : Type 0} (key : X → ℕ) (n : ℕ) (xs : List X) (x y : X) → filter (is_at key n) xs ≡ y ∷ [] → Has xs x → key x ≡ n → x ≡ y
 at_of {X = X} key n xs x y e h s =
@@ -175,10 +143,7 @@ at_of {X = X} key n xs x y e h s =
 
 owned_at : {X : Type 0} (size key : X → ℕ) (xs : List X) (k n : ℕ) → below size key xs n ≤ k → k < below size key xs (suc n)
     → AtMostOne key n xs → IsOwned size key xs k
-owned_at size key xs k n low high (no_one e) =
-    let s = split size key xs n in
-    let z = ap (sum_by size) e in
-    absurd (omega arith)
+owned_at size key xs k n low high (no_one e) = grind (arith, split, sum_by)
 owned_at size key xs k n low high (one y e h s) =
     let t = split size key xs n in
     let z = ap (sum_by size) e ∙ sum_by-cons size y [] in

@@ -1,5 +1,6 @@
 -- An offset that named a method names the one at the same position when it is renewed.
-use Rattle.std.proofs.Common.{◌≡◌, ℕ, zero, suc, List, [], ◌∷◌, map, find, slice_get, cond, Option, Some, inl, inr, refl, sym, ap, ◌∙◌}
+use Rattle.std.proofs.Common.{◌≡◌, ℕ, zero, suc, List, [], ◌∷◌, map, find, slice_get}
+use Rattle.std.proofs.Common.{cond, Option, Some, inl, inr, refl, sym, ap, ◌∙◌, arith}
 use Rattle.std.proofs.lemmas.Bool.{ne_eqb, eq-eqb}
 use Rattle.cap_desc.specs.DescriptorFormat.{MethodDescriptor}
 use Rattle.cap_components.specs.Parts.{Lent}
@@ -23,12 +24,9 @@ has_get (x ∷ cs) (suc k) c e = inr (has_get cs k c e)
 
 find_at : (cs : List Change) (k : ℕ) (c : Change) → slice_get cs k ≡ Some c → Distinct offset_of cs → find (stood_at (offset_of c)) cs ≡ Some c
 find_at [] k c e d = absurd cc
-find_at (x ∷ cs) zero c e d =
-    let s : x ≡ c = cc in
-    ap (λ b. cond b (Some x) (find (stood_at (offset_of c)) cs)) (ap (λ y. stood_at (offset_of c) y) s ∙ eq-eqb (offset_of c) (offset_of c) refl) ∙ ap Some s
+find_at (x ∷ cs) zero c e d = grind (arith, cond, find, eq-eqb)
 find_at (x ∷ cs) (suc k) c e d =
-    let h = each_at (λ (y : Change). offset_of y ≡ offset_of x → ⊥) cs c d.0 (has_get cs k c e) in
-    ap (λ b. cond b (Some x) (find (stood_at (offset_of c)) cs)) (ne_eqb (offset_of x) (offset_of c) (λ s. h (sym s))) ∙ find_at cs k c e d.1
+    grind (arith, has_get cs k c e, find (stood_at (offset_of c)) cs, find_at cs k c e d.1, each_at, cond, ne_eqb)
 
 pub record IsAt (cs : List Change) (k : ℕ) (m : MethodDescriptor) : Type 0 where
   pub change : Change

@@ -1,5 +1,5 @@
 -- Sums over some of the methods, and methods in the order of their positions.
-use Rattle.std.proofs.Common.{◌≡◌, ◌≤◌, ◌<◌, ◌+◌, ℕ, List, [], ◌∷◌, ◌++◌, map, filter, sum_by, Bool, true, false, cond, not}
+use Rattle.std.proofs.Common.{◌≡◌, ◌<◌, ◌+◌, ℕ, List, [], ◌∷◌, ◌++◌, map, filter, sum_by, Bool, true, false, cond, not}
 use Rattle.std.proofs.Common.{Option, inl, inr, refl, sym, ap, ◌∙◌, arith}
 use Rattle.std.proofs.lemmas.List.Sums.{sum_by-cons, sum_by-append}
 use Rattle.std.proofs.lemmas.List.Filters.{sum_by-filter_both}
@@ -46,12 +46,7 @@ pub late_sum : {X : Type 0} (w : X → ℕ) (had none t : X → Bool) (lead rest
     → Each (λ x. t x ≡ true) lead → Each (λ x. t x ≡ had x) rest
     → sum_by w (filter t (lead ++ rest)) ≡ sum_by w (filter had (lead ++ rest)) + sum_by w (filter none lead)
 late_sum w had none t lead rest other before after =
-    let a = ap (sum_by w) (filter-append t lead rest) ∙ sum_by-append w (filter t lead) (filter t rest) in
-    let b = ap (sum_by w) (filter-append had lead rest) ∙ sum_by-append w (filter had lead) (filter had rest) in
-    let c = sums_all w t lead before in
-    let d = sums_agree w w t had rest (each_of (λ x. w x ≡ w x) rest (λ x k. refl)) after in
-    let e = sum_by-filter_both had none other w lead in
-    omega arith
+    grind (arith, sum_by, filter-append, sum_by-append, filter, sums_all, sums_agree, each_of, sum_by-filter_both)
 
 -- ---- positions
 
@@ -70,12 +65,7 @@ rising_map {X = X} number g (x ∷ xs) r = (each_map_back xs r.0, rising_map num
 pub rising_sources : (n : ℕ) (ms : List MethodDescriptor) (ls : List (Option Laid)) → Rising (λ (s : FormerMethod). s.number) (sources_from n ms ls)
 rising_sources n [] ls = tt
 rising_sources n (m ∷ ms) [] = tt
-rising_sources n (m ∷ ms) (l ∷ ls) =
-    let later = from_number (n + 1) (n + 1) ms ls (omega arith) in (
-      each_of (λ (s : FormerMethod). n < s.number) (sources_from (n + 1) ms ls)
-          (λ s h. let k = each_at (λ (x : FormerMethod). n + 1 ≤ x.number) (sources_from (n + 1) ms ls) s later h in omega arith),
-      rising_sources (n + 1) ms ls,
-    )
+rising_sources n (m ∷ ms) (l ∷ ls) = grind (arith, from_number, each_of, each_at, rising_sources (n + 1) ms ls)
 
 pub rising_before : {X : Type 0} (number : X → ℕ) (lead rest : List X) (x : X) → Rising number (lead ++ x ∷ rest)
     → Each (λ y. number y < number x) lead

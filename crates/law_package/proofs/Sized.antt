@@ -1,5 +1,5 @@
 -- Parts whose sizes the Directory tells, and which say what every package says.
-use Rattle.std.proofs.Common.{◌≡◌, ◌-◌, ℕ, List, [], ◌∷◌, ◌++◌, length, map, filter_map, find, Bool, true, false, cond, Option, Some}
+use Rattle.std.proofs.Common.{◌≡◌, ◌-◌, ℕ, List, [], ◌∷◌, ◌++◌, length, map, filter_map, find, Bool, true, false, cond, Option, Some, arith}
 use Rattle.std.proofs.Common.{None, Ok, Err, option_map, inl, inr, refl, ap, subst, ◌∙◌}
 use Rattle.std.specs.Prelude.{if◌then◌else◌, ◌==◌, nat_le, ◌&&◌, slice_get, unwrap_or}
 use Rattle.std.proofs.lemmas.Bool.{eq-eqb}
@@ -14,7 +14,8 @@ use Rattle.cap_components.specs.declared.fault.PackFault.TheVariants.{MissingPar
 use Rattle.cap_components.specs.Parts.{Lent, held}
 use Rattle.cap_components.specs.Components.{info_in, read_directory}
 use Rattle.cap_components.specs.PackageRecord.{PackageRecord}
-use Rattle.cap_components.specs.PartChecks.{required, optional, custom_tags, absent_fault, absent_by, sized_fault, form_fault, form_by, size_fault, size_by}
+use Rattle.cap_components.specs.PartChecks.{required, optional, custom_tags, absent_fault, absent_by}
+use Rattle.cap_components.specs.PartChecks.{sized_fault, form_fault, form_by, size_fault, size_by}
 use Rattle.cap_components.specs.Saying.{AreSaid}
 use Rattle.cap_components.proofs.Saying.{part_read}
 use Rattle.cap_package.specs.FirstFault.{missing_parts}
@@ -43,8 +44,7 @@ unfolding absent_fault
 there_none parts tag file e = rw e refl
 
 either_none : (b : Bool) (o : Option PackFault) → o ≡ None → (if b then None else o) ≡ None
-either_none true o e = refl
-either_none false o e = e
+either_none x o e = grind (arith)
 
 sized_by : (parts : List Lent) (tag : ℕ) (o : Option (List ℕ)) (s : Option ℕ) → held parts tag ≡ o
     → ((size : ℕ) → s ≡ Some size → IsSizeOf tag size o) → absent_by s (absent_fault parts tag) ≡ None
@@ -57,31 +57,7 @@ unfolding sized_fault
 sized_none parts d tag h = sized_by parts tag (held parts tag) (size_in d tag) refl (h tag)
 
 required_there : (parts : List Lent) (p : PackageRecord) → AreSaid parts p → Each (λ tag. absent_fault parts tag ≡ None) required
-required_there parts p s = (
-  there_none parts 1 s.header.1.file s.header.1.there,
-  (
-    there_none parts 2 s.directory.1.file s.directory.1.there,
-    (
-      there_none parts 4 s.imports.1.file s.imports.1.there,
-      (
-        there_none parts 5 s.pool.1.file s.pool.1.there,
-        (
-          there_none parts 6 s.classes.1.file s.classes.1.there,
-          (
-            there_none parts 7 s.methods.file s.methods.there,
-            (
-              there_none parts 8 s.statics.1.file s.statics.1.there,
-              (
-                there_none parts 9 s.locations.1.file s.locations.1.there,
-                (there_none parts 11 s.description.file s.description.there, tt),
-              ),
-            ),
-          ),
-        ),
-      ),
-    ),
-  ),
-)
+required_there parts p s = grind (arith, there_none)
 
 pub nothing_missing : (parts : List Lent) (p : PackageRecord) → AreSaid parts p → HasSizes parts p.directory
     → missing_parts parts (read_directory parts) ≡ []
@@ -110,9 +86,7 @@ size_none_by parts tag (Some file) (Some size) e h =
 
 pub sizes_told : (parts : List Lent) (d : DirectoryItems) (tags : List ℕ) → HasSizes parts d → filter_map (size_fault parts d) tags ≡ []
 unfolding size_fault
-sizes_told parts d tags h =
-    each_none (size_fault parts d) tags
-    (each_of (λ tag. size_fault parts d tag ≡ None) tags (λ tag k. size_none_by parts tag (held parts tag) (size_in d tag) refl (h tag)))
+sizes_told parts d tags h = grind (arith, each_none, each_of, size_none_by)
 
 -- ---- custom components
 
@@ -140,10 +114,8 @@ has_size d tag h =
 
 form_none_by : (parts : List Lent) (tag size : ℕ) (o : Option (List ℕ)) → held parts tag ≡ o → IsSizeOf tag size o
     → form_by o (info_in parts tag) ≡ None
-form_none_by parts tag size None e h = refl
-form_none_by parts tag size (Some file) e h = rw (file_info parts tag file h.0 e h.1) refl
+form_none_by parts tag size u e h = grind (arith, file_info)
 
 pub forms_stand : (parts : List Lent) (d : DirectoryItems) → HasSizes parts d → filter_map (form_fault parts) (custom_tags d) ≡ []
 unfolding form_fault
-forms_stand parts d h = each_none (form_fault parts) (custom_tags d) (each_of (λ tag. form_fault parts tag ≡ None) (custom_tags d)
-    (λ tag k. let s = has_size d tag k in form_none_by parts tag s.0 (held parts tag) refl (h tag s.0 s.1)))
+forms_stand parts d h = grind (arith, each_none, each_of, has_size, form_none_by)

@@ -32,8 +32,7 @@ put_all key table (m ∷ ms) = put_all key (put_by table m (key m)) ms
 
 first_set : (w : WrittenMember → ℕ) (n : ℕ) (table : List (Option WrittenMember)) (m : WrittenMember) (b : Bool) (k : ℕ) → k ≡ 0 → b ≡ true
     → w m + sum_slots w n table ≡ k + sum_slots w n table + (if b then w m else 0)
-first_set w n table m true k z t = omega arith
-first_set w n table m false k z t = absurd cc
+first_set w n table m v k z t = grind (arith)
 
 set_sum : (w : WrittenMember → ℕ) (n : ℕ) (table : List (Option WrittenMember)) (i : ℕ) (m : WrittenMember) → i < length table
     → slot table i ≡ None
@@ -41,13 +40,8 @@ set_sum : (w : WrittenMember → ℕ) (n : ℕ) (table : List (Option WrittenMem
 set_sum w n [] i m lt e = absurd (omega arith)
 set_sum w zero (s ∷ table) zero m lt e = refl
 set_sum w zero (s ∷ table) (suc i) m lt e = let t : nat_lt (suc i) 0 ≡ false = grind arith in rw t refl
-set_sum w (suc n) (s ∷ table) zero m lt e =
-    let z : weight_if w s ≡ 0 = ap (weight_if w) e in
-    first_set w n table m (nat_lt 0 (suc n)) (weight_if w s) z (grind arith)
-set_sum w (suc n) (s ∷ table) (suc i) m lt e =
-    let t : nat_lt (suc i) (suc n) ≡ nat_lt i n = grind arith in
-    let r = set_sum w n table i m (omega arith) e in
-    rw (t, r) (omega arith)
+set_sum w (suc n) (s ∷ table) zero m lt e = grind (arith, first_set, suc)
+set_sum w (suc n) (s ∷ table) (suc i) m lt e = grind (arith, suc, set_sum w n table i m (omega arith) e)
 
 -- ---- all
 
@@ -65,11 +59,7 @@ AreFree key table (m ∷ ms) = FreeAt table (key m) × Each (Differ key m) ms ×
 
 free_one : (table : List (Option WrittenMember)) (m : WrittenMember) (i : ℕ) (o : Option ℕ) → (o ≡ Some i → ⊥) → FreeAt table o
     → FreeAt (slice_set table i (Some m)) o
-free_one table m i None h f = tt
-free_one table m i (Some j) h f =
-    let l = length_set table i m in
-    let lt = f.0 in
-    (omega arith, set_other table j i m (λ e. h (ap Some (sym e))) ∙ f.1)
+free_one table m i u h f = grind (arith, length_set, set_other)
 
 free_set : (key : WrittenMember → Option ℕ) (table : List (Option WrittenMember)) (m : WrittenMember) (i : ℕ) (ms : List WrittenMember)
     → Each (λ y. key y ≡ Some i → ⊥) ms → AreFree key table ms → AreFree key (slice_set table i (Some m)) ms
@@ -78,8 +68,7 @@ free_set key table m i (y ∷ ms) d f = (free_one table m i (key y) d.0 f.0, f.1
 
 free_put : (key : WrittenMember → Option ℕ) (table : List (Option WrittenMember)) (m : WrittenMember) (ms : List WrittenMember) (o : Option ℕ)
     → key m ≡ o → Each (Differ key m) ms → AreFree key table ms → AreFree key (put_by table m o) ms
-free_put key table m ms None e d f = f
-free_put key table m ms (Some i) e d f = free_set key table m i ms (each_of (λ y. key y ≡ Some i → ⊥) ms (λ y h. each_at (Differ key m) ms y d h i e)) f
+free_put key table m ms v e d f = grind (arith, free_set, each_of, each_at)
 
 abbrev pub key_below : ℕ → Option ℕ → Bool
 key_below n None = false
@@ -87,13 +76,11 @@ key_below n (Some i) = nat_lt i n
 
 put_one : (w : WrittenMember → ℕ) (n : ℕ) (table : List (Option WrittenMember)) (m : WrittenMember) (o : Option ℕ) → FreeAt table o
     → sum_slots w n (put_by table m o) ≡ sum_slots w n table + (if key_below n o then w m else 0)
-put_one w n table m None f = omega arith
-put_one w n table m (Some i) f = set_sum w n table i m f.0 f.1
+put_one w n table m v f = grind (arith, set_sum)
 
 sum_cond : (w : WrittenMember → ℕ) (b : Bool) (m : WrittenMember) (ms : List WrittenMember)
     → sum_by w (cond b (m ∷ ms) ms) ≡ (if b then w m else 0) + sum_by w ms
-sum_cond w true m ms = sum_by-cons w m ms
-sum_cond w false m ms = omega arith
+sum_cond w y m ms = grind (arith, sum_by-cons)
 
 pub put_sum : (w : WrittenMember → ℕ) (key : WrittenMember → Option ℕ) (n : ℕ) (table : List (Option WrittenMember)) (ms : List WrittenMember)
     → AreFree key table ms
@@ -111,8 +98,7 @@ put_sum w key n table (m ∷ ms) f =
 
 put_kept : (key : WrittenMember → Option ℕ) (table : List (Option WrittenMember)) (m : WrittenMember) (o : Option ℕ) (i : ℕ)
     → (o ≡ Some i → ⊥) → slot (put_by table m o) i ≡ slot table i
-put_kept key table m None i h = refl
-put_kept key table m (Some j) i h = set_other table i j m (λ e. h (ap Some e))
+put_kept key table m u i h = grind (arith, set_other)
 
 -- a slot at whose number none is put stays
 pub kept : (key : WrittenMember → Option ℕ) (table : List (Option WrittenMember)) (ms : List WrittenMember) (i : ℕ)
@@ -122,8 +108,7 @@ kept key table (m ∷ ms) i d = kept key (put_by table m (key m)) ms i d.1 ∙ p
 
 put_same : (table : List (Option WrittenMember)) (m : WrittenMember) (o : Option ℕ) (i : ℕ) → FreeAt table o → o ≡ Some i
     → slot (put_by table m o) i ≡ Some m
-put_same table m None i f e = absurd cc
-put_same table m (Some j) i f e = let s : j ≡ i = cc in ap (slot (slice_set table j (Some m))) (sym s) ∙ set_same table j m f.0
+put_same table m z i f e = grind (arith, set_same)
 
 -- each stands at its number
 pub own : (key : WrittenMember → Option ℕ) (table : List (Option WrittenMember)) (ms : List WrittenMember) (m : WrittenMember) (i : ℕ)
@@ -188,8 +173,7 @@ sum_none w (suc n) (suc k) = let r = sum_none w n k in omega arith
 
 pub free_none : (key : WrittenMember → Option ℕ) (size : ℕ) (m : WrittenMember) (o : Option ℕ) → ((i : ℕ) → o ≡ Some i → i < size)
     → FreeAt (replicate size None) o
-free_none key size m None h = tt
-free_none key size m (Some i) h = let l = length_none size in let lt = h i refl in (omega arith, slot_none size i)
+free_none key size m u h = grind (arith, length_none, slot_none)
 
 abbrev pub AreApartBy : (WrittenMember → Option ℕ) → ℕ → List WrittenMember → Type 0
 AreApartBy key size [] = Unit {0}
@@ -202,10 +186,7 @@ all_free key size (m ∷ ms) a = (free_none key size m (key m) a.0, a.1, all_fre
 -- what stands in the first n slots
 pub sum_put : (w : WrittenMember → ℕ) (key : WrittenMember → Option ℕ) (size n : ℕ) (ms : List WrittenMember) → AreApartBy key size ms
     → sum_slots w n (put_all key (replicate size None) ms) ≡ sum_by w (filter (λ m. key_below n (key m)) ms)
-sum_put w key size n ms a =
-    let s = put_sum w key n (replicate size None) ms (all_free key size ms a) in
-    let z = sum_none w n size in
-    omega arith
+sum_put w key size n ms a = grind (arith, put_sum, replicate, all_free, sum_none)
 
 -- ---- the tables
 
@@ -237,28 +218,20 @@ abbrev pub size_of : WrittenMember → ℕ
 size_of m = body_size m.body
 
 size_is : (s : Option WrittenMember) → size_if s ≡ weight_if size_of s
-size_is None = refl
-size_is (Some m) = refl
+size_is x = grind (arith)
 
 pub place_is : (at : ℕ) (table : List (Option WrittenMember)) (n : ℕ) → place_in_table at table n ≡ at + sum_slots size_of n table
 place_is at [] zero = omega arith
 place_is at [] (suc n) = omega arith
 place_is at (s ∷ table) zero = omega arith
-place_is at (s ∷ table) (suc n) =
-    let r = place_is (at + size_if s) table n in
-    let e = size_is s in
-    omega arith
+place_is at (s ∷ table) (suc n) = grind (arith, size_is, place_is (at + size_if s) table n)
 
 pub end_is : (at : ℕ) (table : List (Option WrittenMember)) → methods_end_from at table ≡ at + sum_slots size_of (length table) table
 end_is at [] = omega arith
-end_is at (s ∷ table) =
-    let r = end_is (at + size_if s) table in
-    let e = size_is s in
-    omega arith
+end_is at (s ∷ table) = grind (arith, size_is, end_is (at + size_if s) table)
 
 length_put_by : (table : List (Option WrittenMember)) (m : WrittenMember) (o : Option ℕ) → length (put_by table m o) ≡ length table
-length_put_by table m None = refl
-length_put_by table m (Some i) = length_set table i m
+length_put_by table m z = grind (arith, length_set)
 
 length_put : (key : WrittenMember → Option ℕ) (table : List (Option WrittenMember)) (ms : List WrittenMember)
     → length (put_all key table ms) ≡ length table

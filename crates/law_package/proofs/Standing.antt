@@ -1,6 +1,6 @@
 -- Methods that stand one after the other share no byte and lie in the info.
 use Rattle.std.proofs.Common.{◌≡◌, ◌≤◌, ◌<◌, ◌+◌, ◌*◌, ℕ, List, [], ◌∷◌, ◌++◌, length, map, sum_by, filter_map, min, max}
-use Rattle.std.proofs.Common.{Bool, true, false, Option, None, ◌⊎◌, inl, inr, refl, sym, ap, subst, ◌∙◌, arith, ltb-true, ltb-false}
+use Rattle.std.proofs.Common.{Bool, true, false, Option, None, ◌⊎◌, inl, inr, refl, sym, ◌∙◌, arith, ltb-true, ltb-false}
 use Rattle.std.specs.Prelude.{nat_lt}
 use Rattle.std.proofs.lemmas.Bool.{le-ltb}
 use Rattle.cap_bytes.specs.Number.{number_at}
@@ -9,7 +9,7 @@ use Rattle.cap_components.specs.MethodPlaces.{size_by}
 use Rattle.cap_components.specs.Parts.{Lent}
 use Rattle.cap_components.specs.PackageRecord.{PackageRecord, described_methods}
 use Rattle.cap_package.specs.Pairs.{pairs}
-use Rattle.cap_package.specs.MethodChecks.{code_start, code_end, share_byte, overlap_fault, overlap_pair, outside_fault}
+use Rattle.cap_package.specs.MethodChecks.{code_start, code_end, overlap_fault, overlap_pair, outside_fault}
 use Rattle.cap_package.proofs.StaticsKnown.{both_empty}
 use Rattle.jc_decode.specs.declared.symbols.Laid.{Laid}
 use Rattle.law_package.specs.Changes.{Change, changes}
@@ -17,9 +17,9 @@ use Rattle.law_package.specs.Written.{IsMethodWritten, size_written, methods_beg
 use Rattle.law_package.specs.Rewritten.{IsRewritten}
 use Rattle.law_package.proofs.Lists.{Each, Has, each_at, each_of, map_each, none_each, each_none, append_none, faults_map, faults_append}
 use Rattle.law_package.proofs.Sums.{sum_beside}
-use Rattle.law_package.proofs.Owners.{below, is_below, Distinct, ends_before}
+use Rattle.law_package.proofs.Owners.{below, Distinct, ends_before}
 use Rattle.cap_package.proofs.Agreed.{Agrees}
-use Rattle.law_package.proofs.Zipped.{now_of, old_of}
+use Rattle.law_package.proofs.Zipped.{now_of}
 use Rattle.law_package.proofs.Headers.{some_bytes}
 use Rattle.law_package.proofs.Facts.{WasWell, wells, news, olds, no_faults, all_written, few_by}
 
@@ -39,14 +39,7 @@ offset_of c = c.source.method.method_offset
 stood_apart : (info : List ℕ) (a b : MethodDescriptor) → code_end info a ≤ length info → code_end info b ≤ length info
     → overlap_fault info a b ≡ None → b.method_offset ≡ a.method_offset → ⊥
 unfolding overlap_fault
-stood_apart info a b ha hb e s =
-    let shares = few_by (share_byte info a b) _ e in
-    let low = ltb-false (max a.method_offset b.method_offset) (min (min (code_end info a) (code_end info b)) (length info)) shares in
-    let ea = sizes_end info a in
-    let eb = sizes_end info b in
-    let sa = sizes_some info a in
-    let sb = sizes_some info b in
-    absurd (omega arith)
+stood_apart info a b ha hb e s = grind (arith, few_by, ltb-false, max, min, sizes_end, sizes_some)
 
 all_apart : (p : PackageRecord) (ms : List MethodDescriptor) → Each (WasWell p) ms → filter_map (overlap_pair p.methods.info) (pairs ms) ≡ []
     → Distinct (λ (m : MethodDescriptor). m.method_offset) ms
@@ -69,9 +62,7 @@ distinct_map key g (x ∷ xs) d = (map_each (λ y. key y ≡ key (g x) → ⊥) 
 
 pub apart : (parts : List Lent) (p q : PackageRecord) (laid : List (Option Laid)) → Agrees parts p → IsRewritten p laid q
     → Distinct offset_of (changes p laid q)
-apart parts p q laid a r =
-    distinct_map (λ (m : MethodDescriptor). m.method_offset) old_of (changes p laid q)
-    (subst (Distinct (λ (m : MethodDescriptor). m.method_offset)) (sym (olds p q laid r)) (all_apart p (described_methods p) (wells parts p a) a.overlaps))
+apart parts p q laid a r = grind (arith, olds p q laid r, all_apart p (described_methods p) (wells parts p a) a.overlaps, distinct_map)
 
 -- ---- they stand apart
 
@@ -82,11 +73,7 @@ place_of p q all c w = w.place
 pub one_ends : (p q : PackageRecord) (all : List Change) (c d : Change) → IsMethodWritten p q all c → IsMethodWritten p q all d → Has all c
     → offset_of c < offset_of d → code_end q.methods.info c.now ≤ d.now.method_offset
 one_ends p q all c d w v h lt =
-    let a = place_of p q all c w in
-    let b = place_of p q all d v in
-    let e = sizes_end q.methods.info c.now in
-    let k = ends_before (size_written q) offset_of all (offset_of d) c h lt in
-    omega arith
+    grind (arith, sizes_end q.methods.info c.now, ends_before (size_written q) offset_of all (offset_of d) c h lt)
 
 pub compare : (a b : ℕ) → (a ≡ b → ⊥) → (a < b) ⊎ (b < a)
 compare a b h = by (nat_lt a b) (nat_lt b a) refl refl
@@ -99,12 +86,7 @@ compare a b h = by (nat_lt a b) (nat_lt b a) refl refl
 shares_none : (info : List ℕ) (a b : MethodDescriptor) → (code_end info a ≤ b.method_offset) ⊎ (code_end info b ≤ a.method_offset)
     → overlap_fault info a b ≡ None
 unfolding overlap_fault
-shares_none info a b (inl h) =
-    let e : nat_lt (max a.method_offset b.method_offset) (min (min (code_end info a) (code_end info b)) (length info)) ≡ false = grind arith in
-    rw e refl
-shares_none info a b (inr h) =
-    let e : nat_lt (max a.method_offset b.method_offset) (min (min (code_end info a) (code_end info b)) (length info)) ≡ false = grind arith in
-    rw e refl
+shares_none info a b u = grind (arith, max, min)
 
 pair_none : (p q : PackageRecord) (all : List Change) (c d : Change) → Each (IsMethodWritten p q all) all → Has all c → Has all d
     → (offset_of d ≡ offset_of c → ⊥) → overlap_fault q.methods.info c.now d.now ≡ None
@@ -134,28 +116,18 @@ no_pairs p q all (c ∷ cs) ws i d =
 
 pub stand_apart : (parts : List Lent) (p q : PackageRecord) (laid : List (Option Laid)) → Agrees parts p → IsRewritten p laid q
     → filter_map (overlap_pair q.methods.info) (pairs (described_methods q)) ≡ []
-stand_apart parts p q laid a r =
-    let cs = changes p laid q in
-    ap (λ ms. filter_map (overlap_pair q.methods.info) (pairs ms)) (sym (news p q laid r)) ∙ no_pairs p q cs cs (all_written p q laid r) (λ c h. h)
-    (apart parts p q laid a r)
+stand_apart parts p q laid a r = grind (arith, news p q laid r, all_written p q laid r, apart parts p q laid a r, filter_map, no_pairs)
 
 -- ---- they lie in the info
 
 lies_inside : (info : List ℕ) (n : ℕ) (m : MethodDescriptor) → 1 + 8 * n ≤ m.method_offset → code_end info m ≤ length info
     → outside_fault info n m ≡ None
 unfolding outside_fault
-lies_inside info n m low high =
-    let a : nat_lt m.method_offset (1 + 8 * n) ≡ false = grind arith in
-    let b : nat_lt (length info) (code_end info m) ≡ false = grind arith in
-    rw (a, b) refl
+lies_inside info n m low high = grind (arith)
 
 pub ends_inside : (p q : PackageRecord) (all : List Change) (c : Change) → IsMethodWritten p q all c → Has all c
     → length q.methods.info ≡ methods_begin q + sum_by (size_written q) all → code_end q.methods.info c.now ≤ length q.methods.info
-ends_inside p q all c w h long =
-    let a = place_of p q all c w in
-    let e = sizes_end q.methods.info c.now in
-    let k = sum_beside (size_written q) (is_below offset_of (offset_of c)) all c (le-ltb (offset_of c) (offset_of c) (omega arith)) h in
-    omega arith
+ends_inside p q all c w h long = grind (arith, sizes_end, sum_beside, le-ltb)
 
 pub lie_inside : (p q : PackageRecord) (laid : List (Option Laid)) → IsRewritten p laid q
     → filter_map (outside_fault q.methods.info (length q.methods.handlers)) (described_methods q) ≡ []

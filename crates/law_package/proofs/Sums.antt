@@ -9,10 +9,7 @@ use Rattle.law_package.proofs.Lists.{Each, Has, filter_none}
 
 le_by : {X : Type 0} (size : X → ℕ) (x : X) (b c : Bool) (ps qs : List X) → (b ≡ true → c ≡ true) → sum_by size ps ≤ sum_by size qs
     → sum_by size (cond b (x ∷ ps) ps) ≤ sum_by size (cond c (x ∷ qs) qs)
-le_by size x true true ps qs i h = let a = sum_by-cons size x ps in let b = sum_by-cons size x qs in omega arith
-le_by size x true false ps qs i h = absurd (false≢true (i refl))
-le_by size x false true ps qs i h = let b = sum_by-cons size x qs in omega arith
-le_by size x false false ps qs i h = h
+le_by size x z u ps qs i h = grind (arith, sum_by-cons, false≢true)
 
 pub sum_le : {X : Type 0} (size : X → ℕ) (p q : X → Bool) (xs : List X) → ((x : X) → p x ≡ true → q x ≡ true)
     → sum_by size (filter p xs) ≤ sum_by size (filter q xs)
@@ -21,16 +18,11 @@ sum_le size p q (x ∷ xs) i = le_by size x (p x) (q x) (filter p xs) (filter q 
 
 more_by : {X : Type 0} (size : X → ℕ) (x : X) (n : ℕ) (b c : Bool) (ps qs : List X) → (b ≡ true → c ≡ true)
     → sum_by size ps + n ≤ sum_by size qs → sum_by size (cond b (x ∷ ps) ps) + n ≤ sum_by size (cond c (x ∷ qs) qs)
-more_by size x n true true ps qs i h = let a = sum_by-cons size x ps in let b = sum_by-cons size x qs in omega arith
-more_by size x n true false ps qs i h = absurd (false≢true (i refl))
-more_by size x n false true ps qs i h = let b = sum_by-cons size x qs in omega arith
-more_by size x n false false ps qs i h = h
+more_by size x n u v ps qs i h = grind (arith, sum_by-cons, false≢true)
 
 one_more : {X : Type 0} (size : X → ℕ) (x : X) (b c : Bool) (ps qs : List X) → b ≡ false → c ≡ true → sum_by size ps ≤ sum_by size qs
     → sum_by size (cond b (x ∷ ps) ps) + size x ≤ sum_by size (cond c (x ∷ qs) qs)
-one_more size x true c ps qs e f h = absurd (false≢true (sym e))
-one_more size x false false ps qs e f h = absurd (false≢true f)
-one_more size x false true ps qs e f h = let b = sum_by-cons size x qs in omega arith
+one_more size x z c ps qs e f h = grind (arith, false≢true, sum_by-cons)
 
 -- by one that passes now
 pub sum_more : {X : Type 0} (size : X → ℕ) (p q : X → Bool) (xs : List X) (a : X) → ((x : X) → p x ≡ true → q x ≡ true) → p a ≡ false
@@ -48,8 +40,7 @@ filter_every (x ∷ xs) = ap (λ ys. x ∷ ys) (filter_every xs)
 -- one that does not pass is beside those that do
 pub sum_beside : {X : Type 0} (size : X → ℕ) (p : X → Bool) (xs : List X) (a : X) → p a ≡ false → Has xs a
     → sum_by size (filter p xs) + size a ≤ sum_by size xs
-sum_beside size p xs a e h =
-    subst (λ ys. sum_by size (filter p xs) + size a ≤ sum_by size ys) (filter_every xs) (sum_more size p (λ x. true) xs a (λ x k. refl) e refl h)
+sum_beside size p xs a e h = grind (arith, filter p xs, filter_every xs, sum_by, sum_more)
 
 pub sum_each : {X : Type 0} (size : X → ℕ) (xs : List X) (a : X) → Has xs a → size a ≤ sum_by size xs
 sum_each size [] a h = absurd h

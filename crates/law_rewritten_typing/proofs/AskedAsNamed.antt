@@ -1,5 +1,5 @@
 -- The labels of a rewritten method are asked for as they are named, so that it has a card typing.
-use Rattle.std.proofs.Common.{◌≡◌, ℕ, suc, ◌+◌, ◌<◌, Bool, true, if◌then◌else◌, List, [], ◌∷◌, map, length, slice_get, Contains}
+use Rattle.std.proofs.Common.{◌≡◌, ℕ, suc, ◌+◌, ◌<◌, Bool, true, if◌then◌else◌, List, [], ◌∷◌, length, slice_get, Contains}
 use Rattle.std.proofs.Common.{Some, Ok, IfSome, refl, sym, ◌∙◌, ap, subst, arith}
 use Rattle.std.specs.Prelude.{ℤ, pos, negsuc, is_some}
 use Rattle.std.proofs.lemmas.List.{length-map}
@@ -14,7 +14,7 @@ use Rattle.jc_decode.specs.Cases.{cases}
 use Rattle.jc_decode.specs.declared.insn.Placed.{Placed}
 use Rattle.jc_decode.specs.declared.symbols.Item.{Item}
 use Rattle.jc_decode.specs.declared.symbols.Range.{Range}
-use Rattle.jc_decode.specs.Listing.{listing, jumps, target, targets}
+use Rattle.jc_decode.specs.Listing.{listing, jumps, targets}
 use Rattle.jc_decode.proofs.Ranges.{op-fits}
 use Rattle.jc_decode.proofs.Elements.{Contains-slice_get}
 use Rattle.jc_ops.specs.declared.operation.Operation.{Operation}
@@ -78,9 +78,7 @@ module _ (s : Source) (l : AreTypingLaws s.world) (ready : IsReady s) (code : Is
 
   target-count : (i : Placed) → jumps i.insn.op ≡ true → length (targets s.method.code i) ≡ length (cases s.method.code i.place i.insn) + 1
   unfolding targets
-  target-count i j =
-      ap (λ (b : Bool). length (if b then target i.place i.insn.x ∷ map (λ c. target i.place c.offset) (cases s.method.code i.place i.insn) else [])) j
-      ∙ omega (arith, length-map (cases s.method.code i.place i.insn) (λ c. target i.place c.offset))
+  target-count i j = grind (arith, length-map)
 
   emitted : (i : Placed) (op : Operation) → IsListed s.method.code i → is_some (s.frames i.place) ≡ true → operation s i ≡ Ok op
       → Names IsEmptied s i op

@@ -1,6 +1,7 @@
 -- Values of registers below others, and registers that an operation leaves as they were.
 use Rattle.std.proofs.Common.{◌≡◌, ◌≢◌, ◌⊎◌, ℕ, zero, suc, ◌+◌, ◌<◌, ◌==◌, Bool, true, false, ◌||◌, inl, inr}
-use Rattle.std.proofs.Common.{List, [], ◌∷◌, ◌++◌, length, set, slice_get, replicate, All, Option, Some, None, IsSomeAnd, refl, sym, ◌∙◌, ap}
+use Rattle.std.proofs.Common.{List, [], ◌∷◌, ◌++◌, length, set, slice_get, replicate, All}
+use Rattle.std.proofs.Common.{Option, Some, None, IsSomeAnd, refl, sym, ◌∙◌, ap}
 use Rattle.std.proofs.Common.{subst, arith}
 use Rattle.std.proofs.lemmas.Bool.Decides.{nat_tests}
 use Rattle.jc_base.specs.Cell.{IsNoHalf}
@@ -41,21 +42,16 @@ under-at t _ _ zero b (more_cells {a = c} {b = d} p ps) e = let own : d ≡ b = 
 under-at t _ _ (suc x) b (more_cells {xs = xs} {ys = ys} p ps) e = under-at t xs ys x b ps e
 
 pub some-at : (o : Option Ty) (P : Ty → Type 0) → IsSomeAnd o P → (a : Ty) × (o ≡ Some a) × P a
-some-at None P h = absurd h
-some-at (Some a) P h = (a, refl, h)
+some-at x y h = grind (arith)
 
 not-top : (b : Ty) → b ≢ Top → IsNotTop b
-not-top Top n = absurd (n refl)
-not-top b n = tt
+not-top b n = grind (arith)
 
 no-half : (a : Ty) → a ≢ IntHigh → a ≢ IntLow → IsNoHalf a
-no-half IntHigh h l = h refl
-no-half IntLow h l = l refl
-no-half a h l = tt
+no-half a h l = grind (arith)
 
 pub is-high-or : (a : Ty) → (a ≡ IntHigh) ⊎ (a ≢ IntHigh)
-is-high-or IntHigh = inl refl
-is-high-or a = inr (λ e. absurd (cc))
+is-high-or a = grind (arith)
 
 -- ---- values
 
@@ -106,14 +102,11 @@ value-before xs n y u v =
 module _ (t : ClassTable) (types : IsOrderOfTypes t) where
   pub top-only : (b : Ty) → is_below t Top b ≡ true → b ≡ Top
   unfolding is_below
-  top-only Top e = refl
-  top-only b e = absurd (cc)
+  top-only b e = grind (arith)
 
   short-only : (b : Ty) → is_below t Short b ≡ true → IsNotTop b → Short ≡ b
   unfolding is_below
-  short-only Short e n = refl
-  short-only Top e n = absurd n
-  short-only b e n = absurd (cc)
+  short-only b e n = grind (arith)
 
   -- a value that is not lone halves, under one of other registers
   pub value-below :
@@ -138,11 +131,7 @@ module _ (t : ClassTable) (types : IsOrderOfTypes t) where
 
   -- two types, one below the other, are loaded alike
   pub loads-same : (a b : Ty) → Below t a b → IsNotBottom a → IsNotTop b → load_op a ≡ load_op b
-  loads-same Short b le n top = ap load_op (short-only b ((types.decided Short b).1 le) top)
-  loads-same IntHigh b le n top = ap load_op (sym (high-only t types b ((types.decided IntHigh b).1 le) top))
-  loads-same a Short le n top = ap load_op (is-short t types a le n)
-  loads-same a IntHigh le n top = ap load_op (is-high t types a le n)
-  loads-same a b le n top = refl
+  loads-same a b le n top = grind (arith, short-only, high-only, is-short, is-high)
 
   low-never : (c : ℕ) → is_below t IntLow (Class c) ≡ true → ⊥
   unfolding is_below
@@ -167,10 +156,8 @@ pub unwritten :
     (w : Linked) (types : IsOrderOfTypes w.classes) (limit : ℕ) (op : Operation) (before after : Frame) (o : Outcome)
     → OperationApplies w limit op Flow before after o → All IsNotBottom before.regs
     → (y : ℕ) → is_stored op y ≡ false → slice_get after.regs y ≡ slice_get before.regs y
-unwritten w types limit (ops.Store sorts.Reference x) before after o a full y none =
-    ap (λ (rs : List Ty). slice_get rs y) a.regs.after_is ∙ set-other before.regs x y a.regs.value none
-unwritten w types limit (ops.Store sorts.Short x) before after o a full y none =
-    ap (λ (rs : List Ty). slice_get rs y) a.regs.after_is ∙ set-other before.regs x y a.regs.value none
+unwritten w types limit (ops.Store sorts.Reference x) before after o a full y none = grind (arith, slice_get, set-other)
+unwritten w types limit (ops.Store sorts.Short x) before after o a full y none = grind (arith, slice_get, set-other)
 unwritten w types limit (ops.Store sorts.Int x) before after o a full y none = by (y == x) (y == x + 1) refl refl none
   where
     by : (b c : Bool) → (y == x) ≡ b → (y == x + 1) ≡ c → (b || c) ≡ false → slice_get after.regs y ≡ slice_get before.regs y

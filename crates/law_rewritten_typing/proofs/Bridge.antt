@@ -13,18 +13,17 @@ use Rattle.jc_decode.specs.declared.symbols.Item.TheVariants.{Plain, Branch, Swi
 use Rattle.jc_decode.specs.Symbols.{Step, is_instruction, place_of, steps_in}
 use Rattle.xf_emission.proofs.Labels.{labels}
 use Rattle.xf_emission.proofs.Rises.{Rises}
-use Rattle.law_rewritten_typing.proofs.Walks.{State, holding, left, Asked, nothing_asked, emptied, catching, Passes, Turn, Flows, flow_end, flow_label}
+use Rattle.law_rewritten_typing.proofs.Walks.{State, holding, left, Asked, nothing_asked, emptied}
+use Rattle.law_rewritten_typing.proofs.Walks.{catching, Passes, Turn, Flows, flow_end, flow_label}
 use Rattle.law_rewritten_typing.proofs.Walks.{flow_step, insn_of, count, count-step}
 
 -- ---- an instruction at the head of items
 
 place-step : (l : ℕ) (x : Item) (xs : List Item) → is_instruction x ≡ true → place_of l (x ∷ xs) ≡ suc (place_of l xs)
-place-step l (Label m) xs is = absurd (cc)
-place-step l x xs is = refl
+place-step l x xs is = grind (arith)
 
 labels-step : (x : Item) (xs : List Item) → is_instruction x ≡ true → labels (x ∷ xs) ≡ labels xs
-labels-step (Label m) xs is = absurd (cc)
-labels-step x xs is = refl
+labels-step x xs is = grind (arith)
 
 first-step : (source : List ℕ) (all : List Item) (x : Item) (xs : List Item) (st : Step) → is_instruction x ≡ true
     → slice_get (steps_in source all (x ∷ xs)) 0 ≡ Some st → st.insn ≡ insn_of x
@@ -43,8 +42,7 @@ first-step source all (Switch i at ls) xs st is e = ap insn_at (sym e)
 
 later-step : (source : List ℕ) (all : List Item) (x : Item) (xs : List Item) (k : ℕ) → is_instruction x ≡ true
     → slice_get (steps_in source all (x ∷ xs)) (suc k) ≡ slice_get (steps_in source all xs) k
-later-step source all (Label l) xs k is = absurd (cc)
-later-step source all x xs k is = refl
+later-step source all x xs k is = grind (arith)
 
 pub among-above : (low high l : ℕ) (xs : List ℕ) → Rises low high xs → IsAmong l xs → low ≤ l
 among-above low high l [] r a = absurd a
@@ -136,10 +134,7 @@ module _ (w : Linked) (r : MethodRec) (regs : List Ty) (asks : ℕ → Asked) wh
       → k < (if y then 0 else place_of m xs)
       → ((j : ℕ) → IsAmong j (labels xs) → k < place_of j xs → IsAmong j (labels rest) × (place_of j xs ≡ suc k + place_of j rest))
       → IsAmong m (labels rest) × ((if y then 0 else place_of m xs) ≡ suc k + place_of m rest)
-  past-label l k xs rest m among true q lt h = absurd (omega (arith, lt))
-  past-label l k xs rest m (inl own) false q lt h =
-      let same : (l == m) ≡ true = ap (λ (j : ℕ). l == j) (sym own) ∙ eq-eqb l l refl in absurd (differ (l == m) same q)
-  past-label l k xs rest m (inr among) false q lt h = h m among lt
+  past-label l k xs rest m among a q lt h = grind (arith, eq-eqb)
 
   pub turned-at :
       {n : ℕ} {a b : State} {xs : List Item} (source : List ℕ) (all : List Item) (f : Flows w r regs asks n a xs b) (k : ℕ) (st : Step)
@@ -194,15 +189,9 @@ module _ (w : Linked) (r : MethodRec) (regs : List Ty) (asks : ℕ → Asked) wh
         stack = u.stack ∙ ap (λ (y : Bool). holding (if y then t.stack else stack_at f u.place)) (sym (ne_eqb u.place n (ne_of_gt far)));
         rest = u.rest;
         flow = u.flow;
-        later =
-            λ q lt. let beyond : n < q = omega (arith, far, lt) in ap (λ (y : Bool). if y then t.stack else stack_at f q) (ne_eqb q n (ne_of_gt beyond))
-            ∙ u.later q lt;
+        later = grind (arith, stack_at, ne_eqb, ne_of_gt);
         size = omega (arith, count-step x xs is, u.size);
-        labelled = λ l among lt.
-            let p = place-step l x xs is in
-            let near : k < place_of l xs = omega (arith, p, lt) in
-            let r = u.labelled l (subst (IsAmong l) (labels-step x xs is) among) near in
-            (r.0, omega (arith, p, r.1));
+        labelled = grind (arith, place-step, labels-step);
         beyond = λ low high l rise among.
             let p = place-step l x xs is in
             let b = u.beyond low high l (subst (Rises low high) (labels-step x xs is) rise) among in
@@ -226,9 +215,7 @@ module _ (w : Linked) (r : MethodRec) (regs : List Ty) (asks : ℕ → Asked) wh
       by : (q : Asked) → asks l ≡ q → Passes q a b → (b ≡ left → stack_at f n ≡ []) → stack_at f n ≡ []
       by nothing_asked is p rest = rest (sym p ∙ e)
       by emptied is p rest = (comes-next f [] p.1 g).stack
-      by (catching c) is p rest =
-          let first = free l c is (inl refl) in let zero_place : (if l == l then 0 else place_of l xs)
-          ≡ 0 = ap (λ (y : Bool). if y then 0 else place_of l xs) (eq-eqb l l refl) in absurd (omega (arith, first, zero_place))
+      by (catching c) is p rest = grind (arith, eq-eqb)
   left-empty (flow_step is t f) e g free = absurd (never t.stack (sym t.here ∙ e))
 
   -- ---- what a label asks is there
@@ -255,11 +242,7 @@ module _ (w : Linked) (r : MethodRec) (regs : List Ty) (asks : ℕ → Asked) wh
           let same : n + (if m == l then 0 else place_of l xs) ≡ n = omega (arith, zero_place) in
           record { inside = omega (arith, zero_place, h.inside); stack = ap (stack_at f) same ∙ h.stack }
       by false q (inl own) rest = let same : (m == l) ≡ true = ap (λ (j : ℕ). m == j) (sym own) ∙ eq-eqb m m refl in absurd (differ (m == l) same q)
-      by false q (inr among) rest =
-          let r = rest among in
-          let own : (if m == l then 0 else place_of l xs) ≡ place_of l xs = ap (λ (y : Bool). if y then 0 else place_of l xs) q in
-          let same : n + (if m == l then 0 else place_of l xs) ≡ n + place_of l xs = omega (arith, own) in
-          record { inside = omega (arith, own, r.inside); stack = ap (stack_at f) same ∙ r.stack }
+      by false q (inr among) rest = grind (arith, stack_at)
   asked-at (flow_step {n = n} {x = x} {xs = xs} is t f) l s g among gives =
       let r = asked-at f l s g (subst (IsAmong l) (labels-step x xs is) among) gives in
       let p = place-step l x xs is in

@@ -8,29 +8,20 @@ use Rattle.jc_base.specs.Each.{IsAmong}
 use Rattle.jc_base.specs.Laws.{ClassesAreObjects, IsOrderOfTypes}
 use Rattle.jc_base.specs.Order.{Below, is_below, IsKnown}
 use Rattle.jc_base.specs.declared.ty.Ty.{Ty}
-use Rattle.jc_base.specs.declared.ty.Ty.TheVariants.{Bottom, Short, IntHigh, IntLow, Top}
-use Rattle.jc_base.specs.declared.ty.Kind.TheVariants as kinds
+use Rattle.jc_base.specs.declared.ty.Ty.TheVariants.{Short, IntHigh, IntLow, Top}
 use Rattle.jc_base.specs.declared.record.MethodRec.{MethodRec}
 use Rattle.jc_base.specs.World.{Linked}
 use Rattle.jc_base.proofs.Lists.{All-slice_get}
 use Rattle.jc_base.proofs.SameTypes.{same_type-decides}
-use Rattle.jc_ops.specs.declared.operation.Arithmetic.TheVariants as arithmetic
-use Rattle.jc_ops.specs.declared.operation.Branch.TheVariants as branches
-use Rattle.jc_ops.specs.declared.operation.Constant.TheVariants as constants
-use Rattle.jc_ops.specs.declared.operation.Holder.TheVariants as holders
-use Rattle.jc_ops.specs.declared.operation.Move.TheVariants as moves
 use Rattle.jc_ops.specs.declared.operation.Operation.{Operation}
 use Rattle.jc_ops.specs.declared.operation.Operation.TheVariants as ops
 use Rattle.jc_ops.specs.declared.operation.Sort.TheVariants as sorts
-use Rattle.jc_ops.specs.declared.operation.TypeTest.TheVariants as tests
 use Rattle.jc_ops.specs.declared.operation.Width.TheVariants as widths
-use Rattle.jc_rules.specs.declared.effect.Cells.{Cells}
 use Rattle.jc_rules.specs.declared.effect.Cells.TheVariants as given
 use Rattle.jc_rules.specs.declared.effect.Mode.TheVariants.{Flow}
 use Rattle.jc_rules.specs.declared.rule.Outcome.{Outcome}
 use Rattle.jc_rules.specs.Apply.{OperationApplies}
 use Rattle.jc_rules.specs.Demand.{Frame}
-use Rattle.jc_rules.specs.Effect.{WritesCells}
 use Rattle.jc_rules.specs.Flow.{CellsBelow, IsNotFresh, start_frame}
 use Rattle.jc_rules.specs.FlowLaws.{AreRules}
 use Rattle.jc_rules.specs.Laws.{IsNotBottom}
@@ -47,7 +38,8 @@ use Rattle.xf_emission.specs.Edge.{is_stored, home_before}
 use Rattle.law_rewritten_typing.specs.Typed.{registers_of}
 use Rattle.law_rewritten_typing.proofs.Walks.{Asked}
 use Rattle.law_rewritten_typing.proofs.Stacks.{Stands}
-use Rattle.law_rewritten_typing.proofs.Ready.{IsReady, IsValueAt, value-is, value-plain, home-stands, local-stands, needed-are, needed-served}
+use Rattle.law_rewritten_typing.proofs.Ready.{IsReady, IsValueAt, value-is, value-plain}
+use Rattle.law_rewritten_typing.proofs.Ready.{home-stands, local-stands, needed-are, needed-served}
 use Rattle.law_rewritten_typing.proofs.Copies.{Carries}
 
 -- ---- operations that store nothing
@@ -58,65 +50,12 @@ StoresNone (ops.Increment width x amount) = ⊥
 StoresNone op = ⊤
 
 pub stores-nothing : (w : Linked) (op : Operation) (f : Frame) → StoresNone op → (effect w op f).store.cells ≡ given.Nothing
-stores-nothing w (ops.Store letter x) f h = absurd h
-stores-nothing w (ops.Increment width x amount) f h = absurd h
-stores-nothing w (ops.Constant constants.Nothing) f h = refl
-stores-nothing w (ops.Constant constants.Null) f h = refl
-stores-nothing w (ops.Constant (constants.Short n)) f h = refl
-stores-nothing w (ops.Constant (constants.Int n)) f h = refl
-stores-nothing w (ops.Load sorts.Reference x) f h = refl
-stores-nothing w (ops.Load sorts.Short x) f h = refl
-stores-nothing w (ops.Load sorts.Int x) f h = refl
-stores-nothing w (ops.Move moves.Pop) f h = refl
-stores-nothing w (ops.Move moves.PopTwo) f h = refl
-stores-nothing w (ops.Move moves.Duplicate) f h = refl
-stores-nothing w (ops.Move moves.DuplicateTwo) f h = refl
-stores-nothing w (ops.Move (moves.CopyUnder a b)) f h = refl
-stores-nothing w (ops.Move (moves.Exchange a b)) f h = refl
-stores-nothing w (ops.Arithmetic (arithmetic.Binary o widths.Short)) f h = refl
-stores-nothing w (ops.Arithmetic (arithmetic.Binary o widths.Int)) f h = refl
-stores-nothing w (ops.Arithmetic (arithmetic.Negate width)) f h = refl
-stores-nothing w (ops.Arithmetic arithmetic.ShortToByte) f h = refl
-stores-nothing w (ops.Arithmetic arithmetic.ShortToInt) f h = refl
-stores-nothing w (ops.Arithmetic arithmetic.IntToByte) f h = refl
-stores-nothing w (ops.Arithmetic arithmetic.IntToShort) f h = refl
-stores-nothing w (ops.Arithmetic arithmetic.CompareInts) f h = refl
-stores-nothing w (ops.ArrayRead kinds.Ref) f h = refl
-stores-nothing w (ops.ArrayRead kinds.Byte) f h = refl
-stores-nothing w (ops.ArrayRead kinds.Short) f h = refl
-stores-nothing w (ops.ArrayRead kinds.Int) f h = refl
-stores-nothing w (ops.ArrayWrite kinds.Ref) f h = refl
-stores-nothing w (ops.ArrayWrite kinds.Byte) f h = refl
-stores-nothing w (ops.ArrayWrite kinds.Short) f h = refl
-stores-nothing w (ops.ArrayWrite kinds.Int) f h = refl
-stores-nothing w ops.ArrayLength f h = refl
-stores-nothing w (ops.Branch branches.Always) f h = refl
-stores-nothing w (ops.Branch (branches.Zero o)) f h = refl
-stores-nothing w (ops.Branch (branches.Null o)) f h = refl
-stores-nothing w (ops.Branch (branches.References o)) f h = refl
-stores-nothing w (ops.Branch (branches.Shorts o)) f h = refl
-stores-nothing w (ops.Switch width) f h = refl
-stores-nothing w (ops.StaticRead field) f h = refl
-stores-nothing w (ops.StaticWrite field) f h = refl
-stores-nothing w (ops.FieldRead field holders.Stack) f h = refl
-stores-nothing w (ops.FieldRead field holders.This) f h = refl
-stores-nothing w (ops.FieldWrite field holders.Stack) f h = refl
-stores-nothing w (ops.FieldWrite field holders.This) f h = refl
-stores-nothing w (ops.Call c) f h = refl
-stores-nothing w (ops.New p c) f h = refl
-stores-nothing w (ops.NewArray ty) f h = refl
-stores-nothing w ops.Throw f h = refl
-stores-nothing w (ops.TypeTest tests.Cast ty) f h = refl
-stores-nothing w (ops.TypeTest tests.InstanceOf ty) f h = refl
-stores-nothing w (ops.Return None) f h = refl
-stores-nothing w (ops.Return (Some ty)) f h = refl
+stores-nothing w y f h = grind (arith)
 
 -- the registers stay
 pub registers-stay : (w : Linked) (limit : ℕ) (op : Operation) (before after : Frame) (o : Outcome) → StoresNone op
     → OperationApplies w limit op Flow before after o → after.regs ≡ before.regs
-registers-stay w limit op before after o none a =
-    let store = (effect w op before).store in
-    subst (λ (c : Cells). WritesCells w.classes Flow store.register c before.regs after.regs) (stores-nothing w op before none) a.regs
+registers-stay w limit op before after o none a = grind (arith, stores-nothing)
 
 -- ---- registers that are set
 
@@ -138,21 +77,15 @@ set-here (c ∷ cs) (suc x) a b e = set-here cs x a b e
 module _ (t : ClassTable) (types : IsOrderOfTypes t) where
   under-short : (a : Ty) → is_below t a Short ≡ true → IsNotBottom a → a ≡ Short
   unfolding is_below
-  under-short Bottom e n = absurd n
-  under-short Short e n = refl
-  under-short a e n = absurd (cc)
+  under-short a e n = grind (arith)
 
   under-high : (a : Ty) → is_below t a IntHigh ≡ true → IsNotBottom a → a ≡ IntHigh
   unfolding is_below
-  under-high Bottom e n = absurd n
-  under-high IntHigh e n = refl
-  under-high a e n = absurd (cc)
+  under-high a e n = grind (arith)
 
   under-low : (a : Ty) → is_below t a IntLow ≡ true → IsNotBottom a → a ≡ IntLow
   unfolding is_below
-  under-low Bottom e n = absurd n
-  under-low IntLow e n = refl
-  under-low a e n = absurd (cc)
+  under-low a e n = grind (arith)
 
   pub is-short : (a : Ty) → Below t a Short → IsNotBottom a → a ≡ Short
   is-short a le n = under-short a ((types.decided a Short).1 le) n
@@ -171,10 +104,8 @@ held-at t xs x a b e h = subst (λ (o : Option Ty). IsSomeAnd o (λ found. Below
 pub unstored : (w : Linked) (types : IsOrderOfTypes w.classes) (limit : ℕ) (op : Operation) (before after : Frame) (o : Outcome)
     → OperationApplies w limit op Flow before after o → All IsNotBottom before.regs
     → (y : ℕ) (ty : Ty) → is_stored op y ≡ false → value_in_cells before.regs y ≡ Some ty → slice_get after.regs y ≡ Some ty
-unstored w types limit (ops.Store sorts.Reference x) before after o a full y ty none v =
-    ap (λ (rs : List Ty). slice_get rs y) a.regs.after_is ∙ set-other before.regs x y a.regs.value none ∙ (value-is before.regs y ty v).first
-unstored w types limit (ops.Store sorts.Short x) before after o a full y ty none v =
-    ap (λ (rs : List Ty). slice_get rs y) a.regs.after_is ∙ set-other before.regs x y a.regs.value none ∙ (value-is before.regs y ty v).first
+unstored w types limit (ops.Store sorts.Reference x) before after o a full y ty none v = grind (arith, slice_get, set-other, value-is)
+unstored w types limit (ops.Store sorts.Short x) before after o a full y ty none v = grind (arith, slice_get, set-other, value-is)
 unstored w types limit (ops.Store sorts.Int x) before after o a full y ty none v = by (y == x) (y == x + 1) refl refl none
   where
     by : (b c : Bool) → (y == x) ≡ b → (y == x + 1) ≡ c → (b || c) ≡ false → slice_get after.regs y ≡ Some ty
@@ -253,9 +184,7 @@ module _ {s : Source} (objects : ClassesAreObjects s.world.classes) (rules : Are
 
   from-stands : (p x : ℕ) (f : Frame) (from : Home) → s.frames p ≡ Some f → IsHomeAt f.regs x from
       → Stands s objects r (registers_of s.homes) asks from
-  from-stands p x f from e is =
-      subst (Stands s objects r (registers_of s.homes) asks) (home-is from x is.slot)
-      (local-stands objects rules ready r asks p f x from.ty e is.value)
+  from-stands p x f from e is = grind (arith, home-is from x is.slot, local-stands objects rules ready r asks p f x from.ty e is.value)
 
   is-needed : (p x : ℕ) (f : Frame) (from : Home) → s.frames p ≡ Some f → IsHomeAt f.regs x from → IsAmong from (needed s p x)
   is-needed p x f from e is =

@@ -7,7 +7,7 @@ use Rattle.jc_base.specs.Class.{ClassTable}
 use Rattle.jc_base.specs.Order.{Below, is_below}
 use Rattle.jc_base.specs.declared.record.MethodRec.{MethodRec}
 use Rattle.jc_base.specs.declared.ty.Ty.{Ty}
-use Rattle.jc_base.specs.declared.ty.Ty.TheVariants.{Bottom, Short, IntHigh, Top}
+use Rattle.jc_base.specs.declared.ty.Ty.TheVariants.{Short, IntHigh}
 use Rattle.jc_base.proofs.SameTypes.{same_type-decides}
 use Rattle.jc_decode.specs.declared.symbols.Item.{Item}
 use Rattle.jc_rules.specs.Flow.{CellsBelow, no_cells, more_cells}
@@ -32,29 +32,21 @@ use Rattle.law_rewritten_typing.proofs.Ready.{IsReady, needed-served}
 module _ (t : ClassTable) (types : IsOrderOfTypes t) where
   pub above-short : (b : Ty) → is_below t Short b ≡ true → IsPlainValue b → Short ≡ b
   unfolding is_below
-  above-short Short e v = refl
-  above-short Top e v = absurd v
-  above-short b e v = absurd (cc)
+  above-short b e v = grind (arith)
 
   pub above-high : (b : Ty) → is_below t IntHigh b ≡ true → IsPlainValue b → IntHigh ≡ b
   unfolding is_below
-  above-high IntHigh e v = refl
-  above-high Top e v = absurd v
-  above-high b e v = absurd (cc)
+  above-high b e v = grind (arith)
 
   not-high : (a : Ty) → is_below t a IntHigh ≡ true → IsPlainValue a → a ≡ IntHigh
   unfolding is_below
-  not-high Bottom e v = absurd v
-  not-high IntHigh e v = refl
-  not-high a e v = absurd (cc)
+  not-high a e v = grind (arith)
 
   one-on : (a : Ty) → a ≢ IntHigh → cells_on a ≡ a ∷ []
-  one-on IntHigh n = absurd (n refl)
-  one-on a n = refl
+  one-on a n = grind (arith)
 
   is-high : (a : Ty) → (a ≡ IntHigh) ⊎ (a ≢ IntHigh)
-  is-high IntHigh = inl refl
-  is-high a = inr (λ e. absurd (cc))
+  is-high a = grind (arith)
 
   -- equal, or of one cell both
   pub narrow : (a b : Ty) → Below t a b → IsPlainValue a → IsPlainValue b → (a ≡ b) ⊎ ((cells_on a ≡ a ∷ []) × (cells_on b ≡ b ∷ []))

@@ -1,6 +1,7 @@
 -- A conditional over a stack that is deeper than its operands: the homes of the operands, and those of the cells under them.
 use Rattle.std.proofs.Common.{◌≡◌, ℕ, zero, suc, ◌+◌, ◌-◌, ◌<◌, ◌≤◌, Bool, true, false, List, [], ◌∷◌, ◌++◌, length}
-use Rattle.std.proofs.Common.{reverse, drop, filter, slice_get, All, Option, Some, None, Ok, IsSomeAnd, refl, sym, ◌∙◌, ap, subst, arith, length-append}
+use Rattle.std.proofs.Common.{reverse, drop, filter, slice_get, All, Option, Some, None, Ok}
+use Rattle.std.proofs.Common.{IsSomeAnd, refl, sym, ◌∙◌, ap, subst, arith, length-append}
 use Rattle.std.specs.Prelude.{nat_le, nat_lt}
 use Rattle.std.proofs.lemmas.Bool.Decides.{nat_tests}
 use Rattle.std.proofs.lemmas.List.{append-nil, reverse-append, reverse-reverse, length-reverse}
@@ -138,8 +139,7 @@ module _ (w : Linked) (types : IsOrderOfTypes w.classes) (regs : List Ty) where
 -- ---- their homes
 
 cells-split : (slot : ℕ) (all : List Ty) (i a b : ℕ) → cells_from slot all i (a + b) ≡ cells_from slot all i a ++ cells_from slot all (i + a) b
-cells-split slot all i zero b =
-    let e : i ≡ i + 0 = omega arith in let f : 0 + b ≡ b = omega arith in ap (cells_from slot all i) f ∙ ap (λ (k : ℕ). cells_from slot all k b) e
+cells-split slot all i zero b = grind (arith)
 cells-split slot all i (suc a) b =
     let e : suc i + a ≡ i + suc a = omega arith in
     let f : suc a + b ≡ suc (a + b) = omega arith in
@@ -237,20 +237,10 @@ cut-is s p n f above below at is size whole nt all = record {
     stack_is = ap stack_of at ∙ turned_is
 
     parts : stack_homes s p ≡ first ++ second
-    parts =
-        let long : length types ≡ length (reverse below) + length (reverse above) = length-append (reverse below) (reverse above) in
-        let here : 0 + length (reverse below) ≡ length (reverse below) = omega arith in
-        ap (λ (ts : List Ty). cells_from base ts 0 (length ts)) stack_is ∙ ap (cells_from base types 0) long
-        ∙ cells-split base types 0 (length (reverse below)) (length (reverse above))
-        ∙ ap (λ (k : ℕ). first ++ cells_from base types k (length (reverse above))) here
+    parts = grind (arith, reverse, length-append, stack_is, cells-split)
 
     bound : operands_slot s p n ≡ base + length (reverse below)
-    bound =
-        let deep : length (stack_of (s.frames p)) ≡ length (reverse below) + length (reverse above) = ap length stack_is
-        ∙ length-append (reverse below) (reverse above) in
-        let tops_are : length (reverse above) ≡ n = length-reverse above ∙ size in
-        let less : length (stack_of (s.frames p)) - n ≡ length (reverse below) = omega (arith, deep, tops_are) in
-        ap (λ (k : ℕ). base + k) less
+    bound = grind (arith, reverse, stack_is, length-append, length-reverse)
 
     lower : (k : ℕ) → k < length (reverse below) → nat_lt (base + k) (operands_slot s p n) ≡ true
     lower k lt = let b = bound in grind (arith, nat_tests, b, lt)
@@ -283,6 +273,4 @@ cut-is s p n f above below at is size whole nt all = record {
         ∙ append-nil second
 
     second_on : (stack : List Ty) → pushed second stack ≡ above ++ stack
-    second_on stack =
-        cells-pushed base (reverse below) (reverse above) stack whole nt ∙ turned-reverse (reverse above) stack
-        ∙ ap (λ (ts : List Ty). ts ++ stack) (reverse-reverse above)
+    second_on stack = grind (arith, cells-pushed, reverse, turned-reverse, reverse-reverse)

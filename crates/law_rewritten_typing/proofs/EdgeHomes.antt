@@ -1,6 +1,7 @@
 -- The homes of what stands at a place, and of what an edge carries there.
-use Rattle.std.proofs.Common.{◌≡◌, ◌⊎◌, ℕ, zero, suc, ◌+◌, ◌<◌, Bool, true, false, if◌then◌else◌, inl, inr}
-use Rattle.std.proofs.Common.{List, [], ◌∷◌, ◌++◌, length, reverse, slice_get, replicate, All, Option, Some, None, Result, Ok, IsSomeAnd, IfSome}
+use Rattle.std.proofs.Common.{◌≡◌, ◌⊎◌, ℕ, zero, suc, ◌+◌, ◌<◌, Bool, true, false, inl, inr}
+use Rattle.std.proofs.Common.{List, [], ◌∷◌, ◌++◌, length, reverse, slice_get, replicate}
+use Rattle.std.proofs.Common.{All, Option, Some, None, Result, Ok, IsSomeAnd, IfSome}
 use Rattle.std.proofs.Common.{refl, sym, ◌∙◌, ap, subst, arith, length-append}
 use Rattle.std.specs.Prelude.{IsSome}
 use Rattle.std.proofs.lemmas.List.{append-nil, length-reverse}
@@ -12,7 +13,7 @@ use Rattle.jc_base.specs.Order.{Below, IsKnown}
 use Rattle.jc_base.specs.World.{Linked}
 use Rattle.jc_base.specs.declared.record.MethodRec.{MethodRec}
 use Rattle.jc_base.specs.declared.ty.Ty.{Ty}
-use Rattle.jc_base.specs.declared.ty.Ty.TheVariants.{Bottom, IntHigh, IntLow, Fresh, Top}
+use Rattle.jc_base.specs.declared.ty.Ty.TheVariants.{IntHigh, IntLow, Top}
 use Rattle.jc_base.proofs.SameTypes.{same_type-decides}
 use Rattle.jc_decode.specs.declared.insn.Placed.{Placed}
 use Rattle.jc_ops.specs.declared.fault.RuleFault.{RuleFault}
@@ -25,7 +26,7 @@ use Rattle.jc_rules.specs.Laws.{IsNotBottom}
 use Rattle.xf_homes.specs.declared.home.Home.{Home}
 use Rattle.xf_homes.specs.Home.{register_count, argument_types, IsAsked, asked_here, KeepsStack}
 use Rattle.xf_homes.specs.Order.{SlotsFollow, register_sum}
-use Rattle.xf_homes.specs.Value.{value_in_cells, value_of, type_width}
+use Rattle.xf_homes.specs.Value.{value_in_cells, type_width}
 use Rattle.xf_homes.specs.Walk.{local_of}
 use Rattle.xf_homes.proofs.Events.{among-has}
 use Rattle.xf_homes.specs.Source.{Source}
@@ -35,7 +36,8 @@ use Rattle.xf_emission.specs.declared.origin.Origin.{Origin}
 use Rattle.xf_emission.specs.declared.origin.Origin.TheVariants.{Start, After, Entry}
 use Rattle.xf_emission.specs.Edge.{is_stored}
 use Rattle.law_rewritten_typing.specs.Planned.{IsPlanned, IsKept, KeepsValues}
-use Rattle.law_rewritten_typing.specs.Edges.{IsNeededFor, NeededHaveHomes, slot_types, FillStack, CellsFillStack, LeadsTo, leads_start, leads_after}
+use Rattle.law_rewritten_typing.specs.Edges.{IsNeededFor, NeededHaveHomes, slot_types, FillStack}
+use Rattle.law_rewritten_typing.specs.Edges.{CellsFillStack, LeadsTo, leads_start, leads_after}
 use Rattle.law_rewritten_typing.specs.Edges.{leads_entry, stored_at, IsCarried, EdgesCarry}
 use Rattle.law_rewritten_typing.specs.Whole.{IsWholeFrame}
 use Rattle.law_rewritten_typing.proofs.Walks.{Asked, nothing_asked}
@@ -48,15 +50,10 @@ use Rattle.law_rewritten_typing.proofs.Matching.{home-one, home-int}
 use Rattle.law_rewritten_typing.proofs.Below.{value-moved, value-before, value-below, loads-same, unwritten, unspoiled}
 
 kept-is : (ty : Ty) → IsPlainValue ty → IsKept ty
-kept-is Bottom h = absurd h
-kept-is IntLow h = absurd h
-kept-is (Fresh p c) h = absurd h
-kept-is Top h = absurd h
-kept-is ty h = tt
+kept-is ty h = grind (arith)
 
 pub kept-not-top : (ty : Ty) → IsKept ty → IsNotTop ty
-kept-not-top Top h = absurd h
-kept-not-top ty h = tt
+kept-not-top ty h = grind (arith)
 
 -- ---- the homes of cells
 
@@ -74,9 +71,7 @@ each-cell P slot types h i (suc n) = by (value_in_cells types i) refl (each-cell
 
 value-farther : (xs ys : List Ty) (n m : ℕ) → m ≡ length xs + n → value_in_cells (xs ++ ys) m ≡ value_in_cells ys n
 unfolding value_in_cells
-value-farther xs ys n m e =
-    ap (λ (o : Option Ty). value_of o (slice_get (xs ++ ys) (m + 1))) (slice_get-farther xs ys n m e)
-    ∙ ap (value_of (slice_get ys n)) (slice_get-farther xs ys (n + 1) (m + 1) (omega (arith, e)))
+value-farther xs ys n m e = grind (arith, slice_get, slice_get-farther)
 
 -- they follow one another, and take as many registers as there are cells
 pub record Fills (slot count : ℕ) (hs : List Home) : Type 0 where
@@ -140,9 +135,7 @@ module _ (s : Source) (l : AreTypingLaws s.world) (plan : IsPlanned s) where
   reached-at p f e = reached l.objects l.rules ready r asks p f e
 
   pub fit-at : (p : ℕ) (f : Frame) → s.frames p ≡ Some f → IsFit s.method f
-  fit-at p f e =
-      let k = framed l.objects l.rules ready r asks (s.frames p) (IsFit s.method) (plan.typing.fit p (reached-at p f e)) in
-      subst (IsFit s.method) (some-same k.0 f (sym k.1 ∙ e)) k.2
+  fit-at p f e = grind (arith, reached-at, some-same)
 
   home-is : (h : Home) (x : ℕ) → h.slot ≡ x → h ≡ record { slot = x; ty = h.ty }
   home-is h x e = ap (λ (n : ℕ). record { slot = n; ty = h.ty }) e
@@ -207,8 +200,7 @@ module _ (s : Source) (l : AreTypingLaws s.world) (plan : IsPlanned s) where
   -- ---- an edge
 
   wide-only : (ty : Ty) (k : ℕ) → suc k < type_width ty → (ty ≡ IntHigh) × (k ≡ 0)
-  wide-only IntHigh k lt = (refl, omega (arith, lt))
-  wide-only ty k lt = absurd (omega (arith, lt))
+  wide-only ty k lt = grind (arith)
 
   home-of : (cells : List Ty) (h : Home) (u : Ty) → value_in_cells cells h.slot ≡ Some u → home_of h.slot (value_in_cells cells h.slot)
       ≡ Some (record { slot = h.slot; ty = u })
@@ -242,10 +234,7 @@ module _ (s : Source) (l : AreTypingLaws s.world) (plan : IsPlanned s) where
           slot = refl;
           there = among-has same_type-decides (from ∷ []) from (inl refl);
           keeps = record { kept = kept-is v.0 plain.0; known = plain.1; has = (h.slot, ready.serve.arguments from own) };
-          loads = loads-same s.world.classes l.rules.types v.0 h.ty v.2
-              (All-slice_get IsNotBottom (start_frame s.method.rec Top).regs h.slot v.0 whole.regs
-              (value-is (start_frame s.method.rec Top).regs h.slot v.0 v.1).first)
-              (kept-not-top h.ty k.keeps.kept);
+          loads = grind (arith, loads-same, value-is, kept-not-top);
           apart = λ n lt. refl;
         },
       )
@@ -317,8 +306,7 @@ module _ (s : Source) (l : AreTypingLaws s.world) (plan : IsPlanned s) where
           inr (
             from,
             record {
-              before = ap (λ (c : Bool). if c then None else home_of h.slot (local_of (s.frames i.place) h.slot)) stored
-                  ∙ ap (λ (o : Option Frame). home_of h.slot (local_of o h.slot)) at ∙ home-of f.regs h u own;
+              before = grind (arith, home-of);
               slot = refl;
               there =
                   among-has same_type-decides (needed s i.place h.slot) from

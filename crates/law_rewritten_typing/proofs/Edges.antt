@@ -18,7 +18,7 @@ use Rattle.jc_ops.specs.declared.operation.Branch.TheVariants as branches
 use Rattle.jc_ops.specs.declared.operation.Operation.{Operation}
 use Rattle.jc_ops.specs.declared.operation.Operation.TheVariants as ops
 use Rattle.jc_rules.specs.Demand.{Frame}
-use Rattle.jc_rules.specs.Flow.{CellsBelow, no_cells, FrameBelow, IsNotFresh, IsNotTop}
+use Rattle.jc_rules.specs.Flow.{CellsBelow, FrameBelow, IsNotFresh, IsNotTop}
 use Rattle.jc_rules.specs.Laws.{IsNotBottom}
 use Rattle.xf_homes.specs.declared.home.Home.{Home}
 use Rattle.xf_homes.specs.Home.{IsConditional, register_count}
@@ -33,7 +33,8 @@ use Rattle.xf_emission.specs.Jump.{under, operands, has_under, branch_copies, pl
 use Rattle.xf_emission.specs.Group.{gone, fall, fall_over, fall_by}
 use Rattle.xf_emission.specs.Emission.{catching_stub}
 use Rattle.law_rewritten_typing.specs.Typed.{registers_of}
-use Rattle.law_rewritten_typing.proofs.Walks.{holding, left, Asked, emptied, catching, Passes, Flows, flow_label, flow_end, flows-append, Goes, goes-append}
+use Rattle.law_rewritten_typing.proofs.Walks.{holding, left, Asked, emptied, catching, Passes}
+use Rattle.law_rewritten_typing.proofs.Walks.{Flows, flow_label, flow_end, flows-append, Goes, goes-append}
 use Rattle.law_rewritten_typing.proofs.Walks.{goes-nowhere, count}
 use Rattle.law_rewritten_typing.proofs.Stacks.{Stands, pushed, loads-go}
 use Rattle.law_rewritten_typing.proofs.Ready.{IsReady}
@@ -46,9 +47,11 @@ use Rattle.law_rewritten_typing.proofs.Cuts.{IsForked, IsCut}
 use Rattle.law_rewritten_typing.proofs.Matching.{matched}
 use Rattle.law_rewritten_typing.specs.Premises.{AreTypingLaws}
 use Rattle.law_rewritten_typing.proofs.Running.{IsRecordFor, IsRun}
-use Rattle.law_rewritten_typing.proofs.Leading.{fit-at, cells-are, cells-stand, spill-at, named-at, goto-flows, is-kept, below-lesser, emptied_there}
+use Rattle.law_rewritten_typing.proofs.Leading.{fit-at, cells-are, cells-stand, spill-at, named-at}
+use Rattle.law_rewritten_typing.proofs.Leading.{goto-flows, is-kept, below-lesser, emptied_there}
 use Rattle.law_rewritten_typing.proofs.Leading.{falls_there, FallsInto, fall-arrives}
-use Rattle.law_rewritten_typing.proofs.ForkTypings.{each-left, all-right, empty-is, named-all, fork, depth-is, keeps-over, cut-at, stand-cut}
+use Rattle.law_rewritten_typing.proofs.ForkTypings.{each-left, all-right, empty-is, named-all, fork}
+use Rattle.law_rewritten_typing.proofs.ForkTypings.{depth-is, keeps-over, cut-at, stand-cut}
 
 module _ (new : ℕ → ℕ) (apart : (a b : ℕ) → new a ≡ new b → a ≡ b) (s : Source) (l : AreTypingLaws s.world) (ready : IsReady s) (r : MethodRec)
     (own_rec : IsRecordFor s.method.rec r) (asks : ℕ → Asked) (res : IfSome s.method.rec.sig.result (IsDeclared s.world.classes)) (code : IsCode s)
@@ -151,11 +154,12 @@ module _ (new : ℕ → ℕ) (apart : (a b : ℕ) → new a ≡ new b → a ≡ 
             let fresh = kept-ready l.objects l.rules ready r asks l.alike code i.place f run.at keeps in
             let own : map (named new apart) after.stack ≡ after.stack = named-all new apart after.stack
             (all-right IsNotFresh k.operands after.stack (subst (All IsNotFresh) k.parts fresh)) in
-            let lesser : IsLesser s.world after after.stack = record {
-              below = l.rules.order.self after.stack;
-              full = all-right IsNotBottom k.operands after.stack (subst (All IsNotBottom) k.parts whole.stack);
-              known = all-right (IsKnown s.world.classes) k.operands after.stack (subst (All (IsKnown s.world.classes)) k.parts whole.known.stack);
-            } in
+            let lesser : IsLesser s.world after after.stack =
+            grind (
+              arith,
+              all-right IsNotBottom k.operands after.stack (subst (All IsNotBottom) k.parts whole.stack),
+              all-right (IsKnown s.world.classes) k.operands after.stack (subst (All (IsKnown s.world.classes)) k.parts whole.known.stack),
+            ) in
             let room : length (pushed (under s i.place n) []) ≤ r.max_stack = omega
             (arith, ap length cut.under_is, ap length k.parts, length-append k.operands after.stack, run.fit.room, own_rec.room) in
             let again : Going [] (loads s (under s i.place n)) after.stack =
@@ -163,9 +167,7 @@ module _ (new : ℕ → ℕ) (apart : (a b : ℕ) → new a ≡ new b → a ≡ 
             (loads-go s l.objects r (registers_of s.homes) asks (under s i.place n) [] stands room) in
             record {
               state = holding (map (named new apart) after.stack);
-              goes =
-                  goes-append s.world r (registers_of s.homes) asks (copies-after i op f after g q run to below)
-                  (subst (λ (us : List Ty). Going [] (loads s (under s i.place n)) us) (sym own) again);
+              goes = grind (arith, copies-after i op f after g q run to below, goes-append);
               arrives = falls_there lead to (below-lesser new apart s l ready r own_rec asks res code after g after.stack below.stack lesser);
             }
 
@@ -174,11 +176,7 @@ module _ (new : ℕ → ℕ) (apart : (a b : ℕ) → new a ≡ new b → a ≡ 
         by true over = over-falls over (is_leader s q) refl
         by false over =
             let none = not-over i op f after n run k over in
-            let lesser : IsLesser s.world after [] = record {
-              below = subst (CellsBelow s.world.classes []) (sym none) no_cells;
-              full = λ j d lt. absurd (omega (arith, lt));
-              known = λ j d lt. absurd (omega (arith, lt));
-            } in
+            let lesser : IsLesser s.world after [] = grind (arith) in
             fall-arrives new apart s l ready r own_rec asks res code i op f after g q [] run to below lesser
 
     -- ---- gotos and stubs

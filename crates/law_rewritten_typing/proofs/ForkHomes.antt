@@ -13,9 +13,7 @@ use Rattle.jc_base.specs.declared.record.MethodRec.{MethodRec}
 use Rattle.jc_base.specs.declared.ty.Ty.{Ty}
 use Rattle.jc_base.specs.declared.ty.Ty.TheVariants.{IntHigh, IntLow}
 use Rattle.jc_decode.specs.declared.insn.Placed.{Placed}
-use Rattle.jc_ops.specs.declared.operation.Branch.TheVariants as branches
 use Rattle.jc_ops.specs.declared.operation.Operation.{Operation}
-use Rattle.jc_ops.specs.declared.operation.Operation.TheVariants as ops
 use Rattle.jc_control.specs.Control.{IsSuccessor}
 use Rattle.jc_control.specs.WellFormed.{HasInstruction}
 use Rattle.jc_rules.specs.Demand.{Frame}
@@ -48,10 +46,7 @@ use Rattle.law_rewritten_typing.proofs.EdgeHomes.{ready, fills, cells-are, fill-
 use Rattle.law_rewritten_typing.proofs.RewrittenTyping.{record-for}
 
 conditional-of : (s : Source) (op : Operation) (n : ℕ) → operands_of s.world (Ok op) ≡ Some n → IsConditional op
-conditional-of s (ops.Branch branches.Always) n e = absurd (cc)
-conditional-of s (ops.Branch b) n e = tt
-conditional-of s (ops.Switch type_width) n e = tt
-conditional-of s op n e = absurd (cc)
+conditional-of s op n e = grind (arith)
 
 module _ (s : Source) (l : AreTypingLaws s.world) where
   -- the homes of two lists of whole values, one below the other

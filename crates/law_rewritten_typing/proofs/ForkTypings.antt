@@ -41,7 +41,8 @@ use Rattle.xf_emission.specs.Move.{loads, spill}
 use Rattle.xf_emission.specs.Jump.{under, operands, has_under, spill_if, jump_to, leads, branch, first_label}
 use Rattle.xf_emission.proofs.RowByRow.{resolved-elsewhere}
 use Rattle.law_rewritten_typing.specs.Typed.{registers_of}
-use Rattle.law_rewritten_typing.proofs.Walks.{holding, left, Asked, Turn, Flows, flow_step, flow_end, flows-append, Goes, goes-append, count}
+use Rattle.law_rewritten_typing.proofs.Walks.{holding, left, Asked, Turn, Flows, flow_step}
+use Rattle.law_rewritten_typing.proofs.Walks.{flow_end, flows-append, Goes, goes-append, count}
 use Rattle.law_rewritten_typing.proofs.Moves.{same-cells}
 use Rattle.law_rewritten_typing.proofs.Stacks.{Stands, loads-go}
 use Rattle.law_rewritten_typing.proofs.Ready.{IsReady}
@@ -110,18 +111,7 @@ module _ (new : ℕ → ℕ) (apart : (a b : ℕ) → new a ≡ new b → a ≡ 
         → (o : Outcome) × OperationApplies s.world r.max_stack op Flow (record { regs = registers_of s.homes; stack = stack })
         (record { regs = registers_of s.homes; stack = [] }) o
         → Turn s.world r (registers_of s.homes) asks n i (holding stack) (if falls_from op then holding [] else left)
-    turn-of n i op stack is small room does =
-        let go = l.alike r n i op small (sym is) in
-        record {
-          stack = stack;
-          here = refl;
-          after = record { regs = registers_of s.homes; stack = [] };
-          applies = (does.0, record { operation = op; resolves = sym is; does = does.1 });
-          stored = same-cells s.world.classes (registers_of s.homes);
-          branch = λ j. refl;
-          room = room;
-          onward = ap (λ (b : Bool). if b then holding [] else left) go.falls_alike;
-        }
+    turn-of n i op stack is small room does = grind (arith, same-cells, holding)
 
     jump-flows : (i : Placed) (op : Operation) (f after : Frame) (stack : List Ty) (n : ℕ) (labels : List ℕ) → IsRun s i op f after → IsConditional op
         → length stack ≤ r.max_stack
@@ -182,8 +172,7 @@ module _ (new : ℕ → ℕ) (apart : (a b : ℕ) → new a ≡ new b → a ≡ 
         → KeepsStack s.world s.method s.frames i.place
         → Each (Stands s l.objects r (registers_of s.homes) asks) (under s i.place n ++ operands s i.place n)
     stand-cut i op f after n run k keeps =
-        subst (Each (Stands s l.objects r (registers_of s.homes) asks)) (cut-at i op f after n run k).parts
-        (cells-stand new apart s l ready r own_rec asks res code i.place f run.at keeps)
+        grind (arith, cut-at i op f after n run k, cells-stand new apart s l ready r own_rec asks res code i.place f run.at keeps)
 
     -- ---- the branch
 

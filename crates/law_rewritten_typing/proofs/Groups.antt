@@ -1,5 +1,6 @@
 -- The group of an instruction: from where control comes to its place, to where it falls, or away.
-use Rattle.std.proofs.Common.{◌≡◌, ℕ, ◌+◌, Bool, true, false, if◌then◌else◌, List, [], ◌++◌, map, Option, Some, None, Ok, IfSome, refl}
+use Rattle.std.proofs.Common.{◌≡◌, ℕ, ◌+◌, Bool, true, false, if◌then◌else◌, List, []}
+use Rattle.std.proofs.Common.{◌++◌, map, Option, Some, None, Ok, IfSome, refl, arith}
 use Rattle.std.proofs.Common.{sym, ◌∙◌, ap, subst}
 use Rattle.jc_base.specs.Cell.{IsDeclared}
 use Rattle.jc_base.specs.declared.record.MethodRec.{MethodRec}
@@ -73,38 +74,8 @@ module _ (new : ℕ → ℕ) (apart : (a b : ℕ) → new a ≡ new b → a ≡ 
         by : (b : Bool) → falls_from op ≡ b
             → IsGone n i op (holding (map (named new apart) st))
             (body s i op ++ (if falls_from op then fall_by s i.place op (operands_of s.world (Ok op)) q else []))
-        by true e =
-            let fall = into e in
-            let first : Flows s.world r (registers_of s.homes) asks n (holding (map (named new apart) st)) (body s i op) (holding over) =
-            subst (λ (b : Bool). Flows s.world r (registers_of s.homes) asks n (holding (map (named new apart) st)) (body s i op)
-            (if b then holding over else left)) e p in
-            let second : Flows s.world r (registers_of s.homes) asks (n + count (body s i op)) (holding over)
-            (if falls_from op then fall_by s i.place op (operands_of s.world (Ok op)) q else []) fall.state =
-            subst (λ (b : Bool). Flows s.world r (registers_of s.homes) asks (n + count (body s i op)) (holding over)
-            (if b then fall_by s i.place op (operands_of s.world (Ok op)) q else []) fall.state) (sym e)
-            (subst (λ (o : Option ℕ). Flows s.world r (registers_of s.homes) asks (n + count (body s i op)) (holding over)
-            (fall_by s i.place op o q) fall.state) (sym is) (fall.goes (n + count (body s i op)))) in
-            record {
-              state = fall.state;
-              flow = flows-append s.world r (registers_of s.homes) asks first second;
-              arrives = λ h. fall.arrives;
-              leaves = λ h. absurd (differ (falls_from op) e h);
-            }
-        by false e =
-            let first : Flows s.world r (registers_of s.homes) asks n (holding (map (named new apart) st)) (body s i op) left =
-            subst (λ (b : Bool). Flows s.world r (registers_of s.homes) asks n (holding (map (named new apart) st)) (body s i op)
-            (if b then holding over else left)) e p in
-            let second : Flows s.world r (registers_of s.homes) asks (n + count (body s i op)) left
-            (if falls_from op then fall_by s i.place op (operands_of s.world (Ok op)) q else []) left =
-            subst
-            (λ (b : Bool). Flows s.world r (registers_of s.homes) asks (n + count (body s i op)) left
-            (if b then fall_by s i.place op (operands_of s.world (Ok op)) q else []) left) (sym e) flow_end in
-            record {
-              state = left;
-              flow = flows-append s.world r (registers_of s.homes) asks first second;
-              arrives = λ h. absurd (differ (falls_from op) h e);
-              leaves = λ h. refl;
-            }
+        by true e = grind (arith, holding, flows-append)
+        by false e = grind (arith, holding, flow_end, flows-append)
 
     passed-gone : (i : Placed) (op : Operation) (f after : Frame) (st : List Ty) (n : ℕ) → IsRun s i op f after → LeadsOn i op after
         → operands_of s.world (Ok op) ≡ None → IsPassed new apart s l ready r own_rec asks res n (body s i op) op st after

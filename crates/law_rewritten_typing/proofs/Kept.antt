@@ -1,12 +1,12 @@
 -- An instruction that is kept does in rewritten code what it does in the method, but for the places of uninitialised objects.
-use Rattle.std.proofs.Common.{◌≡◌, ℕ, suc, ◌+◌, List, [], ◌∷◌, ◌++◌, length, map, reverse, slice_get, All, Option, Some, None, IfSome}
+use Rattle.std.proofs.Common.{◌≡◌, ℕ, suc, ◌+◌, List, [], ◌∷◌, ◌++◌, map, reverse, slice_get, All, Option, Some, None, IfSome}
 use Rattle.std.proofs.Common.{refl, sym, ◌∙◌, ap, subst, arith}
 use Rattle.std.specs.Prelude.{⊤}
 use Rattle.std.proofs.lemmas.List.{length-map}
 use Rattle.jc_base.proofs.Lists.{All-slice_get, All-reverse}
 use Rattle.jc_base.specs.Each.{Each}
 use Rattle.jc_base.specs.declared.ty.Ty.{Ty}
-use Rattle.jc_base.specs.declared.ty.Ty.TheVariants.{Bottom, Short, IntHigh, IntLow, Null, Class, ArrBool, ArrByte, ArrShort, ArrInt, ArrRef, Fresh, Top}
+use Rattle.jc_base.specs.declared.ty.Ty.TheVariants.{Short, Null}
 use Rattle.jc_base.specs.declared.ty.Kind.{Kind}
 use Rattle.jc_base.specs.declared.ty.Kind.TheVariants as kinds
 use Rattle.jc_base.specs.declared.record.MethodRec.{MethodRec}
@@ -14,9 +14,7 @@ use Rattle.jc_base.specs.Cell.{IsDeclared}
 use Rattle.jc_base.specs.Linked.{IsMethod}
 use Rattle.jc_base.specs.World.{Linked}
 use Rattle.jc_ops.specs.declared.want.Want.{Want}
-use Rattle.jc_ops.specs.declared.want.Want.TheVariants.{Value, Receiver}
 use Rattle.jc_ops.specs.declared.operation.Choice.{Choice}
-use Rattle.jc_ops.specs.declared.operation.Choice.TheVariants as choices
 use Rattle.jc_ops.specs.declared.operation.Arithmetic.TheVariants as arithmetic
 use Rattle.jc_ops.specs.declared.operation.Branch.TheVariants as branches
 use Rattle.jc_ops.specs.declared.operation.Holder.TheVariants as holders
@@ -39,11 +37,12 @@ use Rattle.jc_rules.specs.Effect.{changed, in_stack_order, StoresInRegisters}
 use Rattle.jc_rules.specs.Flow.{IsNotFresh}
 use Rattle.jc_rules.specs.FlowLaws.{AreRules}
 use Rattle.jc_rules.specs.Apply.{OperationApplies}
-use Rattle.jc_rules.specs.Rule.{demands, effect, replacing, cell, number, value_given, value_wanted, value_size, cells_wanted, receiver_wanted, return_demands}
-use Rattle.jc_rules.specs.Rule.{result_given, result_at, args_at, array_wanted, seen, element}
+use Rattle.jc_rules.specs.Rule.{demands, effect, replacing, number, value_wanted, value_size, cells_wanted, receiver_wanted, return_demands}
+use Rattle.jc_rules.specs.Rule.{result_given, result_at, args_at, array_wanted, seen}
 use Rattle.jc_rules.proofs.Types.{declared-not_fresh}
 use Rattle.law_rewritten_typing.proofs.Moves.{applies-by}
-use Rattle.law_rewritten_typing.proofs.Renames.{named, named_op, same-named, IsSteady, IsSteadyWant, all-named, replaced, value-same, result-same, under-named}
+use Rattle.law_rewritten_typing.proofs.Renames.{named, named_op, same-named, IsSteady, IsSteadyWant}
+use Rattle.law_rewritten_typing.proofs.Renames.{all-named, replaced, value-same, result-same, under-named}
 use Rattle.law_rewritten_typing.proofs.Renames.{exchange-named, cell-named, element-same, element-ready, call-named}
 
 -- names no register to load or store
@@ -69,38 +68,20 @@ module _ (new : ℕ → ℕ) (apart : (a b : ℕ) → new a ≡ new b → a ≡ 
   each-steady (d ∷ ds) es a b = (a.0, each-steady ds es a.1 b)
 
   number-steady : (width : Width) (n : ℕ) → Each (IsSteady new apart) (number width n)
-  number-steady widths.Short n = (tt, tt)
-  number-steady widths.Int n = (tt, (tt, tt))
+  number-steady x n = grind (arith)
 
   value-steady : (ty : Ty) → IsNotFresh ty → Each (IsSteady new apart) (value_wanted ty)
-  value-steady IntHigh h = (tt, (tt, tt))
-  value-steady (Fresh p c) h = absurd h
-  value-steady ty h = (tt, tt)
+  value-steady ty h = grind (arith)
 
   cells-steady : (n : ℕ) (tys : List Ty) → All IsNotFresh tys → Each (IsSteady new apart) (cells_wanted n tys)
   cells-steady n [] h = tt
   cells-steady n (ty ∷ tys) h = (h 0 ty (omega arith), cells-steady (n + 1) tys (λ k d lt. h (suc k) d (omega (arith, lt))))
 
   array-steady : (k : Kind) → IsSteadyWant new apart (array_wanted w.classes k)
-  array-steady kinds.Ref = tt
-  array-steady kinds.Byte = tt
-  array-steady kinds.Short = tt
-  array-steady kinds.Int = tt
+  array-steady x = grind (arith)
 
   named-type-ready : (ty : Ty) → IsNamedType w.classes ty → IsNotFresh (seen w.classes ty)
-  named-type-ready (Class c) h = tt
-  named-type-ready ArrBool h = tt
-  named-type-ready ArrByte h = tt
-  named-type-ready ArrShort h = tt
-  named-type-ready ArrInt h = tt
-  named-type-ready (ArrRef c) h = tt
-  named-type-ready Bottom h = absurd h
-  named-type-ready Short h = absurd h
-  named-type-ready IntHigh h = absurd h
-  named-type-ready IntLow h = absurd h
-  named-type-ready Null h = absurd h
-  named-type-ready (Fresh p c) h = absurd h
-  named-type-ready Top h = absurd h
+  named-type-ready x h = grind (arith)
 
   one-same : (ty : Ty) → IsNotFresh ty → in_stack_order (given.One ty) ≡ map (named new apart) (in_stack_order (given.One ty))
   one-same ty h = ap (λ (u : Ty). u ∷ []) (sym (same-named new apart ty h))
@@ -109,27 +90,17 @@ module _ (new : ℕ → ℕ) (apart : (a b : ℕ) → new a ≡ new b → a ≡ 
   method-at n m e = All-slice_get (IsMethod w.infos w.pools w.classes) w.methods n m rules.world.methods e
 
   receiver-steady : (n : ℕ) (m : MethodRec) (receiver : Option Want) → IsReceiverOf w m receiver → Each (IsSteady new apart) (receiver_wanted n receiver)
-  receiver-steady n m None h = tt
-  receiver-steady n m (Some (Receiver c)) h = (tt, tt)
-  receiver-steady n m (Some (Value (Class c))) h = (tt, tt)
-  receiver-steady n m (Some want) h = absurd h
+  receiver-steady n m z h = grind (arith)
 
   chosen-steady : (k n : ℕ) (m : MethodRec) (receiver : Option Want) (choice : Choice) → IsChosen w n m receiver choice
       → Each (IsSteady new apart) (receiver_wanted k receiver)
-  chosen-steady k n m receiver (choices.Virtual c token) h =
-      subst (λ (o : Option Want). Each (IsSteady new apart) (receiver_wanted k o)) (sym h.receiver_is) (tt, tt)
-  chosen-steady k n m receiver choices.Special h = receiver-steady k m receiver h.receives
-  chosen-steady k n m receiver choices.Static h = subst (λ (o : Option Want). Each (IsSteady new apart) (receiver_wanted k o)) (sym h.receiver_is) tt
-  chosen-steady k n m receiver (choices.Interface c token words) h =
-      subst (λ (o : Option Want). Each (IsSteady new apart) (receiver_wanted k o)) (sym h.receiver_is) (tt, tt)
+  chosen-steady k n m receiver v h = grind (arith, receiver-steady)
 
   declared-some : (result : Option Ty) → IfSome result (IsDeclared w.classes) → IfSome result IsNotFresh
-  declared-some None h = tt
-  declared-some (Some ty) h = declared-not_fresh w.classes ty h
+  declared-some x h = grind (arith, declared-not_fresh)
 
   return-steady : (result : Option Ty) → IfSome result IsNotFresh → Each (IsSteady new apart) (return_demands result)
-  return-steady None h = tt
-  return-steady (Some ty) h = value-steady ty h
+  return-steady x h = grind (arith, value-steady)
 
   -- what goes from the stack and what comes in its place
   by-replacing : (op : Operation) (regs st : List Ty) (n : ℕ) (cells : Cells)
@@ -154,94 +125,50 @@ module _ (new : ℕ → ℕ) (apart : (a b : ℕ) → new a ≡ new b → a ≡ 
   renames m place (ops.Load letter x) sound res kept regs st = absurd kept
   renames m place (ops.Store letter x) sound res kept regs st = absurd kept
   renames m place (ops.Increment width x amount) sound res kept regs st = absurd kept
-  renames m place (ops.Constant constants.Nothing) sound res kept regs st =
-      by-replacing (ops.Constant constants.Nothing) regs st 0 given.Nothing refl tt refl refl refl
-  renames m place (ops.Constant constants.Null) sound res kept regs st =
-      by-replacing (ops.Constant constants.Null) regs st 0 (given.One Null) refl tt refl refl refl
-  renames m place (ops.Constant (constants.Short n)) sound res kept regs st =
-      by-replacing (ops.Constant (constants.Short n)) regs st 0 (given.One Short) refl tt refl refl refl
-  renames m place (ops.Constant (constants.Int n)) sound res kept regs st =
-      by-replacing (ops.Constant (constants.Int n)) regs st 0 given.Int refl tt refl refl refl
+  renames m place (ops.Constant constants.Nothing) sound res kept regs st = grind (arith, by-replacing)
+  renames m place (ops.Constant constants.Null) sound res kept regs st = grind (arith, by-replacing)
+  renames m place (ops.Constant (constants.Short n)) sound res kept regs st = grind (arith, by-replacing)
+  renames m place (ops.Constant (constants.Int n)) sound res kept regs st = grind (arith, by-replacing)
   renames m place (ops.Move moves.Pop) sound res kept regs st = by-replacing (ops.Move moves.Pop) regs st 1 given.Nothing refl (tt, tt) refl refl refl
-  renames m place (ops.Move moves.PopTwo) sound res kept regs st =
-      by-replacing (ops.Move moves.PopTwo) regs st 2 given.Nothing refl (tt, (tt, tt)) refl refl refl
-  renames m place (ops.Move moves.Duplicate) sound res kept regs st =
-      record { asks = refl; steady = (tt, tt); store = refl; change = under-named new apart 1 0 st }
-  renames m place (ops.Move moves.DuplicateTwo) sound res kept regs st =
-      record { asks = refl; steady = (tt, (tt, tt)); store = refl; change = under-named new apart 2 0 st }
-  renames m place (ops.Move (moves.CopyUnder a b)) sound res kept regs st =
-      record { asks = refl; steady = (tt, (tt, (tt, (tt, tt)))); store = refl; change = under-named new apart a b st }
-  renames m place (ops.Move (moves.Exchange a b)) sound res kept regs st =
-      record { asks = refl; steady = (tt, (tt, (tt, (tt, tt)))); store = refl; change = exchange-named new apart a b st }
-  renames m place (ops.Arithmetic (arithmetic.Binary o widths.Short)) sound res kept regs st =
-      by-replacing (ops.Arithmetic (arithmetic.Binary o widths.Short)) regs st 2 (given.One Short) refl (tt, (tt, tt)) refl refl refl
-  renames m place (ops.Arithmetic (arithmetic.Binary o widths.Int)) sound res kept regs st =
-      by-replacing (ops.Arithmetic (arithmetic.Binary o widths.Int)) regs st 4 given.Int refl (tt, (tt, (tt, (tt, tt)))) refl refl refl
-  renames m place (ops.Arithmetic (arithmetic.Negate widths.Short)) sound res kept regs st =
-      by-replacing (ops.Arithmetic (arithmetic.Negate widths.Short)) regs st 1 (given.One Short) refl (tt, tt) refl refl refl
-  renames m place (ops.Arithmetic (arithmetic.Negate widths.Int)) sound res kept regs st =
-      by-replacing (ops.Arithmetic (arithmetic.Negate widths.Int)) regs st 2 given.Int refl (tt, (tt, tt)) refl refl refl
-  renames m place (ops.Arithmetic arithmetic.ShortToByte) sound res kept regs st =
-      by-replacing (ops.Arithmetic arithmetic.ShortToByte) regs st 1 (given.One Short) refl (tt, tt) refl refl refl
-  renames m place (ops.Arithmetic arithmetic.ShortToInt) sound res kept regs st =
-      by-replacing (ops.Arithmetic arithmetic.ShortToInt) regs st 1 given.Int refl (tt, tt) refl refl refl
-  renames m place (ops.Arithmetic arithmetic.IntToByte) sound res kept regs st =
-      by-replacing (ops.Arithmetic arithmetic.IntToByte) regs st 2 (given.One Short) refl (tt, (tt, tt)) refl refl refl
-  renames m place (ops.Arithmetic arithmetic.IntToShort) sound res kept regs st =
-      by-replacing (ops.Arithmetic arithmetic.IntToShort) regs st 2 (given.One Short) refl (tt, (tt, tt)) refl refl refl
-  renames m place (ops.Arithmetic arithmetic.CompareInts) sound res kept regs st =
-      by-replacing (ops.Arithmetic arithmetic.CompareInts) regs st 4 (given.One Short) refl (tt, (tt, (tt, (tt, tt)))) refl refl refl
+  renames m place (ops.Move moves.PopTwo) sound res kept regs st = grind (arith, by-replacing)
+  renames m place (ops.Move moves.Duplicate) sound res kept regs st = grind (arith, under-named)
+  renames m place (ops.Move moves.DuplicateTwo) sound res kept regs st = grind (arith, under-named)
+  renames m place (ops.Move (moves.CopyUnder a b)) sound res kept regs st = grind (arith, under-named new apart a b st)
+  renames m place (ops.Move (moves.Exchange a b)) sound res kept regs st = grind (arith, exchange-named new apart a b st)
+  renames m place (ops.Arithmetic (arithmetic.Binary o widths.Short)) sound res kept regs st = grind (arith, by-replacing)
+  renames m place (ops.Arithmetic (arithmetic.Binary o widths.Int)) sound res kept regs st = grind (arith, by-replacing)
+  renames m place (ops.Arithmetic (arithmetic.Negate widths.Short)) sound res kept regs st = grind (arith, by-replacing)
+  renames m place (ops.Arithmetic (arithmetic.Negate widths.Int)) sound res kept regs st = grind (arith, by-replacing)
+  renames m place (ops.Arithmetic arithmetic.ShortToByte) sound res kept regs st = grind (arith, by-replacing)
+  renames m place (ops.Arithmetic arithmetic.ShortToInt) sound res kept regs st = grind (arith, by-replacing)
+  renames m place (ops.Arithmetic arithmetic.IntToByte) sound res kept regs st = grind (arith, by-replacing)
+  renames m place (ops.Arithmetic arithmetic.IntToShort) sound res kept regs st = grind (arith, by-replacing)
+  renames m place (ops.Arithmetic arithmetic.CompareInts) sound res kept regs st = grind (arith, by-replacing)
   renames m place (ops.ArrayRead kinds.Ref) sound res kept regs st =
-      let same : given.One (element (cell (map (named new apart) st) 1)) ≡ given.One (element (cell st 1)) = ap (λ (u : Ty). given.One (element u))
-      (cell-named new apart st 1) ∙ element-same new apart (cell st 1) in
-      by-replacing (ops.ArrayRead kinds.Ref) regs st 2 (given.One (element (cell st 1))) refl (tt, (tt, tt))
-      (one-same (element (cell st 1)) (element-ready new apart (cell st 1)))
-      (ap (λ (c : Cells). replacing 2 c) same) refl
-  renames m place (ops.ArrayRead kinds.Byte) sound res kept regs st =
-      by-replacing (ops.ArrayRead kinds.Byte) regs st 2 (given.One Short) refl (tt, (tt, tt)) refl refl refl
-  renames m place (ops.ArrayRead kinds.Short) sound res kept regs st =
-      by-replacing (ops.ArrayRead kinds.Short) regs st 2 (given.One Short) refl (tt, (tt, tt)) refl refl refl
-  renames m place (ops.ArrayRead kinds.Int) sound res kept regs st =
-      by-replacing (ops.ArrayRead kinds.Int) regs st 2 given.Int refl (tt, (tt, tt)) refl refl refl
-  renames m place (ops.ArrayWrite kinds.Ref) sound res kept regs st =
-      by-replacing (ops.ArrayWrite kinds.Ref) regs st 3 given.Nothing refl (tt, (tt, (tt, tt))) refl refl refl
-  renames m place (ops.ArrayWrite kinds.Byte) sound res kept regs st =
-      by-replacing (ops.ArrayWrite kinds.Byte) regs st 3 given.Nothing refl (tt, (tt, (tt, tt))) refl refl refl
-  renames m place (ops.ArrayWrite kinds.Short) sound res kept regs st =
-      by-replacing (ops.ArrayWrite kinds.Short) regs st 3 given.Nothing refl (tt, (tt, (tt, tt))) refl refl refl
-  renames m place (ops.ArrayWrite kinds.Int) sound res kept regs st =
-      by-replacing (ops.ArrayWrite kinds.Int) regs st 4 given.Nothing refl (tt, (tt, (tt, (tt, tt)))) refl refl refl
+      grind (arith, cell-named, element-same, by-replacing, one-same, element-ready)
+  renames m place (ops.ArrayRead kinds.Byte) sound res kept regs st = grind (arith, by-replacing)
+  renames m place (ops.ArrayRead kinds.Short) sound res kept regs st = grind (arith, by-replacing)
+  renames m place (ops.ArrayRead kinds.Int) sound res kept regs st = grind (arith, by-replacing)
+  renames m place (ops.ArrayWrite kinds.Ref) sound res kept regs st = grind (arith, by-replacing)
+  renames m place (ops.ArrayWrite kinds.Byte) sound res kept regs st = grind (arith, by-replacing)
+  renames m place (ops.ArrayWrite kinds.Short) sound res kept regs st = grind (arith, by-replacing)
+  renames m place (ops.ArrayWrite kinds.Int) sound res kept regs st = grind (arith, by-replacing)
   renames m place ops.ArrayLength sound res kept regs st = by-replacing ops.ArrayLength regs st 1 (given.One Short) refl (tt, tt) refl refl refl
   renames m place (ops.Branch branches.Always) sound res kept regs st = by-replacing (ops.Branch branches.Always) regs st 0 given.Nothing refl tt refl refl refl
-  renames m place (ops.Branch (branches.Zero o)) sound res kept regs st =
-      by-replacing (ops.Branch (branches.Zero o)) regs st 1 given.Nothing refl (tt, tt) refl refl refl
-  renames m place (ops.Branch (branches.Null o)) sound res kept regs st =
-      by-replacing (ops.Branch (branches.Null o)) regs st 1 given.Nothing refl (tt, tt) refl refl refl
-  renames m place (ops.Branch (branches.References o)) sound res kept regs st =
-      by-replacing (ops.Branch (branches.References o)) regs st 2 given.Nothing refl (tt, (tt, tt)) refl refl refl
-  renames m place (ops.Branch (branches.Shorts o)) sound res kept regs st =
-      by-replacing (ops.Branch (branches.Shorts o)) regs st 2 given.Nothing refl (tt, (tt, tt)) refl refl refl
+  renames m place (ops.Branch (branches.Zero o)) sound res kept regs st = grind (arith, by-replacing)
+  renames m place (ops.Branch (branches.Null o)) sound res kept regs st = grind (arith, by-replacing)
+  renames m place (ops.Branch (branches.References o)) sound res kept regs st = grind (arith, by-replacing)
+  renames m place (ops.Branch (branches.Shorts o)) sound res kept regs st = grind (arith, by-replacing)
   renames m place (ops.Switch widths.Short) sound res kept regs st = by-replacing (ops.Switch widths.Short) regs st 1 given.Nothing refl (tt, tt) refl refl refl
-  renames m place (ops.Switch widths.Int) sound res kept regs st =
-      by-replacing (ops.Switch widths.Int) regs st 2 given.Nothing refl (tt, (tt, tt)) refl refl refl
-  renames m place (ops.StaticRead f) sound res kept regs st =
-      by-replacing (ops.StaticRead f) regs st 0 (value_given f.ty) refl tt (value-same new apart f.ty (declared-not_fresh w.classes f.ty sound.ty)) refl
-      refl
-  renames m place (ops.StaticWrite f) sound res kept regs st =
-      by-replacing (ops.StaticWrite f) regs st (value_size f.ty) given.Nothing refl (value-steady f.ty (declared-not_fresh w.classes f.ty sound.ty)) refl
-      refl refl
-  renames m place (ops.FieldRead f holders.Stack) sound res kept regs st =
-      by-replacing (ops.FieldRead f holders.Stack) regs st 1 (value_given f.ty) refl (tt, tt)
-      (value-same new apart f.ty (declared-not_fresh w.classes f.ty sound.ty)) refl refl
-  renames m place (ops.FieldRead f holders.This) sound res kept regs st =
-      by-replacing (ops.FieldRead f holders.This) regs st 0 (value_given f.ty) refl (tt, (tt, tt))
-      (value-same new apart f.ty (declared-not_fresh w.classes f.ty sound.ty)) refl refl
+  renames m place (ops.Switch widths.Int) sound res kept regs st = grind (arith, by-replacing)
+  renames m place (ops.StaticRead f) sound res kept regs st = grind (arith, by-replacing, value-same, declared-not_fresh)
+  renames m place (ops.StaticWrite f) sound res kept regs st = grind (arith, by-replacing, value-steady, declared-not_fresh)
+  renames m place (ops.FieldRead f holders.Stack) sound res kept regs st = grind (arith, by-replacing, value-same, declared-not_fresh)
+  renames m place (ops.FieldRead f holders.This) sound res kept regs st = grind (arith, by-replacing, value-same, declared-not_fresh)
   renames m place (ops.FieldWrite f holders.Stack) sound res kept regs st =
-      by-replacing (ops.FieldWrite f holders.Stack) regs st (value_size f.ty + 1) given.Nothing refl
-      (each-steady (value_wanted f.ty) _ (value-steady f.ty (declared-not_fresh w.classes f.ty sound.ty)) (tt, tt)) refl refl refl
+      grind (arith, by-replacing, each-steady, value-steady, declared-not_fresh)
   renames m place (ops.FieldWrite f holders.This) sound res kept regs st =
-      by-replacing (ops.FieldWrite f holders.This) regs st (value_size f.ty) given.Nothing refl
-      (tt, each-steady (value_wanted f.ty) _ (value-steady f.ty (declared-not_fresh w.classes f.ty sound.ty)) (tt, tt)) refl refl refl
+      grind (arith, by-replacing, each-steady, value-steady, declared-not_fresh)
   renames m place (ops.Call c) sound res kept regs st =
       let is = method-at c.method sound.rec sound.is_method in
       let args = args_at (slice_get w.methods c.method) in
@@ -253,26 +180,18 @@ module _ (new : ℕ → ℕ) (apart : (a b : ℕ) → new a ≡ new b → a ≡ 
       (cells-steady 0 (reverse sound.rec.sig.args) (All-reverse IsNotFresh sound.rec.sig.args ready)) in
       record {
         asks = refl;
-        steady =
-            each-steady (cells_wanted 0 (reverse args)) (receiver_wanted (length args) c.receiver) cells
-            (chosen-steady (length args) c.method sound.rec c.receiver c.choice sound.chosen);
+        steady = grind (arith, each-steady, reverse, chosen-steady);
         store = refl;
         change =
             call-named new apart args (result_given (result_at (slice_get w.methods c.method))) c.receiver regs st
             (subst (λ (o : Option Ty). in_stack_order (result_given o) ≡ map (named new apart) (in_stack_order (result_given o))) (sym result)
             (result-same new apart sound.rec.sig.result (declared-some sound.rec.sig.result is.result)));
       }
-  renames m place (ops.New p c) sound res kept regs st =
-      record { asks = refl; steady = tt; store = refl; change = replaced new apart 0 (given.One (Fresh p c)) (given.One (Fresh (new p) c)) st refl }
-  renames m place (ops.NewArray ty) sound res kept regs st =
-      by-replacing (ops.NewArray ty) regs st 1 (given.One (seen w.classes ty)) refl (tt, tt) (one-same (seen w.classes ty) (named-type-ready ty sound.1))
-      refl refl
+  renames m place (ops.New p c) sound res kept regs st = grind (arith)
+  renames m place (ops.NewArray ty) sound res kept regs st = grind (arith, by-replacing, one-same, named-type-ready)
   renames m place ops.Throw sound res kept regs st = by-replacing ops.Throw regs st 1 given.Nothing refl (tt, tt) refl refl refl
-  renames m place (ops.TypeTest tests.Cast ty) sound res kept regs st =
-      by-replacing (ops.TypeTest tests.Cast ty) regs st 1 (given.One (seen w.classes ty)) refl (tt, tt)
-      (one-same (seen w.classes ty) (named-type-ready ty sound)) refl refl
-  renames m place (ops.TypeTest tests.InstanceOf ty) sound res kept regs st =
-      by-replacing (ops.TypeTest tests.InstanceOf ty) regs st 1 (given.One Short) refl (tt, tt) refl refl refl
+  renames m place (ops.TypeTest tests.Cast ty) sound res kept regs st = grind (arith, by-replacing, one-same, named-type-ready)
+  renames m place (ops.TypeTest tests.InstanceOf ty) sound res kept regs st = grind (arith, by-replacing)
   renames m place (ops.Return None) sound res kept regs st = by-replacing (ops.Return None) regs st 0 given.Nothing refl tt refl refl refl
   renames m place (ops.Return (Some ty)) sound res kept regs st =
       by-replacing (ops.Return (Some ty)) regs st (value_size ty) given.Nothing refl

@@ -8,7 +8,7 @@ use Rattle.jc_base.specs.Cell.{IsDeclared}
 use Rattle.jc_base.specs.declared.record.Handler.{Handler}
 use Rattle.jc_base.specs.declared.record.MethodRec.{MethodRec}
 use Rattle.jc_decode.specs.Listing.{targets}
-use Rattle.jc_control.specs.Control.{IsReached, IsLeader, jumped, follows, caught, led_to, entered}
+use Rattle.jc_control.specs.Control.{IsReached, IsLeader}
 use Rattle.xf_homes.specs.Source.{Source}
 use Rattle.xf_homes.specs.Plan.{is_leader}
 use Rattle.xf_emission.specs.Laws.{IsCode}
@@ -38,21 +38,11 @@ at-place s n lt = let e : nat_lt n 32768 ≡ true = grind (arith, nat_tests) in 
 
 at-stub : (s : Source) (n : ℕ) → n < 16384 → asks_of s (32768 + n) ≡ emptied
 unfolding asks_of
-at-stub s n lt =
-    let e : nat_lt (32768 + n) 32768 ≡ false = grind (arith, nat_tests) in let f : nat_lt (32768 + n) 49152 ≡ true = grind (arith, nat_tests, lt) in
-    rw (e, f) refl
+at-stub s n lt = grind (arith, nat_tests)
 
 pub at-handler : (s : Source) (n : ℕ) → asks_of s (49152 + n) ≡ caught_by (slice_get s.method.rec.handlers n)
 unfolding asks_of
-at-handler s n =
-    let e : nat_lt (49152 + n) 32768 ≡ false = grind (arith, nat_tests) in
-    let f : nat_lt (49152 + n) 49152 ≡ false = grind (arith, nat_tests) in
-    let g : 49152 + n - 49152 ≡ n = omega arith in
-    let h : caught_by (slice_get s.method.rec.handlers (49152 + n - 49152)) ≡ caught_by (slice_get s.method.rec.handlers n) = ap
-    (λ (k : ℕ). caught_by (slice_get s.method.rec.handlers k)) g in
-    ap (λ (b : Bool). if b then (if is_leader s (49152 + n) then emptied else nothing_asked) else if nat_lt (49152 + n) 49152 then emptied else caught_by
-    (slice_get s.method.rec.handlers (49152 + n - 49152))) e
-    ∙ ap (λ (b : Bool). if b then emptied else caught_by (slice_get s.method.rec.handlers (49152 + n - 49152))) f ∙ h
+at-handler s n = grind (arith, nat_tests, slice_get, emptied, nothing_asked)
 
 module _ (new : ℕ → ℕ) (apart : (a b : ℕ) → new a ≡ new b → a ≡ b) (s : Source) (l : AreTypingLaws s.world) (ready : IsReady s) (r : MethodRec)
     (own_rec : IsRecordFor s.method.rec r) (res : IfSome s.method.rec.sig.result (IsDeclared s.world.classes)) (code : IsCode s) where
@@ -63,8 +53,7 @@ module _ (new : ℕ → ℕ) (apart : (a b : ℕ) → new a ≡ new b → a ≡ 
       omega (arith, lt, p.2)
 
   leader-reached : (q : ℕ) → IsLeader s.method q → IsReached s.method q
-  leader-reached _ (led_to {i = i} {q = q} st there c) = follows {i = i} st there (jumped c)
-  leader-reached _ (entered there c covers) = caught there c covers
+  leader-reached x y = grind (arith)
 
   no-leader : is_leader s (length s.method.code) ≡ false
   no-leader = by (is_leader s (length s.method.code)) refl

@@ -11,7 +11,6 @@ use Rattle.jc_base.specs.Laws.{IsOrderOfTypes}
 use Rattle.jc_base.specs.Order.{IsKnown}
 use Rattle.jc_base.specs.declared.record.MethodRec.{MethodRec}
 use Rattle.jc_base.specs.declared.ty.Ty.{Ty}
-use Rattle.jc_base.specs.declared.ty.Ty.TheVariants.{Fresh}
 use Rattle.jc_decode.specs.declared.insn.Placed.{Placed}
 use Rattle.jc_decode.specs.declared.symbols.Item.{Item}
 use Rattle.jc_decode.specs.declared.symbols.Item.TheVariants.{Branch}
@@ -34,11 +33,12 @@ use Rattle.xf_emission.specs.Jump.{goto}
 use Rattle.xf_emission.specs.Group.{entrance, fall}
 use Rattle.xf_emission.specs.Mnemonics.{goto_w}
 use Rattle.law_rewritten_typing.specs.Typed.{registers_of}
-use Rattle.law_rewritten_typing.proofs.Walks.{State, holding, left, Asked, nothing_asked, emptied, Passes, Flows, flow_label, flow_step, flow_end, Goes}
+use Rattle.law_rewritten_typing.proofs.Walks.{State, holding, left, Asked, nothing_asked, emptied}
+use Rattle.law_rewritten_typing.proofs.Walks.{Passes, Flows, flow_label, flow_step, flow_end, Goes}
 use Rattle.law_rewritten_typing.proofs.Walks.{goes-append}
 use Rattle.law_rewritten_typing.proofs.Moves.{applies-by, same-cells}
 use Rattle.law_rewritten_typing.proofs.Stacks.{Stands, pushed, loads-go, spill-goes, stack-pushed}
-use Rattle.law_rewritten_typing.proofs.Ready.{IsReady, value-plain, home-stands, framed, reached}
+use Rattle.law_rewritten_typing.proofs.Ready.{IsReady, value-plain, home-stands, reached}
 use Rattle.law_rewritten_typing.proofs.Copies.{Carries, copies-go}
 use Rattle.law_rewritten_typing.proofs.Renames.{named}
 use Rattle.law_rewritten_typing.proofs.Carried.{carries-after}
@@ -50,8 +50,7 @@ use Rattle.law_rewritten_typing.proofs.Running.{IsRecordFor, IsRun}
 
 -- under cells that are ready no cell is an uninitialised object
 named-one : (new : ℕ → ℕ) (apart : (a b : ℕ) → new a ≡ new b → a ≡ b) (a : Ty) → IsNotFresh a → named new apart a ≡ a
-named-one new apart (Fresh p c) h = absurd h
-named-one new apart a h = refl
+named-one new apart a h = grind (arith)
 
 pub named-under : (new : ℕ → ℕ) (apart : (a b : ℕ) → new a ≡ new b → a ≡ b) (t : ClassTable) (types : IsOrderOfTypes t) {xs ys : List Ty}
     → CellsBelow t xs ys → All IsNotFresh ys → All IsNotTop ys → map (named new apart) xs ≡ xs
@@ -69,10 +68,7 @@ module _ (new : ℕ → ℕ) (apart : (a b : ℕ) → new a ≡ new b → a ≡ 
     some-same f g e = cc
 
     pub fit-at : (q : ℕ) (g : Frame) → s.frames q ≡ Some g → IsFit s.method g
-    fit-at q g e =
-        let k = framed l.objects l.rules ready r asks (s.frames q) (IsFit s.method)
-        (ready.typing.fit q (reached l.objects l.rules ready r asks q g e)) in
-        subst (IsFit s.method) (some-same k.0 g (sym k.1 ∙ e)) k.2
+    fit-at q g e = grind (arith, some-same)
 
     cells-stand-from : (q : ℕ) (g : Frame) → s.frames q ≡ Some g → KeepsStack s.world s.method s.frames q → (i n : ℕ)
         → Each (Stands s l.objects r (registers_of s.homes) asks) (cells_from (register_count s.method.rec) (reverse g.stack) i n)
@@ -102,8 +98,7 @@ module _ (new : ℕ → ℕ) (apart : (a b : ℕ) → new a ≡ new b → a ≡ 
 
     pub cells-stand : (q : ℕ) (g : Frame) → s.frames q ≡ Some g → KeepsStack s.world s.method s.frames q
         → Each (Stands s l.objects r (registers_of s.homes) asks) (stack_homes s q)
-    cells-stand q g e keeps =
-        subst (Each (Stands s l.objects r (registers_of s.homes) asks)) (sym (cells-are q g e)) (cells-stand-from q g e keeps 0 (length (reverse g.stack)))
+    cells-stand q g e keeps = grind (arith, cells-are q g e, cells-stand-from q g e keeps 0 (length (reverse g.stack)))
 
     pub cells-pushed : (q : ℕ) (g : Frame) → s.frames q ≡ Some g → pushed (stack_homes s q) [] ≡ g.stack
     cells-pushed q g e =

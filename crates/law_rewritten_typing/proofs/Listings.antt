@@ -1,6 +1,6 @@
 -- The groups of all instructions, one after the other.
-use Rattle.std.proofs.Common.{◌≡◌, ℕ, suc, ◌+◌, ◌<◌, Bool, true, false, if◌then◌else◌, List, [], ◌∷◌, ◌++◌, length, map}
-use Rattle.std.proofs.Common.{flat_map, All, Contains, Option, Some, None, Ok, IsErr, IsSome, IfSome, refl, sym, ◌∙◌, ap, subst, arith}
+use Rattle.std.proofs.Common.{◌≡◌, ℕ, suc, ◌+◌, ◌<◌, Bool, true, false, if◌then◌else◌, List, [], ◌∷◌, ◌++◌, length}
+use Rattle.std.proofs.Common.{flat_map, All, Contains, Option, Some, None, Ok, IsSome, IfSome, refl, sym, ◌∙◌, ap, subst, arith}
 use Rattle.std.specs.Prelude.{ℤ, pos, negsuc, is_some, IsTrue, nat_lt}
 use Rattle.std.proofs.lemmas.Bool.Decides.{nat_tests}
 use Rattle.std.proofs.lemmas.List.{length-map}
@@ -8,8 +8,7 @@ use Rattle.jc_base.specs.Cell.{IsDeclared}
 use Rattle.jc_base.specs.declared.record.MethodRec.{MethodRec}
 use Rattle.jc_decode.specs.declared.insn.Placed.{Placed}
 use Rattle.jc_decode.specs.declared.symbols.Item.{Item}
-use Rattle.jc_decode.specs.Decoding.{decoded}
-use Rattle.jc_decode.specs.Listing.{target, targets, falls, jumps, Lists}
+use Rattle.jc_decode.specs.Listing.{targets, falls, jumps, Lists}
 use Rattle.jc_decode.specs.Cases.{cases}
 use Rattle.jc_decode.proofs.Ranges.{op-fits}
 use Rattle.jc_ops.specs.declared.operation.Operation.{Operation}
@@ -23,7 +22,8 @@ use Rattle.xf_homes.specs.Plan.{is_leader, operation}
 use Rattle.xf_emission.specs.Laws.{IsCode}
 use Rattle.xf_emission.specs.Group.{first_place, entrance, body, fallen, done, group_by, group}
 use Rattle.law_rewritten_typing.specs.Typed.{registers_of}
-use Rattle.law_rewritten_typing.proofs.Walks.{State, left, Asked, nothing_asked, emptied, Flows, flow_end, flows-append, count, count-append}
+use Rattle.law_rewritten_typing.proofs.Walks.{State, left, Asked, nothing_asked, emptied}
+use Rattle.law_rewritten_typing.proofs.Walks.{Flows, flow_end, flows-append, count, count-append}
 use Rattle.law_rewritten_typing.proofs.Ready.{IsReady, framed, reached}
 use Rattle.law_rewritten_typing.specs.Premises.{AreTypingLaws}
 use Rattle.law_rewritten_typing.proofs.Running.{IsRecordFor, IsRun}
@@ -60,16 +60,7 @@ module _ (new : ℕ → ℕ) (apart : (a b : ℕ) → new a ≡ new b → a ≡ 
         record {
           op = op;
           after = own.after;
-          run = record {
-            listed = st;
-            at = at;
-            resolves = sym own.steps.1.resolves;
-            outcome = own.steps.0;
-            does = own.steps.1.does;
-            small = small;
-            sound = l.sound s.method.rec i.place i.insn op res own.steps.1.resolves;
-            fit = fit-at new apart s l ready r own_rec asks res code i.place f at;
-          };
+          run = grind (arith, fit-at);
           below = λ q succ.
               let g = framed l.objects l.rules ready r asks (s.frames q) (FrameBelow s.world.classes own.after) (own.below q succ) in
               record { frame = g.0; at = g.1; below = g.2 };
@@ -113,9 +104,7 @@ module _ (new : ℕ → ℕ) (apart : (a b : ℕ) → new a ≡ new b → a ≡ 
 
     target-count : (i : Placed) → jumps i.insn.op ≡ true → length (targets s.method.code i) ≡ length (cases s.method.code i.place i.insn) + 1
     unfolding targets
-    target-count i j =
-        ap (λ (b : Bool). length (if b then target i.place i.insn.x ∷ map (λ c. target i.place c.offset) (cases s.method.code i.place i.insn) else [])) j
-        ∙ omega (arith, length-map (cases s.method.code i.place i.insn) (λ c. target i.place c.offset))
+    target-count i j = grind (arith, length-map)
 
     first-target : (i : Placed) → IsListed s.method.code i → jumps i.insn.op ≡ true
         → Contains (targets s.method.code i) (pos (first_place (targets s.method.code i)))
@@ -189,18 +178,13 @@ module _ (new : ℕ → ℕ) (apart : (a b : ℕ) → new a ≡ new b → a ≡ 
         no e = absurd (cc)
 
         by : (o : Option Frame) → s.frames at ≡ o → a ≡ left
-        by None e = before.not_there e
-        by (Some f) e =
-            let p = ready.has.placed at (reached l.objects l.rules ready r asks at f e) in
-            let d : decoded s.method.code at ≡ Ok p.0.insn = ap (decoded s.method.code) (sym p.2) ∙ (l.rules.listed s.method.code).decodes p.0 p.1 in
-            absurd (no (subst IsErr d err))
+        by x e = grind (arith)
 
     module _ (wants : (q : ℕ) → is_some (s.frames q) ≡ true → asks q ≡ (if is_leader s q then emptied else nothing_asked)) where
       pub groups-flow : (at n : ℕ) (xs : List Placed) (a : State) → Lists s.method.code at xs
           → ((i : Placed) → Contains xs i → IsListed s.method.code i) → IsBefore at a → Numbered n xs
           → Flows s.world r (registers_of s.homes) asks n a (flat_map (group s) xs) left
-      groups-flow at n [] a lists inside before numbered =
-          subst (λ (b : State). Flows s.world r (registers_of s.homes) asks n a [] b) (ends-left at a lists before) flow_end
+      groups-flow at n [] a lists inside before numbered = grind (arith, ends-left, flow_end)
       groups-flow at n (i ∷ xs) a lists inside before numbered =
           by (s.frames i.place) refl
           (λ b next. groups-flow (at + i.insn.len) (n + count (group s i)) xs b lists.2 (λ j c. inside j (suc c.0, omega (arith, c.1), c.2)) next

@@ -1,5 +1,5 @@
 -- The homes of two stacks, one below the other: they are at the same slots, each with a type below.
-use Rattle.std.proofs.Common.{◌≡◌, ℕ, suc, ◌+◌, List, [], ◌∷◌, ◌++◌, length, All, Option, None, sym, ◌∙◌, ap, subst, arith}
+use Rattle.std.proofs.Common.{◌≡◌, ℕ, suc, ◌+◌, List, [], ◌∷◌, ◌++◌, length, All, sym, ◌∙◌, ap, subst, arith}
 use Rattle.std.proofs.Common.{append_assoc, length-append}
 use Rattle.std.proofs.lemmas.List.Elements.{All-head, All-tail}
 use Rattle.jc_base.specs.Cell.{AreWhole, no_cells as no_whole, whole_int, one_cell, IsNoHalf}
@@ -11,9 +11,8 @@ use Rattle.jc_base.specs.declared.ty.Ty.TheVariants.{IntHigh, IntLow}
 use Rattle.jc_rules.specs.Flow.{CellsBelow, no_cells, more_cells, IsNotTop}
 use Rattle.jc_rules.specs.Laws.{IsNotBottom}
 use Rattle.xf_homes.specs.declared.home.Home.{Home}
-use Rattle.xf_homes.specs.Value.{value_in_cells}
 use Rattle.xf_homes.specs.Source.{Source}
-use Rattle.xf_homes.specs.Plan.{cells_from, with_home_of, home_of}
+use Rattle.xf_homes.specs.Plan.{cells_from}
 use Rattle.law_rewritten_typing.specs.Typed.{registers_of}
 use Rattle.law_rewritten_typing.proofs.Walks.{Asked}
 use Rattle.law_rewritten_typing.proofs.Stacks.{Stands, int-value, low-none, one-at, longer-by}
@@ -25,31 +24,23 @@ use Rattle.law_rewritten_typing.specs.Premises.{AreTypingLaws}
 pub home-one : (slot : ℕ) (pre : List Ty) (a : Ty) (us : List Ty) (k : ℕ) → IsNoHalf a → IsNotTop a
     → cells_from slot (pre ++ a ∷ us) (length pre) (suc k) ≡ record { slot = slot + length pre; ty = a } ∷ cells_from slot ((pre ++ a ∷ []) ++ us)
     (length (pre ++ a ∷ [])) k
-home-one slot pre a us k h n =
-    let e = longer-by pre a in
-    let shape : (pre ++ a ∷ []) ++ us ≡ pre ++ a ∷ us = append_assoc pre (a ∷ []) us in
-    ap (λ (o : Option Ty). with_home_of (home_of (slot + length pre) o) (cells_from slot (pre ++ a ∷ us) (suc (length pre)) k)) (one-at pre a us h n)
-    ∙ ap (λ (j : ℕ). record { slot = slot + length pre; ty = a } ∷ cells_from slot (pre ++ a ∷ us) j k) e
-    ∙ ap (λ (ts : List Ty). record { slot = slot + length pre; ty = a } ∷ cells_from slot ts (length (pre ++ a ∷ [])) k) (sym shape)
+home-one slot pre a us k h n = grind (arith, longer-by, append_assoc, suc, one-at)
 
 pub home-int : (slot : ℕ) (pre us : List Ty) (k : ℕ)
     → cells_from slot (pre ++ IntHigh ∷ IntLow ∷ us) (length pre) (suc (suc k)) ≡ record { slot = slot + length pre; ty = IntHigh } ∷ cells_from
     slot ((pre ++ IntHigh ∷ IntLow ∷ []) ++ us) (length (pre ++ IntHigh ∷ IntLow ∷ [])) k
 home-int slot pre us k =
-    let all = pre ++ IntHigh ∷ IntLow ∷ us in
-    let e : suc (length pre) ≡ length (pre ++ IntHigh ∷ []) = longer-by pre IntHigh in
-    let f : suc (suc (length pre)) ≡ length (pre ++ IntHigh ∷ IntLow ∷ []) = omega (arith, length-append pre (IntHigh ∷ IntLow ∷ [])) in
-    let shape : (pre ++ IntHigh ∷ []) ++ IntLow ∷ us ≡ all = append_assoc pre (IntHigh ∷ []) (IntLow ∷ us) in
-    let shape2 : (pre ++ IntHigh ∷ IntLow ∷ []) ++ us ≡ all = append_assoc pre (IntHigh ∷ IntLow ∷ []) us in
-    let second : value_in_cells all (suc (length pre)) ≡ None =
-    subst (λ (n : ℕ). value_in_cells all n ≡ None) (sym e)
-    (subst (λ (ts : List Ty). value_in_cells ts (length (pre ++ IntHigh ∷ [])) ≡ None) shape (low-none (pre ++ IntHigh ∷ []) us)) in
-    ap (λ (o : Option Ty). with_home_of (home_of (slot + length pre) o) (cells_from slot all (suc (length pre)) (suc k))) (int-value pre us)
-    ∙ ap (λ (o : Option Ty). record { slot = slot + length pre; ty = IntHigh } ∷ with_home_of (home_of (slot + suc (length pre)) o)
-    (cells_from slot all (suc (suc (length pre))) k)) second
-    ∙ ap (λ (j : ℕ). record { slot = slot + length pre; ty = IntHigh } ∷ cells_from slot all j k) f
-    ∙ ap (λ (ts : List Ty). record { slot = slot + length pre; ty = IntHigh } ∷ cells_from slot ts (length (pre ++ IntHigh ∷ IntLow ∷ [])) k)
-    (sym shape2)
+    grind (
+      arith,
+      longer-by pre IntHigh,
+      suc (suc (length pre)),
+      length-append pre (IntHigh ∷ IntLow ∷ []),
+      append_assoc pre (IntHigh ∷ []) (IntLow ∷ us),
+      append_assoc pre (IntHigh ∷ IntLow ∷ []) us,
+      low-none (pre ++ IntHigh ∷ []) us,
+      suc k,
+      int-value pre us,
+    )
 
 module _ (s : Source) (l : AreTypingLaws s.world) (ready : IsReady s) (r : MethodRec) (asks : ℕ → Asked) where
   abbrev Standing : List Home → Type 0

@@ -1,15 +1,17 @@
 -- Loads, stores and copies of homes, over the registers of a card typing.
-use Rattle.std.proofs.Common.{◌≡◌, ◌⊎◌, ℕ, zero, suc, ◌+◌, ◌<◌, ◌≤◌, true, false, if◌then◌else◌, inl, inr, List, []}
+use Rattle.std.proofs.Common.{◌≡◌, ◌⊎◌, ℕ, zero, suc, ◌+◌, ◌<◌, ◌≤◌, true, false, inl, inr, List, []}
 use Rattle.std.proofs.Common.{◌∷◌, ◌++◌, length, set, slice_get, Option, Some, Ok, IsSomeAnd, refl, sym, ◌∙◌, ap, subst, arith}
 use Rattle.std.specs.Prelude.{⊤}
 use Rattle.std.proofs.lemmas.Bool.{both_ways}
 use Rattle.std.proofs.Math.Nat.{mod-eq_of_lt}
 use Rattle.jc_base.specs.declared.ty.Ty.{Ty}
-use Rattle.jc_base.specs.declared.ty.Ty.TheVariants.{Bottom, Short, IntHigh, IntLow, Null, Class, ArrBool, ArrByte, ArrShort, ArrInt, ArrRef, Fresh, Top}
+use Rattle.jc_base.specs.declared.ty.Ty.TheVariants.{Bottom, Short, IntHigh, IntLow, Null, Class, ArrBool}
+use Rattle.jc_base.specs.declared.ty.Ty.TheVariants.{ArrByte, ArrShort, ArrInt, ArrRef, Fresh, Top}
 use Rattle.jc_base.specs.declared.record.MethodRec.{MethodRec}
 use Rattle.jc_base.specs.Class.{ClassTable, object}
 use Rattle.jc_base.specs.Laws.{ClassesAreObjects}
-use Rattle.jc_base.specs.Order.{Below, same, joined, null_object, array_object, of_booleans, of_bytes, of_shorts, of_ints, of_references, IsKnown}
+use Rattle.jc_base.specs.Order.{Below, same, joined, null_object, array_object, of_booleans}
+use Rattle.jc_base.specs.Order.{of_bytes, of_shorts, of_ints, of_references, IsKnown}
 use Rattle.jc_base.specs.World.{Linked}
 use Rattle.jc_decode.specs.declared.insn.Insn.{Insn}
 use Rattle.jc_decode.specs.Layout.{layout_of, opcode}
@@ -19,7 +21,8 @@ use Rattle.jc_ops.specs.declared.operation.Operation.TheVariants as ops
 use Rattle.jc_ops.specs.declared.operation.Sort.TheVariants as sorts
 use Rattle.jc_ops.specs.Next.{falls_from, ends_at}
 use Rattle.jc_ops.specs.Resolve.{resolved}
-use Rattle.jc_ops.specs.Row.{row_at, table, unused, by_sort, by_width, by_kind, first_four, by_register, literals, binaries, orders_all, branching}
+use Rattle.jc_ops.specs.Row.{row_at, table, unused, by_sort, by_width, by_kind}
+use Rattle.jc_ops.specs.Row.{first_four, by_register, literals, binaries, orders_all, branching}
 use Rattle.jc_rules.specs.declared.effect.Mode.TheVariants.{Flow}
 use Rattle.jc_rules.specs.declared.rule.Outcome.{Outcome}
 use Rattle.jc_rules.specs.Demand.{Frame, SatisfiesAll}
@@ -28,7 +31,7 @@ use Rattle.jc_rules.specs.Rule.{demands, effect, wrote, or_null}
 use Rattle.jc_rules.specs.Apply.{OperationApplies}
 use Rattle.jc_rules.specs.Flow.{CellsBelow, no_cells, more_cells}
 use Rattle.xf_emission.specs.Move.{with_byte, load_op, store_op}
-use Rattle.law_rewritten_typing.proofs.Walks.{holding, left, Asked, Turn}
+use Rattle.law_rewritten_typing.proofs.Walks.{holding, Asked, Turn}
 
 -- ---- registers
 
@@ -80,12 +83,7 @@ applies-by w limit op before after asked stores stack room = (
 -- loads and stores do not jump
 quiet : (op : ℕ) → (op ≡ 21) ⊎ (op ≡ 22) ⊎ (op ≡ 23) ⊎ (op ≡ 40) ⊎ (op ≡ 41) ⊎ (op ≡ 42) → jumps op ≡ false
 unfolding layout_of opcode
-quiet op (inl e) = ap jumps e
-quiet op (inr (inl e)) = ap jumps e
-quiet op (inr (inr (inl e))) = ap jumps e
-quiet op (inr (inr (inr (inl e)))) = ap jumps e
-quiet op (inr (inr (inr (inr (inl e))))) = ap jumps e
-quiet op (inr (inr (inr (inr (inr e))))) = ap jumps e
+quiet op y = grind (arith)
 
 -- a value that is no int half and no uninitialised object
 abbrev pub IsPlainValue : Ty → Type 0
@@ -142,16 +140,7 @@ module _ (w : Linked) (objects : ClassesAreObjects w.classes) (r : MethodRec) (r
       → falls i.op ≡ true
       → length stack ≤ r.max_stack
       → Turn w r regs asks n i (holding stack) (holding after.stack)
-  turn-by n i op stack after is does stored none goes room = record {
-    stack = stack;
-    here = refl;
-    after = after;
-    applies = (does.0, record { operation = op; resolves = sym is; does = does.1 });
-    stored = stored;
-    branch = λ j. absurd (both_ways (jumps i.op) none j);
-    room = room;
-    onward = ap (λ b. if b then holding after.stack else left) (sym goes);
-  }
+  turn-by n i op stack after is does stored none goes room = grind (arith, both_ways, holding)
 
   -- ---- loads
 

@@ -9,7 +9,7 @@ use Rattle.jc_base.proofs.Eaching.{Each-append}
 use Rattle.jc_decode.specs.declared.insn.Placed.{Placed}
 use Rattle.jc_decode.specs.declared.symbols.Item.{Item}
 use Rattle.jc_decode.specs.Listing.{listing, targets}
-use Rattle.jc_ops.specs.Next.{falls_from, jumps_from}
+use Rattle.jc_ops.specs.Next.{jumps_from}
 use Rattle.jc_ops.specs.declared.fault.RuleFault.{RuleFault}
 use Rattle.jc_ops.specs.declared.operation.Branch.TheVariants as branches
 use Rattle.jc_ops.specs.declared.operation.Holder.TheVariants as holders
@@ -20,16 +20,18 @@ use Rattle.jc_ops.specs.declared.operation.Operation.TheVariants as ops
 use Rattle.jc_rules.specs.Demand.{Frame}
 use Rattle.xf_homes.specs.declared.home.Home.{Home}
 use Rattle.xf_homes.specs.Home.{register_count}
-use Rattle.xf_homes.specs.Walk.{has, same_home, operands_of}
+use Rattle.xf_homes.specs.Walk.{has, operands_of}
 use Rattle.xf_homes.specs.Source.{Source}
 use Rattle.xf_homes.specs.Plan.{local, needed, stack_homes, is_leader, operation}
 use Rattle.xf_emission.specs.declared.origin.Origin.{Origin}
 use Rattle.xf_emission.specs.declared.origin.Origin.TheVariants.{Start, After, Entry}
 use Rattle.xf_emission.specs.Move.{store, copy, loads, spill}
 use Rattle.xf_emission.specs.Edge.{home_before, homes_held, copy_new, copies_from, local_copies, locals_copies, copies, cell_copies}
-use Rattle.xf_emission.specs.Jump.{under, operands, has_under, spill_if, branch_copies, place, each_once, way_of, lead, leads, first_label, jump_to, branch}
+use Rattle.xf_emission.specs.Jump.{under, operands, has_under, spill_if, branch_copies, place}
+use Rattle.xf_emission.specs.Jump.{way_of, lead, leads, first_label, jump_to, branch}
 use Rattle.xf_emission.specs.Jump.{goto, stub, stub_of, stub_label, stubs_of}
-use Rattle.xf_emission.specs.Group.{itself, loaded, increased, store_to_homes, stays, field_read, field_written, gone, first_place, body, fall, fall_over}
+use Rattle.xf_emission.specs.Group.{itself, loaded, increased, store_to_homes, field_read, field_written}
+use Rattle.xf_emission.specs.Group.{gone, first_place, body, fall, fall_over}
 use Rattle.xf_emission.specs.Group.{fall_by, fallen, entrance, done, group_by, group}
 use Rattle.xf_emission.specs.Emission.{stubs, stubs_at, stubs_by, stubs_done, is_live, catching_stub, catching_stubs, items}
 use Rattle.xf_emission.proofs.Items.{each-if, each-flat}
@@ -85,9 +87,7 @@ module _ (P : ℕ → Type 0) (s : Source) where
   cells-name : (hs ks : List Home) → Each IsNamed (cell_copies s hs ks)
   cells-name [] ks = tt
   cells-name (h ∷ hs) [] = tt
-  cells-name (h ∷ hs) (k ∷ ks) =
-      Each-append IsNamed (if same_home h k then [] else copy s h k) (cell_copies s hs ks)
-      (each-if IsNamed (same_home h k) [] (copy s h k) tt (copy-names h k)) (cells-name hs ks)
+  cells-name (h ∷ hs) (k ∷ ks) = grind (arith, each-if, copy-names, cells-name hs ks)
 
   taken-names : (p : ℕ) (op : Operation) (n q : ℕ) → Each IsNamed (branch_copies s p op n q)
   unfolding branch_copies
@@ -102,12 +102,10 @@ module _ (P : ℕ → Type 0) (s : Source) where
     kept-names = (tt {0}, tt {0})
 
     loaded-names : (h : Option Home) → Each IsNamed (loaded s i h)
-    loaded-names None = kept-names
-    loaded-names (Some h) = (tt {0}, tt {0})
+    loaded-names x = grind (arith, kept-names)
 
     increased-names : (h : Option Home) → Each IsNamed (increased s i h)
-    increased-names None = kept-names
-    increased-names (Some h) = (tt {0}, tt {0})
+    increased-names x = grind (arith, kept-names)
 
     stored-names : (letter : Sort) (hs : List Home) → Each IsNamed (store_to_homes s letter hs)
     stored-names sorts.Int [] = (tt {0}, tt {0})
@@ -115,12 +113,10 @@ module _ (P : ℕ → Type 0) (s : Source) where
     stored-names letter (h ∷ hs) = (tt {0}, each-flat IsNamed (copy s h) hs (λ k. copy-names h k))
 
     read-names : (h : Option Home) → Each IsNamed (field_read s i h)
-    read-names None = kept-names
-    read-names (Some h) = each-if IsNamed (stays s h) (itself i) _ kept-names (tt {0}, (tt {0}, tt {0}))
+    read-names x = grind (arith, kept-names, each-if)
 
     written-names : (k : Kind) (h : Option Home) → Each IsNamed (field_written s i k h)
-    written-names k None = kept-names
-    written-names k (Some h) = each-if IsNamed (stays s h) (itself i) _ kept-names (tt {0}, (tt {0}, (tt {0}, tt {0})))
+    written-names k y = grind (arith, kept-names, each-if)
 
   module _ (i : Placed) (op : Operation) (e : Names i op) where
     leads-name : (n : ℕ) (whole ts : List ℤ) → ((j : ℕ) (t : ℤ) → slice_get ts j ≡ Some t → P (lead s i.place op n (way_of whole t) t))
@@ -133,8 +129,7 @@ module _ (P : ℕ → Type 0) (s : Source) where
     leads-length n whole (t ∷ ts) = ap suc (leads-length n whole ts)
 
     first-name : (ls : List ℕ) → 0 < length ls → Each P ls → P (first_label ls)
-    first-name [] lt o = absurd (omega (arith, lt))
-    first-name (l ∷ ls) lt o = o.0
+    first-name x lt o = grind (arith)
 
     ways-name : (n : ℕ) → operands_of s.world (Ok op) ≡ Some n → Each P (leads s i.place op n (targets s.method.code i) (targets s.method.code i))
     ways-name n asks = leads-name n (targets s.method.code i) (targets s.method.code i) (λ j t at. e.ways n j t asks at)
@@ -193,9 +188,7 @@ module _ (P : ℕ → Type 0) (s : Source) where
 
     fallen-names : Each IsNamed (fallen s i op)
     unfolding fallen
-    fallen-names =
-        each-if IsNamed (falls_from op) (fall_by s i.place op (operands_of s.world (Ok op)) (i.place + i.insn.len)) []
-        (fall-by-names (operands_of s.world (Ok op)) (i.place + i.insn.len)) tt
+    fallen-names = grind (arith, each-if, fall-by-names)
 
     -- ---- stubs
 
@@ -213,9 +206,7 @@ module _ (P : ℕ → Type 0) (s : Source) where
         (stubs-name-from n (suc k) ts (λ j u at. h (suc j) u at))
 
     stubs-by-name : (n : Option ℕ) → Each IsNamed (stubs_by s i op n)
-    stubs-by-name None = tt
-    stubs-by-name (Some n) =
-        stubs-name-from n 0 (each_once (targets s.method.code i)) (λ j t at. let k = way-from (targets s.method.code i) j t at in e.places k.0 t k.1)
+    stubs-by-name x = grind (arith, stubs-name-from, way-from)
 
   -- ---- the instruction, by its form
 

@@ -18,12 +18,10 @@ use Rattle.jc_ops.specs.declared.operation.Sort.TheVariants as sorts
 use Rattle.xf_homes.specs.declared.home.Home.{Home}
 use Rattle.xf_homes.specs.Walk.{operands_of}
 use Rattle.xf_homes.specs.Source.{Source}
-use Rattle.xf_homes.specs.Plan.{local, needed, stack_homes}
-use Rattle.xf_emission.specs.declared.origin.Origin.TheVariants.{After}
-use Rattle.xf_emission.specs.Move.{spill}
-use Rattle.xf_emission.specs.Edge.{copies}
-use Rattle.xf_emission.specs.Jump.{branch, jump_to, spill_if, has_under, leads, goto}
-use Rattle.xf_emission.specs.Group.{body, itself, loaded, increased, store_to_homes, stays, field_read, field_written, gone, branch_by, first_place, entrance}
+use Rattle.xf_homes.specs.Plan.{local, needed}
+use Rattle.xf_emission.specs.Jump.{branch, jump_to}
+use Rattle.xf_emission.specs.Group.{body, itself, loaded, increased, store_to_homes, stays}
+use Rattle.xf_emission.specs.Group.{field_read, field_written, gone, branch_by, first_place, entrance}
 use Rattle.xf_emission.specs.Group.{group}
 use Rattle.law_rewritten_typing.proofs.Walks.{count, count-append}
 
@@ -64,19 +62,14 @@ module _ (s : Source) (i : Placed) where
 
   branch-some : (op : Operation) (n : ℕ) → 0 < count (branch s i op n)
   unfolding branch
-  branch-some op n =
-      right-some (spill_if (has_under s i.place n) s i.place n)
-      (jump_to i op (leads s i.place op n (targets s.method.code i) (targets s.method.code i)) ∷ [])
-      (jump-some op (leads s i.place op n (targets s.method.code i) (targets s.method.code i)))
+  branch-some op n = grind (arith, right-some, jump-some)
 
   by-some : (op : Operation) (n : Option ℕ) → 0 < count (branch_by s i op n)
   by-some op None = omega arith
   by-some op (Some n) = branch-some op n
 
   gone-some : (op : Operation) (q : ℕ) → 0 < count (gone s i.place op q)
-  gone-some op q =
-      right-some (spill s (stack_homes s q)) (copies s (After i.place op) q ++ goto q ∷ [])
-      (right-some (copies s (After i.place op) q) (goto q ∷ []) (omega arith))
+  gone-some op q = grind (arith, right-some)
 
   pub body-some : (op : Operation) → 0 < count (body s i op)
   unfolding body
@@ -140,10 +133,7 @@ module _ (s : Source) where
 
       clash : (m : ℕ) → (i.place == m && is_some (s.frames i.place)) ≡ true → n + count (entrance s i.place) ≡ k → (j : ℕ)
           → number (n + count (group s i)) xs j ≡ Some k → ⊥
-      clash m t own j f =
-          let less = filled.0 (and_parts (i.place == m) (is_some (s.frames i.place)) t).1 in
-          let r = number-within (n + count (group s i)) k j xs filled.1 f in
-          omega (arith, own, less, r.0)
+      clash m t own j f = grind (arith, and_parts, number-within)
 
       by : (a b : Bool) → (i.place == p && is_some (s.frames i.place)) ≡ a → (i.place == q && is_some (s.frames i.place)) ≡ b
           → (if a then Some (n + count (entrance s i.place)) else number (n + count (group s i)) xs p) ≡ Some k

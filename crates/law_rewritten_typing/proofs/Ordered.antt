@@ -61,16 +61,14 @@ no-later a [] ys = by (a == a) refl
     differ c e f = absurd (cc)
 
     by : (c : Bool) → (a == a) ≡ c → (if c then 0 else place_of a ys) ≤ 0
-    by true e = omega arith
-    by false e = absurd (differ (a == a) (itself a) e)
+    by x e = grind (arith)
 no-later a (Plain i ∷ xs) ys = omega (arith, no-later a xs ys)
 no-later a (Branch op l ∷ xs) ys = omega (arith, no-later a xs ys)
 no-later a (Switch i at ls ∷ xs) ys = omega (arith, no-later a xs ys)
 no-later a (Label m ∷ xs) ys = by (m == a) (no-later a xs ys)
   where
     by : (c : Bool) → place_of a (xs ++ Label a ∷ ys) ≤ count xs → (if c then 0 else place_of a (xs ++ Label a ∷ ys)) ≤ count xs
-    by true rest = omega arith
-    by false rest = rest
+    by x rest = grind (arith)
 
 module _ (s : Source) where
   group-head : (i : Placed) → is_some (s.frames i.place) ≡ true → (t : List Item) × (group s i ≡ Label i.place ∷ t)

@@ -17,10 +17,11 @@ use Rattle.jc_ops.specs.declared.operation.Operation.{Operation}
 use Rattle.jc_rules.specs.Demand.{Frame}
 use Rattle.xf_homes.specs.Walk.{operands_of}
 use Rattle.xf_homes.specs.Source.{Source}
-use Rattle.xf_homes.specs.Plan.{is_leader, operation}
+use Rattle.xf_homes.specs.Plan.{is_leader}
 use Rattle.xf_emission.specs.Jump.{each_once, place, branch_copies, stub, stubs_of, stub_label, handler_label}
 use Rattle.xf_emission.specs.Group.{group}
-use Rattle.xf_emission.specs.Emission.{stubs, stubs_by, stubs_done, stubs_at, is_live, catching_stub, catching_stubs, range, ranges_from, items}
+use Rattle.xf_emission.specs.Emission.{stubs, stubs_by, stubs_done, stubs_at, is_live}
+use Rattle.xf_emission.specs.Emission.{catching_stub, catching_stubs, range, ranges_from, items}
 use Rattle.xf_emission.specs.Laws.{IsCode}
 use Rattle.xf_emission.proofs.Labels.{labels, labels-append, label_if, stub-label, caught-label}
 use Rattle.xf_emission.proofs.Rises.{Rises}
@@ -67,9 +68,7 @@ below-none s n c lt e = let small : nat_lt n 49152 ≡ true = grind (arith, nat_
     by false d false t e = absurd (cc)
 
 one-label : (copied : List Item) (l m : ℕ) → IsAmong l (label_if copied m) → m ≡ l
-one-label [] l m a = absurd a
-one-label (i ∷ is) l m (inl e) = e
-one-label (i ∷ is) l m (inr a) = absurd a
+one-label x l m a = grind (arith)
 
 stubs-below : (s : Source) (p : ℕ) (op : Operation) (n k : ℕ) (ts : List ℤ) (l : ℕ) → IsAmong l (labels (stubs_of s p op n k ts))
     → l < stub_label p (k + length ts)
@@ -102,8 +101,7 @@ module _ (s : Source) (listed : AreListed s.method.code) (code : IsCode s) where
       by-operation (Ok op) a = by-operands op (operands_of s.world (Ok op)) a
 
       by-frame : (f : Option Frame) → IsAmong l (labels (stubs_at s i f)) → l < 49152
-      by-frame None a = absurd a
-      by-frame (Some f) a = by-operation (operation s i) a
+      by-frame x a = grind (arith, by-operation)
 
   -- ---- labels of handlers
 
@@ -149,8 +147,6 @@ module _ (s : Source) (listed : AreListed s.method.code) (code : IsCode s) where
       by-rest (inr b) = caught-range 0 s.method.rec.handlers l b
 
       by : IsAmong l groups ⊎ IsAmong l (end ∷ labels (branches ++ caughts)) → HasRange (ranges_from s 0 s.method.rec.handlers) l
-      by (inl b) =
-          let less : l < end = rises-before 0 (handler_label 256) end l groups (labels (branches ++ caughts)) rise b in
-          absurd (below-none s l c (omega (arith, less, code.short)) asks)
+      by (inl b) = grind (arith, rises-before, caughts, rise, below-none)
       by (inr (inl e)) = absurd (below-none s l c (omega (arith, e, code.short)) asks)
       by (inr (inr b)) = by-rest (pieces l branches caughts b)

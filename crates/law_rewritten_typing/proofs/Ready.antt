@@ -10,7 +10,7 @@ use Rattle.jc_base.specs.Order.{Below, IsKnown}
 use Rattle.jc_base.specs.declared.record.Handler.{Handler}
 use Rattle.jc_base.specs.declared.record.MethodRec.{MethodRec}
 use Rattle.jc_base.specs.declared.ty.Ty.{Ty}
-use Rattle.jc_base.specs.declared.ty.Ty.TheVariants.{Bottom, IntHigh, IntLow, Fresh, Top}
+use Rattle.jc_base.specs.declared.ty.Ty.TheVariants.{IntHigh, IntLow, Top}
 use Rattle.jc_base.proofs.Lists.{All-slice_get}
 use Rattle.jc_base.proofs.SameTypes.{same_type-decides}
 use Rattle.jc_control.specs.Control.{IsReached, IsLeader}
@@ -47,8 +47,7 @@ pub record IsReady (s : Source) : Type 0 where
 -- ---- the registers of homes
 
 first-cell : (t : Ty) (rest : List Ty) → slice_get (cells_of_value t ++ rest) 0 ≡ Some t
-first-cell IntHigh rest = refl
-first-cell t rest = refl
+first-cell t rest = grind (arith)
 
 second-cell : (t : Ty) (rest : List Ty) → t ≡ IntHigh → slice_get (cells_of_value t ++ rest) 1 ≡ Some IntLow
 second-cell t rest e = ap (λ (u : Ty). slice_get (cells_of_value u ++ rest) 1) e
@@ -102,9 +101,7 @@ placed-at n (j ∷ js) h x e = by (same_home j h) refl e (λ f. placed-at (n + t
           omega (arith, r.1),
           record {
             first = past-cells j.ty (registers_of js) r.0 ∙ r.2.first;
-            second =
-                λ high. let next : type_width j.ty + r.0 + 1 ≡ type_width j.ty + (r.0 + 1) = omega arith in ap (slice_get all) next
-                ∙ past-cells j.ty (registers_of js) (r.0 + 1) ∙ r.2.second high;
+            second = grind (arith, slice_get, past-cells);
             below = omega (arith, total, r.2.below);
           },
         )
@@ -132,19 +129,10 @@ value-is cells x ty e = by (slice_get cells x) (slice_get cells (x + 1)) refl re
     }
 
     by : (a b : Option Ty) → slice_get cells x ≡ a → slice_get cells (x + 1) ≡ b → value_of a b ≡ Some ty → IsValueAt cells x ty
-    by None b here there e = absurd (cc)
-    by (Some IntHigh) (Some IntLow) here there e = is IntHigh (Some IntLow) here there (cc) (λ q. absurd (cc)) (λ q. absurd (cc)) (λ q. refl)
-    by (Some IntHigh) b here there e = absurd (cc)
-    by (Some IntLow) b here there e = absurd (cc)
-    by (Some Top) b here there e = absurd (cc)
-    by (Some u) b here there e = is u b here there (cc) (λ q. absurd (cc)) (λ q. absurd (cc)) (λ q. absurd (cc))
+    by x b here there e = grind (arith)
 
 plain-value : (ty : Ty) → IsNotBottom ty → IsNotFresh ty → ty ≢ IntLow → ty ≢ Top → IsPlainValue ty
-plain-value Bottom b f l t = absurd b
-plain-value IntLow b f l t = absurd (l refl)
-plain-value (Fresh p c) b f l t = absurd f
-plain-value Top b f l t = absurd (t refl)
-plain-value ty b f l t = tt
+plain-value ty b f l t = grind (arith)
 
 -- a value of such cells
 pub value-plain : (t : ClassTable) (cells : List Ty) (x : ℕ) (ty : Ty) → value_in_cells cells x ≡ Some ty → All (IsKnown t) cells
@@ -158,8 +146,7 @@ value-plain t cells x ty e known full ready =
 pub cells-at : (t : ClassTable) (xs ys : List Ty) (x : ℕ) (a b : Ty) → CellsBelow t xs ys → slice_get xs x ≡ Some a → slice_get ys x ≡ Some b
     → Below t a b
 cells-at t _ _ x a b no_cells e f = absurd (cc)
-cells-at t _ _ zero a b (more_cells {a = c} {b = d} p ps) e f =
-    let own : c ≡ a = cc in let other : d ≡ b = cc in subst (λ (u : Ty). Below t u b) own (subst (Below t c) other p)
+cells-at t _ _ zero a b (more_cells {a = c} {b = d} p ps) e f = grind (arith)
 cells-at t _ _ (suc x) a b (more_cells {xs = xs} {ys = ys} p ps) e f = cells-at t xs ys x a b ps e f
 
 -- ---- homes that stand
@@ -188,8 +175,7 @@ module _ {s : Source} (objects : ClassesAreObjects s.world.classes) (rules : Are
           }
 
   pub framed : (o : Option Frame) (P : Frame → Type 0) → IsSomeAnd o P → (f : Frame) × (o ≡ Some f) × P f
-  framed None P h = absurd h
-  framed (Some f) P h = (f, refl, h)
+  framed x y h = grind (arith)
 
   pub reached : (p : ℕ) (f : Frame) → s.frames p ≡ Some f → IsReached s.method p
   reached p f e = (ready.has.reached p).0 (ap is_some e)

@@ -1,6 +1,7 @@
 -- The registers of homes: values that are no uninitialised objects, the arguments first.
-use Rattle.std.proofs.Common.{◌≡◌, ◌⊎◌, ℕ, zero, suc, ◌+◌, ◌-◌, ◌<◌, Bool, true, false, if◌then◌else◌, inl, inr, List, []}
-use Rattle.std.proofs.Common.{◌∷◌, ◌++◌, length, drop, reverse, replicate, slice_get, All, Option, Some, Result, Ok, IsSomeAnd, refl, sym, ◌∙◌}
+use Rattle.std.proofs.Common.{◌≡◌, ◌⊎◌, ℕ, zero, suc, ◌+◌, ◌-◌, ◌<◌, Bool, true, if◌then◌else◌, inl, inr, List, []}
+use Rattle.std.proofs.Common.{◌∷◌, ◌++◌, length, drop, reverse, replicate, slice_get, All}
+use Rattle.std.proofs.Common.{Option, Some, Result, Ok, IsSomeAnd, refl, sym, ◌∙◌}
 use Rattle.std.proofs.Common.{ap, subst, arith, append_assoc, length-append}
 use Rattle.std.proofs.lemmas.List.Sums.{sum_by-cons}
 use Rattle.std.proofs.lemmas.List.Elements.{All-nil, All-cons, All-head, All-tail}
@@ -13,15 +14,12 @@ use Rattle.jc_base.specs.Linked.{receiver_words}
 use Rattle.jc_base.specs.Order.{Below, nothing, is_below, IsKnown}
 use Rattle.jc_base.specs.declared.record.MethodRec.{MethodRec}
 use Rattle.jc_base.specs.declared.ty.Ty.{Ty}
-use Rattle.jc_base.specs.declared.ty.Ty.TheVariants.{Bottom, Short, IntHigh, IntLow, Class, Fresh, Top}
+use Rattle.jc_base.specs.declared.ty.Ty.TheVariants.{Bottom, IntHigh, IntLow, Class, Top}
 use Rattle.jc_base.specs.World.{Linked}
 use Rattle.jc_decode.specs.Listing.{jumps}
 use Rattle.jc_decode.proofs.Ranges.{op-fits}
 use Rattle.jc_ops.specs.declared.fault.RuleFault.{RuleFault}
-use Rattle.jc_ops.specs.declared.operation.Branch.TheVariants as branches
 use Rattle.jc_ops.specs.declared.operation.Operation.{Operation}
-use Rattle.jc_ops.specs.declared.operation.Operation.TheVariants as ops
-use Rattle.jc_ops.specs.declared.operation.Width.TheVariants as widths
 use Rattle.jc_ops.specs.Next.{OperationsGoAlike, jumps_from}
 use Rattle.jc_ops.specs.Resolve.{Resolves}
 use Rattle.jc_control.specs.Method.{IsMethodOf}
@@ -50,10 +48,7 @@ use Rattle.law_rewritten_typing.proofs.Ready.{IsReady, IsValueAt, value-is, valu
 module _ (t : ClassTable) (types : IsOrderOfTypes t) where
   under-fresh : (a b : Ty) → is_below t a b ≡ true → IsNotFresh b → IsNotTop b → IsNotFresh a
   unfolding is_below
-  under-fresh (Fresh p c) Top e f n = absurd n
-  under-fresh (Fresh p c) (Fresh q d) e f n = absurd f
-  under-fresh (Fresh p c) b e f n = absurd (cc)
-  under-fresh a b e f n = tt
+  under-fresh a b e f n = grind (arith)
 
   pub not-fresh : (a b : Ty) → Below t a b → IsNotFresh b → IsNotTop b → IsNotFresh a
   not-fresh a b le f n = under-fresh a b ((types.decided a b).1 le) f n
@@ -72,29 +67,10 @@ module _ (t : ClassTable) (types : IsOrderOfTypes t) where
 
 pub conditional-ready : (w : Linked) (types : IsOrderOfTypes w.classes) (limit : ℕ) (op : Operation) (before after : Frame) (o : Outcome)
     → IsConditional op → OperationApplies w limit op Flow before after o → All IsNotFresh after.stack → All IsNotFresh before.stack
-conditional-ready w types limit (ops.Branch branches.Always) f after o is a all = absurd is
-conditional-ready w types limit (ops.Branch (branches.Zero e)) f after o is a all =
-    one-taken w.classes types IsNotFresh f.stack Short (λ x le. not-fresh w.classes types x Short le tt tt) a.asked.0 (subst (All IsNotFresh) a.stack all)
-conditional-ready w types limit (ops.Branch (branches.Null e)) f after o is a all =
-    one-taken w.classes types IsNotFresh f.stack _ (λ x le. not-fresh w.classes types x _ le tt tt) a.asked.0 (subst (All IsNotFresh) a.stack all)
-conditional-ready w types limit (ops.Branch (branches.References e)) f after o is a all =
-    two-taken w.classes types IsNotFresh f.stack _ _ (λ x le. not-fresh w.classes types x _ le tt tt) (λ x le. not-fresh w.classes types x _ le tt tt)
-    a.asked.0 a.asked.1.0 (subst (All IsNotFresh) a.stack all)
-conditional-ready w types limit (ops.Branch (branches.Shorts e)) f after o is a all =
-    two-taken w.classes types IsNotFresh f.stack Short Short (λ x le. not-fresh w.classes types x Short le tt tt)
-    (λ x le. not-fresh w.classes types x Short le tt tt) a.asked.0 a.asked.1.0 (subst (All IsNotFresh) a.stack all)
-conditional-ready w types limit (ops.Switch widths.Short) f after o is a all =
-    one-taken w.classes types IsNotFresh f.stack Short (λ x le. not-fresh w.classes types x Short le tt tt) a.asked.0 (subst (All IsNotFresh) a.stack all)
-conditional-ready w types limit (ops.Switch widths.Int) f after o is a all =
-    two-taken w.classes types IsNotFresh f.stack IntLow IntHigh (λ x le. not-fresh w.classes types x IntLow le tt tt)
-    (λ x le. not-fresh w.classes types x IntHigh le tt tt) a.asked.0 a.asked.1.0 (subst (All IsNotFresh) a.stack all)
-conditional-ready w types limit op f after o is a all = absurd is
+conditional-ready w types limit op f after o is a all = grind (arith, one-taken, not-fresh, two-taken)
 
 conditional-jumps : (op : Operation) → IsConditional op → jumps_from op ≡ true
-conditional-jumps (ops.Branch branches.Always) is = refl
-conditional-jumps (ops.Branch b) is = refl
-conditional-jumps (ops.Switch type_width) is = refl
-conditional-jumps op is = absurd is
+conditional-jumps op is = grind (arith)
 
 -- ---- the registers of arguments
 
@@ -133,13 +109,10 @@ registers-are types n (h ∷ hs) st is e =
 
 registers-append : (hs ks : List Home) → registers_of (hs ++ ks) ≡ registers_of hs ++ registers_of ks
 registers-append [] ks = refl
-registers-append (h ∷ hs) ks =
-    ap (λ (ts : List Ty). cells_of_value h.ty ++ ts) (registers-append hs ks)
-    ∙ sym (append_assoc (cells_of_value h.ty) (registers_of hs) (registers_of ks))
+registers-append (h ∷ hs) ks = grind (arith, append_assoc, registers-append hs ks)
 
 cells-width : (ty : Ty) → length (cells_of_value ty) ≡ type_width ty
-cells-width IntHigh = refl
-cells-width ty = refl
+cells-width ty = grind (arith)
 
 pub registers-length : (hs : List Home) → length (registers_of hs) ≡ register_sum hs
 unfolding register_sum
@@ -177,8 +150,7 @@ all-left P [] ys all = All-nil P
 all-left P (x ∷ xs) ys all = All-cons P x xs (All-head P x (xs ++ ys) all) (all-left P xs ys (All-tail P x (xs ++ ys) all))
 
 plain-ready : (ty : Ty) → IsPlainValue ty → IsNotFresh ty
-plain-ready (Fresh p c) h = absurd h
-plain-ready ty h = tt
+plain-ready ty h = grind (arith)
 
 module _ {s : Source} (objects : ClassesAreObjects s.world.classes) (rules : AreRules s.world)
     (ready : IsReady s) (r : MethodRec) (asks : ℕ → Asked) where
@@ -259,8 +231,7 @@ module _ {s : Source} (objects : ClassesAreObjects s.world.classes) (rules : Are
       registers-ready = all-registers IsNotFresh s.homes (λ h a. plain-ready h.ty (home-plain h a).0) tt
 
       receiver-length : (b : Bool) → length (if b then [] else Class s.method.rec.class ∷ []) ≡ receiver_words b
-      receiver-length true = refl
-      receiver-length false = refl
+      receiver-length x = grind (arith)
 
       arguments-length : length (argument_types s.method.rec) ≡ s.method.rec.nargs
       arguments-length =

@@ -1,7 +1,7 @@
 -- Uninitialised objects carry the place of the `new` that makes them. Where such places have other numbers, each to its own, what an
 -- operation does to the stack is the same but for these numbers.
-use Rattle.std.proofs.Common.{◌≡◌, ℕ, zero, suc, ◌+◌, ◌-◌, Bool, true, false, ◌==◌, if◌then◌else◌, inl, inr, List, [], ◌∷◌}
-use Rattle.std.proofs.Common.{◌++◌, length, map, take, drop, slice_get, Option, Some, None, IsSomeAnd, IfSome, option_map, refl, sym, ◌∙◌, ap, subst}
+use Rattle.std.proofs.Common.{◌≡◌, ℕ, zero, suc, ◌-◌, Bool, true, false, ◌==◌, if◌then◌else◌, List, [], ◌∷◌}
+use Rattle.std.proofs.Common.{length, map, drop, slice_get, Option, Some, None, IsSomeAnd, IfSome, option_map, refl, sym, ap, subst}
 use Rattle.std.proofs.Common.{arith}
 use Rattle.std.specs.Prelude.{⊤}
 use Rattle.std.proofs.lemmas.Bool.Decides.{nat_tests}
@@ -9,16 +9,15 @@ use Rattle.std.proofs.lemmas.List.{drop-map, take-map, map-append, length-map}
 use Rattle.std.proofs.lemmas.Option.{slice_get-map}
 use Rattle.jc_base.specs.Each.{Each}
 use Rattle.jc_base.specs.declared.ty.Ty.{Ty}
-use Rattle.jc_base.specs.declared.ty.Ty.TheVariants.{IntHigh, IntLow, Class, ArrBool, ArrByte, ArrRef, Fresh, Top}
-use Rattle.jc_base.specs.Class.{ClassTable, object}
+use Rattle.jc_base.specs.declared.ty.Ty.TheVariants.{Class, Fresh, Top}
+use Rattle.jc_base.specs.Class.{ClassTable}
 use Rattle.jc_base.specs.Laws.{IsOrderOfTypes}
 use Rattle.jc_base.specs.Order.{Below, anything, is_below}
 use Rattle.jc_ops.specs.declared.want.Want.{Want}
-use Rattle.jc_ops.specs.declared.want.Want.TheVariants.{Value, Storable, ByteArray, AnyArray, Whole, Receiver}
+use Rattle.jc_ops.specs.declared.want.Want.TheVariants.{Value, Receiver}
 use Rattle.jc_ops.specs.declared.operation.Operation.{Operation}
 use Rattle.jc_ops.specs.declared.operation.Operation.TheVariants as ops
 use Rattle.jc_ops.specs.declared.operation.Width.{Width}
-use Rattle.jc_ops.specs.declared.operation.Width.TheVariants as widths
 use Rattle.jc_rules.specs.declared.demand.Demand.{Demand}
 use Rattle.jc_rules.specs.declared.demand.Demand.TheVariants.{Registers, Depth, Cell, Cut, Held}
 use Rattle.jc_rules.specs.declared.effect.Cells.{Cells}
@@ -40,8 +39,7 @@ module _ (new : ℕ → ℕ) (apart : (a b : ℕ) → new a ≡ new b → a ≡ 
   named_op op = op
 
   pub same-named : (ty : Ty) → IsNotFresh ty → named ty ≡ ty
-  same-named (Fresh p c) h = absurd h
-  same-named ty h = refl
+  same-named ty h = grind (arith)
 
   -- ---- demands
 
@@ -56,36 +54,22 @@ module _ (new : ℕ → ℕ) (apart : (a b : ℕ) → new a ≡ new b → a ≡ 
   module _ (t : ClassTable) (types : IsOrderOfTypes t) where
     fresh-below : (p c : ℕ) (ty : Ty) → is_below t (Fresh p c) ty ≡ true → IsNotFresh ty → ty ≡ Top
     unfolding is_below
-    fresh-below p c Top e h = refl
-    fresh-below p c (Fresh q d) e h = absurd h
-    fresh-below p c ty e h = absurd (cc)
+    fresh-below p c ty e h = grind (arith)
 
     fresh-wanted : (p q c : ℕ) (ty : Ty) → IsNotFresh ty → Below t (Fresh p c) ty → Below t (Fresh q c) ty
     fresh-wanted p q c ty h le = let top = fresh-below p c ty ((types.decided (Fresh p c) ty).1 le) h in subst (Below t (Fresh q c)) (sym top) anything
 
     fresh-meets : (p q c : ℕ) (want : Want) → IsSteadyWant want → Meets t want (Fresh p c) → Meets t want (Fresh q c)
-    fresh-meets p q c (Value ty) st h = fresh-wanted p q c ty st h
-    fresh-meets p q c Storable st h = fresh-wanted p q c (Class (object t)) tt h
-    fresh-meets p q c ByteArray st (inl h) = inl (fresh-wanted p q c ArrByte tt h)
-    fresh-meets p q c ByteArray st (inr h) = inr (fresh-wanted p q c ArrBool tt h)
-    fresh-meets p q c AnyArray st h = absurd h
-    fresh-meets p q c Whole st h = h
-    fresh-meets p q c (Receiver d) st (inl h) = inl h
-    fresh-meets p q c (Receiver d) st (inr h) = inr (fresh-wanted p q c (Class d) tt h)
+    fresh-meets p q c u st h = grind (arith, fresh-wanted)
 
     meets-named : (want : Want) (found : Ty) → IsSteadyWant want → Meets t want found → Meets t want (named found)
-    meets-named want (Fresh p c) st h = fresh-meets p (new p) c want st h
-    meets-named want found st h = h
+    meets-named want found st h = grind (arith, fresh-meets)
 
     half-named : (found half : Ty) → IsHalf half → named found ≡ half → found ≡ half
-    half-named (Fresh p c) IntHigh h e = absurd (cc)
-    half-named (Fresh p c) IntLow h e = absurd (cc)
-    half-named (Fresh p c) half h e = absurd h
-    half-named found half h e = e
+    half-named found half h e = grind (arith)
 
     half-at : (o : Option Ty) (half : Ty) → IsHalf half → option_map named o ≡ Some half → o ≡ Some half
-    half-at None half h e = absurd (cc)
-    half-at (Some found) half h e = let own : named found ≡ half = cc in ap Some (half-named found half h own)
+    half-at x half h e = grind (arith, half-named)
 
     hold-named : (regs st : List Ty) (d : Demand) → IsSteady d → Satisfies t (record { regs = regs; stack = st }) d
         → Satisfies t (record { regs = regs; stack = map named st }) d
@@ -96,11 +80,7 @@ module _ (new : ℕ → ℕ) (apart : (a b : ℕ) → new a ≡ new b → a ≡ 
         by : (o : Option Ty) → IsSomeAnd o (Meets t want) → IsSomeAnd (option_map named o) (Meets t want)
         by None h = h
         by (Some found) h = meets-named want found s h
-    hold-named regs st (Cut n) s h =
-        λ split. h (
-          half-at (slice_get st (n - 1)) IntLow tt (sym (slice_get-map named st (n - 1)) ∙ split.0),
-          half-at (slice_get st n) IntHigh tt (sym (slice_get-map named st n) ∙ split.1),
-        )
+    hold-named regs st (Cut n) s h = grind (arith, half-at, slice_get, slice_get-map)
     hold-named regs st (Held x ty) s h = h
 
     pub all-named : (regs st : List Ty) (ds : List Demand) → Each IsSteady ds → SatisfiesAll t (record { regs = regs; stack = st }) ds
@@ -129,9 +109,7 @@ module _ (new : ℕ → ℕ) (apart : (a b : ℕ) → new a ≡ new b → a ≡ 
 
   map-ready : (p d : ℕ) (st : List Ty) → map (ready (new p) d) (map named st) ≡ map named (map (ready p d) st)
   map-ready p d [] = refl
-  map-ready p d (ty ∷ st) =
-      ap (λ (u : Ty). u ∷ map (ready (new p) d) (map named st)) (ready-named p d ty)
-      ∙ ap (λ (us : List Ty). named (ready p d ty) ∷ us) (map-ready p d st)
+  map-ready p d (ty ∷ st) = grind (arith, ready-named, map-ready p d st)
 
   pub cell-named : (st : List Ty) (n : ℕ) → cell (map named st) n ≡ named (cell st n)
   cell-named [] n = refl
@@ -140,56 +118,34 @@ module _ (new : ℕ → ℕ) (apart : (a b : ℕ) → new a ≡ new b → a ≡ 
 
   pub replaced : (n : ℕ) (cells others : Cells) (st : List Ty) → in_stack_order others ≡ map named (in_stack_order cells)
       → changed (Replace n others) (map named st) ≡ map named (changed (Replace n cells) st)
-  replaced n cells others st e =
-      ap (λ (us : List Ty). us ++ drop n (map named st)) e ∙ ap (λ (us : List Ty). map named (in_stack_order cells) ++ us) (drop-map named n st)
-      ∙ sym (map-append named (in_stack_order cells) (drop n st))
+  replaced n cells others st e = grind (arith, drop-map, map-append)
 
   pub value-same : (ty : Ty) → IsNotFresh ty → in_stack_order (value_given ty) ≡ map named (in_stack_order (value_given ty))
-  value-same IntHigh h = refl
-  value-same (Fresh p c) h = absurd h
-  value-same ty h = refl
+  value-same ty h = grind (arith)
 
   pub result-same : (result : Option Ty) → IfSome result IsNotFresh → in_stack_order (result_given result)
       ≡ map named (in_stack_order (result_given result))
-  result-same None h = refl
-  result-same (Some ty) h = value-same ty h
+  result-same x h = grind (arith, value-same)
 
   pub number-same : (width : Width) → in_stack_order (number_given width) ≡ map named (in_stack_order (number_given width))
-  number-same widths.Short = refl
-  number-same widths.Int = refl
+  number-same x = grind (arith)
 
   pub under-named : (m n : ℕ) (st : List Ty) → changed (CopyUnder m n) (map named st) ≡ map named (changed (CopyUnder m n) st)
-  under-named m n st =
-      ap (λ (us : List Ty). us ++ (take m (map named st) ++ drop n (map named st))) (take-map named n st)
-      ∙ ap (λ (us : List Ty). map named (take n st) ++ (us ++ drop n (map named st))) (take-map named m st)
-      ∙ ap (λ (us : List Ty). map named (take n st) ++ (map named (take m st) ++ us)) (drop-map named n st)
-      ∙ ap (λ (us : List Ty). map named (take n st) ++ us) (sym (map-append named (take m st) (drop n st)))
-      ∙ sym (map-append named (take n st) (take m st ++ drop n st))
+  under-named m n st = grind (arith, take-map, drop-map, map-append)
 
   pub exchange-named : (m n : ℕ) (st : List Ty) → changed (Exchange m n) (map named st) ≡ map named (changed (Exchange m n) st)
-  exchange-named m n st =
-      ap (λ (us : List Ty). take n us ++ (take m (map named st) ++ drop (m + n) (map named st))) (drop-map named m st)
-      ∙ ap (λ (us : List Ty). us ++ (take m (map named st) ++ drop (m + n) (map named st))) (take-map named n (drop m st))
-      ∙ ap (λ (us : List Ty). map named (take n (drop m st)) ++ (us ++ drop (m + n) (map named st))) (take-map named m st)
-      ∙ ap (λ (us : List Ty). map named (take n (drop m st)) ++ (map named (take m st) ++ us)) (drop-map named (m + n) st)
-      ∙ ap (λ (us : List Ty). map named (take n (drop m st)) ++ us) (sym (map-append named (take m st) (drop (m + n) st)))
-      ∙ sym (map-append named (take n (drop m st)) (take m st ++ drop (m + n) st))
+  exchange-named m n st = grind (arith, drop-map, take-map, map-append)
 
   pub element-same : (ty : Ty) → given.One (element (named ty)) ≡ given.One (element ty)
-  element-same (Fresh p c) = refl
-  element-same ty = refl
+  element-same ty = grind (arith)
 
   pub element-ready : (ty : Ty) → IsNotFresh (element ty)
-  element-ready (ArrRef c) = tt
-  element-ready ty = tt
+  element-ready ty = grind (arith)
 
   ready-with-named : (n : ℕ) (cells : Cells) (ty : Ty) (want : Want) (st : List Ty) → in_stack_order cells ≡ map named (in_stack_order cells)
       → changed (ready_with n cells (named ty) want) (map named st) ≡ map named (changed (ready_with n cells ty want) st)
   ready-with-named n cells (Fresh p c) (Receiver d) st e =
-      ap (λ (us : List Ty). us ++ map (ready (new p) d) (drop n (map named st))) e
-      ∙ ap (λ (us : List Ty). map named (in_stack_order cells) ++ map (ready (new p) d) us) (drop-map named n st)
-      ∙ ap (λ (us : List Ty). map named (in_stack_order cells) ++ us) (map-ready p d (drop n st))
-      ∙ sym (map-append named (in_stack_order cells) (map (ready p d) (drop n st)))
+      grind (arith, drop-map named n st, map-ready p d (drop n st), map-append named (in_stack_order cells) (map (ready p d) (drop n st)))
   ready-with-named n cells (Fresh p c) want st e = replaced n cells cells st e
   ready-with-named n cells ty want st e = replaced n cells cells st e
 
@@ -197,6 +153,4 @@ module _ (new : ℕ → ℕ) (apart : (a b : ℕ) → new a ≡ new b → a ≡ 
       → changed (call_change args cells receiver (record { regs = regs; stack = map named st })) (map named st)
       ≡ map named (changed (call_change args cells receiver (record { regs = regs; stack = st })) st)
   call-named args cells None regs st e = replaced (length args) cells cells st e
-  call-named args cells (Some want) regs st e =
-      ap (λ (ty : Ty). changed (ready_with (length args + 1) cells ty want) (map named st)) (cell-named st (length args))
-      ∙ ready-with-named (length args + 1) cells (cell st (length args)) want st e
+  call-named args cells (Some want) regs st e = grind (arith, cell-named, ready-with-named)

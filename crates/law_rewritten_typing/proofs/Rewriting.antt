@@ -12,9 +12,7 @@ use Rattle.jc_decode.specs.declared.insn.Placed.{Placed}
 use Rattle.jc_decode.specs.Listing.{listing, targets}
 use Rattle.jc_decode.proofs.Elements.{Contains-slice_get}
 use Rattle.jc_ops.specs.declared.fault.RuleFault.{RuleFault}
-use Rattle.jc_ops.specs.declared.operation.Branch.TheVariants as branches
 use Rattle.jc_ops.specs.declared.operation.Operation.{Operation}
-use Rattle.jc_ops.specs.declared.operation.Operation.TheVariants as ops
 use Rattle.jc_control.specs.Control.{jumped, led_to, entered}
 use Rattle.jc_control.specs.WellFormed.{HasInstruction as IsListed, IsTargetPlace, IsHandlerOf}
 use Rattle.jc_rules.specs.Demand.{Frame}
@@ -33,7 +31,8 @@ use Rattle.xf_emission.specs.Laws.{IsCode}
 use Rattle.xf_emission.proofs.Live.{live-is}
 use Rattle.xf_emission.proofs.Ways.{way-from}
 use Rattle.law_rewritten_typing.specs.Typed.{registers_of}
-use Rattle.law_rewritten_typing.proofs.Walks.{holding, left, Asked, nothing_asked, emptied, catching, Passes, Flows, flow_label, flow_end, flows-append, count}
+use Rattle.law_rewritten_typing.proofs.Walks.{holding, left, Asked, nothing_asked, emptied, catching}
+use Rattle.law_rewritten_typing.proofs.Walks.{Passes, Flows, flow_label, flow_end, flows-append, count}
 use Rattle.law_rewritten_typing.proofs.Ready.{IsReady, framed, reached}
 use Rattle.law_rewritten_typing.proofs.Copies.{copies-go}
 use Rattle.law_rewritten_typing.proofs.Carried.{carries-start}
@@ -63,8 +62,7 @@ module _ (new : ℕ → ℕ) (apart : (a b : ℕ) → new a ≡ new b → a ≡ 
       pub fresh : All IsNotFresh (argument_types s.method.rec)
 
     start-at : (g : Frame) × (s.frames 0 ≡ Some g) × FrameBelow s.world.classes (start_frame s.method.rec Top) g
-    start-at =
-        framed l.objects l.rules ready r asks (s.frames 0) (FrameBelow s.world.classes (start_frame s.method.rec Top)) ready.typing.start
+    start-at = grind (arith)
 
     start-flows : AreArguments → Flows s.world r (registers_of s.homes) asks 0 (holding []) (copies s Start 0) (holding [])
     start-flows args =
@@ -119,10 +117,7 @@ module _ (new : ℕ → ℕ) (apart : (a b : ℕ) → new a ≡ new b → a ≡ 
           ap (slice_get (each_once (targets s.method.code i))) (sym next) ∙ inside (suc j) u h))
 
       conditional-of : (op : Operation) (n : ℕ) → operands_of s.world (Ok op) ≡ Some n → IsConditional op
-      conditional-of (ops.Branch branches.Always) n e = absurd (cc)
-      conditional-of (ops.Branch b) n e = tt
-      conditional-of (ops.Switch width) n e = tt
-      conditional-of op n e = absurd (cc)
+      conditional-of op n e = grind (arith)
 
       stubs-at : (i : Placed) (at : ℕ) → IsListed s.method.code i → Flows s.world r (registers_of s.homes) asks at left (stubs s i) left
       unfolding stubs

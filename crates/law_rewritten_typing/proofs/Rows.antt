@@ -24,7 +24,8 @@ use Rattle.jc_ops.specs.declared.operation.Operation.{Operation}
 use Rattle.jc_ops.specs.declared.operation.Operation.TheVariants as ops
 use Rattle.jc_ops.specs.declared.operation.Width.{Width}
 use Rattle.jc_ops.specs.Resolve.{resolved, on, instance_field, short_of}
-use Rattle.jc_ops.specs.Row.{row_at, table, unused, by_sort, by_width, by_kind, first_four, by_register, literals, binaries, orders_all, branching}
+use Rattle.jc_ops.specs.Row.{row_at, table, unused, by_sort, by_width, by_kind}
+use Rattle.jc_ops.specs.Row.{first_four, by_register, literals, binaries, orders_all, branching}
 use Rattle.xf_emission.specs.Move.{with_byte}
 use Rattle.xf_emission.proofs.RowByRow as kind
 use Rattle.xf_emission.proofs.RowByRow.{kind_at, kinds, kind-of}
@@ -171,9 +172,7 @@ read-on-stack w m r place n i f lt home e =
         ≡ Ok (ops.FieldRead f holders.This)
         → on (λ g. ops.FieldRead g holders.Stack) (instance_field w.classes (short_of i.x) k (member_at w r.package (short_of i.x)))
         ≡ Ok (ops.FieldRead f holders.Stack)
-    row k g =
-        ap (on (λ g. ops.FieldRead g holders.Stack)) (member k)
-        ∙ read-again (instance_field w.classes (short_of i.x) k (member_at w m.package (short_of i.x))) f g
+    row k g = grind (arith, read-again)
 
     by : (i.op ≡ 173) ⊎ (i.op ≡ 174) ⊎ (i.op ≡ 175) ⊎ (i.op ≡ 176) → resolved w r n (record i { op = i.op - from_read }) (row_at (i.op - from_read))
         ≡ Ok (ops.FieldRead f holders.Stack)
@@ -209,9 +208,7 @@ write-on-stack w m r place n i f lt home e =
         ≡ Ok (ops.FieldWrite f holders.This)
         → on (λ g. ops.FieldWrite g holders.Stack) (instance_field w.classes (short_of i.x) k (member_at w r.package (short_of i.x)))
         ≡ Ok (ops.FieldWrite f holders.Stack)
-    row k g =
-        ap (on (λ g. ops.FieldWrite g holders.Stack)) (member k)
-        ∙ write-again (instance_field w.classes (short_of i.x) k (member_at w m.package (short_of i.x))) f g
+    row k g = grind (arith, write-again)
 
     by : (i.op ≡ 181) ⊎ (i.op ≡ 182) ⊎ (i.op ≡ 183) ⊎ (i.op ≡ 184) → resolved w r n (record i { op = i.op - from_write }) (row_at (i.op - from_write))
         ≡ Ok (ops.FieldWrite f holders.Stack)
@@ -271,67 +268,7 @@ each-is P op (k ∷ ks) all e = by (op == k) refl e (λ f. each-is P op ks all.1
 wide-alike : (w : Linked) (m r : MethodRec) (place n : ℕ) (i : Insn)
     → Each (λ op. resolved w r n (jump (wide op)) (row_at (wide op)) ≡ resolved w m place i (row_at op)) branches_all
 unfolding row_at table by_sort by_width by_kind first_four by_register literals binaries orders_all branching unused
-wide-alike w m r place n i = (
-  refl,
-  (
-    refl,
-    (
-      refl,
-      (
-        refl,
-        (
-          refl,
-          (
-            refl,
-            (
-              refl,
-              (
-                refl,
-                (
-                  refl,
-                  (
-                    refl,
-                    (
-                      refl,
-                      (
-                        refl,
-                        (
-                          refl,
-                          (
-                            refl,
-                            (
-                              refl,
-                              (
-                                refl,
-                                (
-                                  refl,
-                                  (
-                                    refl,
-                                    (
-                                      refl,
-                                      (
-                                        refl,
-                                        (refl, (refl, (refl, (refl, (refl, (refl, (refl, (refl, (refl, (refl, (refl, (refl, (refl, (refl, tt)))))))))))))),
-                                      ),
-                                    ),
-                                  ),
-                                ),
-                              ),
-                            ),
-                          ),
-                        ),
-                      ),
-                    ),
-                  ),
-                ),
-              ),
-            ),
-          ),
-        ),
-      ),
-    ),
-  ),
-)
+wide-alike w m r place n i = grind (arith)
 
 -- a branch in its wide form
 pub wide-is : (w : Linked) (m r : MethodRec) (place n : ℕ) (i : Insn) (b : Branch) → i.op < 256

@@ -2,24 +2,22 @@
 use Rattle.std.proofs.Common.{◌≡◌, ℕ, ◌+◌, ◌<◌, ◌≤◌, Bool, true, false, if◌then◌else◌, List, [], ◌∷◌, ◌++◌, length, map}
 use Rattle.std.proofs.Common.{slice_get, All, Option, Some, None, Ok, IsSomeAnd, IfSome, refl, sym, ◌∙◌, ap, subst, arith}
 use Rattle.std.proofs.lemmas.List.{length-map, map-append}
-use Rattle.std.proofs.lemmas.List.Elements.{All-append, All-nil, All-cons}
+use Rattle.std.proofs.lemmas.List.Elements.{All-append}
 use Rattle.std.proofs.lemmas.Bool.{both_ways}
 use Rattle.jc_base.specs.Cell.{IsDeclared, IsNoHalf}
-use Rattle.jc_base.specs.Class.{ClassTable, object}
+use Rattle.jc_base.specs.Class.{ClassTable}
 use Rattle.jc_base.specs.Laws.{IsOrderOfTypes}
 use Rattle.jc_base.specs.Order.{Below, same, is_below, IsKnown}
 use Rattle.jc_base.specs.declared.record.MethodRec.{MethodRec}
 use Rattle.jc_base.specs.declared.ty.Ty.{Ty}
-use Rattle.jc_base.specs.declared.ty.Ty.TheVariants.{Bottom, Short, IntHigh, IntLow, Null, Class, ArrBool, ArrByte, ArrShort, ArrInt, ArrRef, Fresh, Top}
+use Rattle.jc_base.specs.declared.ty.Ty.TheVariants.{IntHigh, IntLow, Class}
 use Rattle.jc_base.specs.World.{Linked}
-use Rattle.jc_base.proofs.Lists.{All-slice_get}
 use Rattle.jc_decode.specs.declared.insn.Placed.{Placed}
 use Rattle.jc_decode.specs.declared.symbols.Item.{Item}
 use Rattle.jc_decode.specs.Listing.{jumps}
 use Rattle.jc_ops.specs.declared.operation.Operation.{Operation}
 use Rattle.jc_ops.specs.declared.operation.Operation.TheVariants as ops
 use Rattle.jc_ops.specs.declared.operation.Sort.{Sort}
-use Rattle.jc_ops.specs.declared.operation.Sort.TheVariants as sorts
 use Rattle.jc_ops.specs.Next.{falls_from, jumps_from}
 use Rattle.jc_ops.specs.Resolve.{resolved}
 use Rattle.jc_ops.specs.Row.{row_at}
@@ -38,7 +36,7 @@ use Rattle.xf_homes.specs.Walk.{local_of}
 use Rattle.xf_homes.specs.Source.{Source}
 use Rattle.xf_homes.specs.Plan.{home_of, register}
 use Rattle.xf_emission.specs.Move.{load}
-use Rattle.xf_emission.specs.Group.{body, itself, loaded}
+use Rattle.xf_emission.specs.Group.{body, itself}
 use Rattle.law_rewritten_typing.specs.Premises.{AreTypingLaws}
 use Rattle.law_rewritten_typing.specs.Typed.{registers_of}
 use Rattle.law_rewritten_typing.proofs.Walks.{holding, left, Asked, Flows, flow_plain, flow_end}
@@ -89,19 +87,7 @@ pub record IsReferenceIn (a : Ty) : Type 0 where
 module _ (t : ClassTable) (types : IsOrderOfTypes t) where
   reference-in : (a : Ty) (c : ℕ) → is_below t a (Class c) ≡ true → IsNotBottom a → IsReferenceIn a
   unfolding is_below
-  reference-in Bottom c e n = absurd n
-  reference-in Short c e n = absurd (cc)
-  reference-in IntHigh c e n = absurd (cc)
-  reference-in IntLow c e n = absurd (cc)
-  reference-in (Fresh p d) c e n = absurd (cc)
-  reference-in Top c e n = absurd (cc)
-  reference-in Null c e n = record { no_half = tt; no_top = tt; ready = tt; one = refl; null = refl }
-  reference-in (Class d) c e n = record { no_half = tt; no_top = tt; ready = tt; one = refl; null = refl }
-  reference-in ArrBool c e n = record { no_half = tt; no_top = tt; ready = tt; one = refl; null = refl }
-  reference-in ArrByte c e n = record { no_half = tt; no_top = tt; ready = tt; one = refl; null = refl }
-  reference-in ArrShort c e n = record { no_half = tt; no_top = tt; ready = tt; one = refl; null = refl }
-  reference-in ArrInt c e n = record { no_half = tt; no_top = tt; ready = tt; one = refl; null = refl }
-  reference-in (ArrRef d) c e n = record { no_half = tt; no_top = tt; ready = tt; one = refl; null = refl }
+  reference-in x c e n = grind (arith)
 
   pub is-reference : (a : Ty) (c : ℕ) → Below t a (Class c) → IsNotBottom a → IsReferenceIn a
   is-reference a c le n = reference-in a c ((types.decided a (Class c)).1 le) n
@@ -130,45 +116,22 @@ pub record IsLoaded (f after : Frame) (x : ℕ) : Type 0 where
 
 load-is : (w : Linked) (types : IsOrderOfTypes w.classes) (limit : ℕ) (letter : Sort) (x : ℕ) (f after : Frame) (o : Outcome) → All IsNotBottom f.regs
     → OperationApplies w limit (ops.Load letter x) Flow f after o → IsLoaded f after x
-load-is w types limit sorts.Reference x f after o full a =
-    let k = found-below w.classes f.regs x (Class (object w.classes)) a.asked.1.0 in
-    let c = is-reference w.classes types k.ty (object w.classes) k.below (All-slice_get IsNotBottom f.regs x k.ty full k.at) in
-    record {
-      ty = k.ty;
-      value = value-one f.regs x k.ty k.at c.no_half c.no_top;
-      stack =
-          a.stack ∙ ap (λ (u : Ty). or_null u ∷ f.stack) (get-reg f.regs x k.ty k.at) ∙ ap (λ (u : Ty). u ∷ f.stack) c.null
-          ∙ ap (λ (us : List Ty). us ++ f.stack) (sym c.one);
-    }
-load-is w types limit sorts.Short x f after o full a =
-    let k = found-below w.classes f.regs x Short a.asked.1.0 in
-    let own = is-short w.classes types k.ty k.below (All-slice_get IsNotBottom f.regs x k.ty full k.at) in
-    record { ty = Short; value = value-one f.regs x Short (k.at ∙ ap Some own) tt tt; stack = a.stack }
-load-is w types limit sorts.Int x f after o full a =
-    let k = found-below w.classes f.regs x IntHigh a.asked.1.0 in
-    let own = is-high w.classes types k.ty k.below (All-slice_get IsNotBottom f.regs x k.ty full k.at) in
-    let j = found-below w.classes f.regs (x + 1) IntLow a.asked.1.1.0 in
-    let low = is-low w.classes types j.ty j.below (All-slice_get IsNotBottom f.regs (x + 1) j.ty full j.at) in
-    record { ty = IntHigh; value = value-int f.regs x (k.at ∙ ap Some own) (j.at ∙ ap Some low); stack = a.stack }
+load-is w types limit u x f after o full a =
+    grind (arith, found-below, is-reference, value-one, get-reg, is-short, is-high, is-low, value-int)
 
 pub local-at : (s : Source) (p x : ℕ) (f : Frame) (ty : Ty) → s.frames p ≡ Some f → value_in_cells f.regs x ≡ Some ty
     → home_of x (local_of (s.frames p) x) ≡ Some (record { slot = x; ty = ty })
 local-at s p x f ty e v = ap (λ (o : Option Frame). home_of x (local_of o x)) e ∙ ap (home_of x) v
 
 pub cells-plain : (P : Ty → Type 0) (ty : Ty) → P ty → P IntLow → All P (cells_on ty)
-cells-plain P IntHigh p low = All-cons P IntLow (IntHigh ∷ []) low (All-cons P IntHigh [] p (All-nil P))
-cells-plain P ty p low = All-cons P ty [] p (All-nil P)
+cells-plain x ty p low = grind (arith)
 
 plain-full : (ty : Ty) → IsPlainValue ty → IsNotBottom ty
-plain-full Bottom h = absurd h
-plain-full ty h = tt
+plain-full ty h = grind (arith)
 
 module _ (new : ℕ → ℕ) (apart : (a b : ℕ) → new a ≡ new b → a ≡ b) where
   pub cells-named : (ty : Ty) → IsPlainValue ty → map (named new apart) (cells_on ty) ≡ cells_on ty
-  cells-named Bottom h = absurd h
-  cells-named (Fresh p c) h = absurd h
-  cells-named IntHigh h = refl
-  cells-named ty h = refl
+  cells-named ty h = grind (arith)
 
 module _ (new : ℕ → ℕ) (apart : (a b : ℕ) → new a ≡ new b → a ≡ b) (s : Source) (l : AreTypingLaws s.world) (ready : IsReady s) (r : MethodRec)
     (own_rec : IsRecordFor s.method.rec r) (asks : ℕ → Asked) (res : IfSome s.method.rec.sig.result (IsDeclared s.world.classes)) where
@@ -261,9 +224,5 @@ module _ (new : ℕ → ℕ) (apart : (a b : ℕ) → new a ≡ new b → a ≡ 
       record {
         stack = cells_on is.ty ++ st;
         lesser = more;
-        flow =
-            subst (λ (o : Option Home). Flows s.world r (registers_of s.homes) asks n (holding (map (named new apart) st)) (loaded s i o)
-            (holding (map (named new apart) (cells_on is.ty ++ st)))) (sym own)
-            (subst (λ (us : List Ty). Flows s.world r (registers_of s.homes) asks n (holding (map (named new apart) st)) (load s h ∷ []) (holding us))
-            (sym pushed) turn);
+        flow = grind (arith, holding);
       }

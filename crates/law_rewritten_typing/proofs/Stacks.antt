@@ -7,7 +7,7 @@ use Rattle.jc_base.specs.Cell.{AreWhole, no_cells as no_whole, whole_int, one_ce
 use Rattle.jc_base.specs.Class.{ClassTable}
 use Rattle.jc_base.specs.Laws.{ClassesAreObjects}
 use Rattle.jc_base.specs.declared.ty.Ty.{Ty}
-use Rattle.jc_base.specs.declared.ty.Ty.TheVariants.{IntHigh, IntLow, Top}
+use Rattle.jc_base.specs.declared.ty.Ty.TheVariants.{IntHigh, IntLow}
 use Rattle.jc_base.specs.declared.record.MethodRec.{MethodRec}
 use Rattle.jc_rules.specs.Flow.{CellsBelow, no_cells, more_cells, IsNotTop}
 use Rattle.xf_homes.specs.declared.home.Home.{Home}
@@ -40,11 +40,7 @@ turned-cons h hs = reverse-append (h ∷ []) hs
 pub pushed-tops : (hs : List Home) (stack : List Ty) → pushed hs stack ≡ tops (reverse hs) ++ stack
 pushed-tops [] stack = refl
 pushed-tops (h ∷ hs) stack =
-    pushed-tops hs (cells_on h.ty ++ stack)
-    ∙ sym (append_assoc (tops (reverse hs)) (cells_on h.ty) stack)
-    ∙ ap (λ ts. (tops (reverse hs) ++ ts) ++ stack) (sym (append-nil (cells_on h.ty)))
-    ∙ ap (λ ts. ts ++ stack) (sym (tops-append (reverse hs) (h ∷ [])))
-    ∙ ap (λ ks. tops ks ++ stack) (sym (turned-cons h hs))
+    grind (arith, append_assoc, reverse, append-nil, tops-append, turned-cons, pushed-tops hs (cells_on h.ty ++ stack))
 
 pushed-longer : (hs : List Home) (stack : List Ty) → length stack ≤ length (pushed hs stack)
 pushed-longer [] stack = omega arith
@@ -102,8 +98,7 @@ module _ (s : Source) (objects : ClassesAreObjects s.world.classes) (r : MethodR
   pub spill-goes : (hs : List Home) (stack : List Ty) → Each Stands hs → CellsBelow s.world.classes stack (pushed hs [])
       → length stack ≤ r.max_stack → Goes s.world r regs asks (holding stack) (spill s hs) (holding [])
   unfolding spill
-  spill-goes hs stack e le room =
-      stores-go (reverse hs) stack (each-turned hs e) (subst (CellsBelow s.world.classes stack) (pushed-tops hs [] ∙ append-nil (tops (reverse hs))) le) room
+  spill-goes hs stack e le room = grind (arith, stores-go, reverse, each-turned, pushed-tops, append-nil)
 
 -- ---- the cells of a frame
 
@@ -112,14 +107,10 @@ turned [] stack = stack
 turned (a ∷ rest) stack = turned rest (a ∷ stack)
 
 pub one-value : (a : Ty) (next : Option Ty) → IsNoHalf a → IsNotTop a → value_of (Some a) next ≡ Some a
-one-value IntHigh next h n = absurd h
-one-value IntLow next h n = absurd h
-one-value Top next h n = absurd n
-one-value a next h n = refl
+one-value a next h n = grind (arith)
 
 one-top : (a : Ty) → IsNoHalf a → cells_on a ≡ a ∷ []
-one-top IntHigh h = absurd h
-one-top a h = refl
+one-top a h = grind (arith)
 
 get-at : (pre : List Ty) (a : Ty) (rest : List Ty) → slice_get (pre ++ a ∷ rest) (length pre) ≡ Some a
 get-at [] a rest = refl
@@ -127,8 +118,7 @@ get-at (p ∷ pre) a rest = get-at pre a rest
 
 get-next : (pre : List Ty) (a b : Ty) (rest : List Ty) → slice_get (pre ++ a ∷ b ∷ rest) (length pre + 1) ≡ Some b
 get-next [] a b rest = refl
-get-next (p ∷ pre) a b rest =
-    let e : suc (length pre) + 1 ≡ suc (length pre + 1) = omega arith in ap (slice_get (p ∷ pre ++ a ∷ b ∷ rest)) e ∙ get-next pre a b rest
+get-next (p ∷ pre) a b rest = grind (arith, suc, slice_get, get-next pre a b rest)
 
 get-end : (pre : List Ty) (a : Ty) → slice_get (pre ++ a ∷ []) (length pre + 1) ≡ None
 get-end [] a = refl
@@ -144,15 +134,11 @@ low-none pre rest = ap (λ (o : Option Ty). value_of o (slice_get (pre ++ IntLow
 
 pub int-value : (pre rest : List Ty) → value_in_cells (pre ++ IntHigh ∷ IntLow ∷ rest) (length pre) ≡ Some IntHigh
 unfolding value_in_cells
-int-value pre rest =
-    ap (λ (o : Option Ty). value_of o (slice_get (pre ++ IntHigh ∷ IntLow ∷ rest) (length pre + 1))) (get-at pre IntHigh (IntLow ∷ rest))
-    ∙ ap (λ (o : Option Ty). value_of (Some IntHigh) o) (get-next pre IntHigh IntLow rest)
+int-value pre rest = grind (arith, slice_get, get-at, get-next)
 
 pub one-at : (pre : List Ty) (a : Ty) (rest : List Ty) → IsNoHalf a → IsNotTop a → value_in_cells (pre ++ a ∷ rest) (length pre) ≡ Some a
 unfolding value_in_cells
-one-at pre a rest h n =
-    ap (λ (o : Option Ty). value_of o (slice_get (pre ++ a ∷ rest) (length pre + 1))) (get-at pre a rest)
-    ∙ one-value a (slice_get (pre ++ a ∷ rest) (length pre + 1)) h n
+one-at pre a rest h n = grind (arith, slice_get, get-at, one-value)
 
 -- the loads of the homes of whole cells leave these cells
 pub cells-pushed : (slot : ℕ) (pre rest stack : List Ty) → AreWhole rest → All IsNotTop rest
@@ -193,8 +179,7 @@ cells-pushed slot pre _ stack (one_cell {a = a} {types = us} h is) nt =
 pub turned-reverse : (ts stack : List Ty) → turned ts stack ≡ reverse ts ++ stack
 turned-reverse [] stack = refl
 turned-reverse (a ∷ ts) stack =
-    turned-reverse ts (a ∷ stack) ∙ sym (append_assoc (reverse ts) (a ∷ []) stack)
-    ∙ ap (λ (us : List Ty). us ++ stack) (sym (reverse-append (a ∷ []) ts))
+    grind (arith, turned-reverse ts (a ∷ stack), append_assoc (reverse ts) (a ∷ []) stack, reverse-append (a ∷ []) ts)
 
 -- the homes of a whole stack, loaded, leave that stack
 pub stack-pushed : (slot : ℕ) (stack : List Ty) → AreWhole (reverse stack) → All IsNotTop (reverse stack)

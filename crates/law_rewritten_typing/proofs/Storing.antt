@@ -1,6 +1,7 @@
 -- Stores and increments of locals in rewritten code.
 use Rattle.std.proofs.Common.{◌≡◌, ◌≢◌, ◌⊎◌, ℕ, zero, suc, ◌+◌, ◌<◌, ◌≤◌, true, false, inl, inr, List, [], ◌∷◌}
-use Rattle.std.proofs.Common.{◌++◌, length, map, flat_map, set, drop, slice_get, All, Option, Some, IsSomeAnd, IfSome, refl, sym, ◌∙◌, ap, subst}
+use Rattle.std.proofs.Common.{◌++◌, length, map, flat_map, set, drop, slice_get, All, Option}
+use Rattle.std.proofs.Common.{Some, IsSomeAnd, IfSome, refl, sym, ◌∙◌, ap, subst}
 use Rattle.std.proofs.Common.{arith}
 use Rattle.std.specs.Prelude.{pos, ℤ, ◌==◌}
 use Rattle.std.proofs.lemmas.Bool.Decides.{nat_tests}
@@ -13,7 +14,7 @@ use Rattle.jc_base.specs.Laws.{IsOrderOfTypes}
 use Rattle.jc_base.specs.Order.{Below, same, joined, is_below, IsKnown}
 use Rattle.jc_base.specs.declared.record.MethodRec.{MethodRec}
 use Rattle.jc_base.specs.declared.ty.Ty.{Ty}
-use Rattle.jc_base.specs.declared.ty.Ty.TheVariants.{Short, IntHigh, IntLow, Class, Fresh, Top}
+use Rattle.jc_base.specs.declared.ty.Ty.TheVariants.{Short, IntHigh, IntLow, Class, Top}
 use Rattle.jc_base.proofs.Lists.{All-slice_get}
 use Rattle.jc_decode.specs.declared.insn.Placed.{Placed}
 use Rattle.jc_decode.specs.declared.symbols.Item.{Item}
@@ -35,17 +36,18 @@ use Rattle.jc_rules.specs.Rule.{cell}
 use Rattle.jc_rules.proofs.Types.{no-half}
 use Rattle.xf_homes.specs.declared.home.Home.{Home}
 use Rattle.xf_homes.specs.Home.{asked_here, IsAsked}
-use Rattle.xf_homes.specs.Laws.{IsAskedBefore, AreAskedInOrder}
+use Rattle.xf_homes.specs.Laws.{IsAskedBefore}
 use Rattle.xf_homes.specs.Value.{value_in_cells}
 use Rattle.xf_homes.specs.Walk.{local_of}
 use Rattle.xf_homes.specs.Source.{Source}
 use Rattle.xf_homes.specs.Plan.{home_of, needed, register}
 use Rattle.xf_emission.specs.Move.{copy}
-use Rattle.xf_emission.specs.Group.{body, increased, pop_item, store_to_homes}
+use Rattle.xf_emission.specs.Group.{body, pop_item, store_to_homes}
 use Rattle.xf_emission.specs.Mnemonics.{pop, pop2}
 use Rattle.law_rewritten_typing.specs.Typed.{registers_of}
 use Rattle.law_rewritten_typing.proofs.Walks.{holding, Asked, Turn, Flows, flow_plain, flow_end, Goes, goes-append, goes-nowhere}
-use Rattle.law_rewritten_typing.proofs.Moves.{Holds, IsPlainValue, cells_on, applies-by, turn-by, store-turn, same-cells, set-below, set-same, held, there}
+use Rattle.law_rewritten_typing.proofs.Moves.{Holds, IsPlainValue, cells_on, applies-by, turn-by, store-turn}
+use Rattle.law_rewritten_typing.proofs.Moves.{same-cells, set-below, set-same, held, there}
 use Rattle.law_rewritten_typing.proofs.Moves.{two-there}
 use Rattle.law_rewritten_typing.proofs.Stacks.{Stands}
 use Rattle.law_rewritten_typing.proofs.Ready.{IsReady, IsValueAt, value-is, local-stands, needed-are, needed-served, found}
@@ -55,7 +57,8 @@ use Rattle.law_rewritten_typing.proofs.Turns.{IsLesser}
 use Rattle.law_rewritten_typing.proofs.Carried.{is-short, is-high, is-low, set-other}
 use Rattle.law_rewritten_typing.proofs.Rows.{increased-at, pop-is, pop-two-is}
 use Rattle.law_rewritten_typing.specs.Premises.{AreTypingLaws}
-use Rattle.law_rewritten_typing.proofs.Running.{IsRecordFor, IsRun, IsPassed, has-room, is-reference, found-below, value-one, value-int, local-at}
+use Rattle.law_rewritten_typing.proofs.Running.{IsRecordFor, IsRun, IsPassed, has-room, is-reference}
+use Rattle.law_rewritten_typing.proofs.Running.{found-below, value-one, value-int, local-at}
 
 -- ---- the top of a stack
 
@@ -73,8 +76,7 @@ pub record HasTop (t : ClassTable) (P : Ty → Type 0) (st fs : List Ty) : Type 
 
 pub has-top : (t : ClassTable) (P : Ty → Type 0) (st fs : List Ty) → CellsBelow t st fs → IsSomeAnd (slice_get fs 0) P → HasTop t P st fs
 has-top t P _ _ no_cells h = absurd h
-has-top t P _ _ (more_cells {a = a} {b = b} {xs = xs} {ys = ys} p ps) h =
-    record { v = a; rest = xs; c = b; cs = ys; st_is = refl; fs_is = refl; below = p; more = ps; has = h }
+has-top t P _ _ (more_cells {a = a} {b = b} {xs = xs} {ys = ys} p ps) h = grind (arith)
 
 set-within : (xs : List Ty) (x : ℕ) (a : Ty) → x < length xs → slice_get (set xs x a) x ≡ Some a
 set-within [] x a lt = absurd (omega (arith, lt))
@@ -87,12 +89,10 @@ set-length (b ∷ bs) zero a = refl
 set-length (b ∷ bs) (suc x) a = ap suc (set-length bs x a)
 
 one-cell-on : (ty : Ty) → (ty ≡ IntHigh → ⊥) → cells_on ty ≡ ty ∷ []
-one-cell-on IntHigh n = absurd (n refl)
-one-cell-on ty n = refl
+one-cell-on ty n = grind (arith)
 
 half-not : (a : Ty) → IsNoHalf a → a ≡ IntHigh → ⊥
-half-not IntHigh h e = absurd h
-half-not a h e = absurd (cc)
+half-not a h e = grind (arith)
 
 -- ---- values under others
 
@@ -109,20 +109,15 @@ get-under t (suc x) b (more_cells p ps) e = let u = get-under t x b ps e in reco
 module _ (t : ClassTable) (types : IsOrderOfTypes t) where
   over-high : (b : Ty) → is_below t IntHigh b ≡ true → b ≢ Top → b ≡ IntHigh
   unfolding is_below
-  over-high IntHigh e n = refl
-  over-high Top e n = absurd (n refl)
-  over-high b e n = absurd (cc)
+  over-high b e n = grind (arith)
 
   over-low : (b : Ty) → is_below t IntLow b ≡ true → b ≢ Top → b ≡ IntLow
   unfolding is_below
-  over-low IntLow e n = refl
-  over-low Top e n = absurd (n refl)
-  over-low b e n = absurd (cc)
+  over-low b e n = grind (arith)
 
   over-top : (b : Ty) → is_below t Top b ≡ true → b ≡ Top
   unfolding is_below
-  over-top Top e = refl
-  over-top b e = absurd (cc)
+  over-top b e = grind (arith)
 
   -- under a value a value stands, where each cell holds something
   pub value-under : (xs ys : List Ty) (x : ℕ) (b : Ty) → CellsBelow t xs ys → All IsNotBottom xs → value_in_cells ys x ≡ Some b → (a : Ty)
@@ -176,8 +171,7 @@ module _ (new : ℕ → ℕ) (apart : (a b : ℕ) → new a ≡ new b → a ≡ 
       record {
         stack = st;
         lesser = record { below = subst (CellsBelow s.world.classes st) (sym rest) lesser.below; full = lesser.full; known = lesser.known };
-        flow = subst (λ (o : Option Home). Flowing n (map (named new apart) st) (increased s i o) (map (named new apart) st)) (sym own)
-            (flow_plain s.world r (registers_of s.homes) asks turn flow_end);
+        flow = grind (arith, flow_plain s.world r (registers_of s.homes) asks turn flow_end);
       }
 
   pub increment-passed : (i : Placed) (width : Width) (x : ℕ) (amount : ℤ) (f after : Frame) (st : List Ty) (n : ℕ)
@@ -245,8 +239,7 @@ module _ (new : ℕ → ℕ) (apart : (a b : ℕ) → new a ≡ new b → a ≡ 
         (map (named new apart) rest)
 
   named-ready : (a : Ty) → IsNotFresh a → named new apart a ≡ a
-  named-ready (Fresh p c) h = absurd h
-  named-ready a h = refl
+  named-ready a h = grind (arith)
 
   pop-one : (n : ℕ) (v : Ty) (st : List Ty) → IsNoHalf v → length (v ∷ st) ≤ r.max_stack
       → Flowing n (v ∷ st) (Plain (record { op = pop; x = pos 0; y = pos 0; z = pos 0; len = 1 }) ∷ []) st
@@ -376,9 +369,7 @@ module _ (new : ℕ → ℕ) (apart : (a b : ℕ) → new a ≡ new b → a ≡ 
   each-among P (k ∷ ks) h e (inr a) = each-among P ks h e.1 a
 
   in-order : (q x : ℕ) (h : Home) (hs : List Home) → needed s q x ≡ h ∷ hs → (k : Home) → IsAmong k hs → IsAskedBefore s.method s.frames q x h k
-  in-order q x h hs e k a =
-      let order = subst (AreAskedInOrder s.method s.frames q x) e (needed-are l.objects l.rules ready r asks q x).order in
-      each-among (IsAskedBefore s.method s.frames q x h) hs k order.0 a
+  in-order q x h hs e k a = grind (arith, needed-are, each-among)
 
   -- the first home that is needed is that of the type at the place
   first-needed : (q x : ℕ) (g : Frame) (h : Home) (hs : List Home) → s.frames q ≡ Some g → needed s q x ≡ h ∷ hs
@@ -430,9 +421,7 @@ module _ (new : ℕ → ℕ) (apart : (a b : ℕ) → new a ≡ new b → a ≡ 
   store-passed i letter x f after g st n run to below lesser = record {
     stack = k.rest;
     lesser = k.lesser;
-    flow =
-        subst (λ (us : List Ty). Flowing n us (store_to_homes s letter (needed s q x)) (map (named new apart) k.rest)) (sym k.fresh)
-        (by (needed s q x) refl);
+    flow = grind (arith, by);
   }
     where
       q : ℕ
@@ -445,16 +434,7 @@ module _ (new : ℕ → ℕ) (apart : (a b : ℕ) → new a ≡ new b → a ≡ 
       room = omega (arith, ap length k.fresh, has-room new apart s l ready r own_rec asks res i (ops.Store letter x) f after st run lesser)
 
       less : length (map (named new apart) k.rest) + 1 ≤ r.max_stack
-      less =
-          omega (
-            arith,
-            length-map k.rest (named new apart),
-            k.shorter,
-            length-map st (named new apart),
-            has-room new apart s l ready r own_rec asks res i
-                (ops.Store letter x) f after st run lesser,
-            own_rec.room,
-          )
+      less = grind (arith, length-map, has-room)
 
       by : (hs : List Home) → needed s q x ≡ hs → Flowing n (k.vs ++ map (named new apart) k.rest) (store_to_homes s letter hs)
           (map (named new apart) k.rest)

@@ -1,18 +1,18 @@
 -- Reads and writes of fields of `this` in rewritten code: as they stand where register 0 is its home, else of an object on the stack.
 use Rattle.std.proofs.Common.{◌≡◌, ◌≢◌, ℕ, suc, ◌+◌, ◌-◌, ◌<◌, ◌≤◌, Bool, true, false, if◌then◌else◌, List, [], ◌∷◌}
-use Rattle.std.proofs.Common.{◌++◌, length, map, drop, slice_get, All, Option, Some, IsSomeAnd, IfSome, Ok, refl, sym, ◌∙◌, ap, subst, arith}
+use Rattle.std.proofs.Common.{◌++◌, length, map, drop, slice_get, All, Option, Some, IsSomeAnd}
+use Rattle.std.proofs.Common.{IfSome, Ok, refl, sym, ◌∙◌, ap, subst, arith}
 use Rattle.std.proofs.Common.{length-append}
 use Rattle.std.proofs.lemmas.Bool.Decides.{nat_tests}
 use Rattle.std.proofs.lemmas.List.{length-map, map-append}
-use Rattle.std.proofs.lemmas.List.Elements.{All-nil, All-cons, All-head, All-tail}
+use Rattle.std.proofs.lemmas.List.Elements.{All-head, All-tail}
 use Rattle.jc_base.specs.Cell.{IsDeclared, IsReference, IsOfKind, IsNoHalf}
 use Rattle.jc_base.specs.Class.{ClassTable}
 use Rattle.jc_base.specs.Order.{Below, same, joined, is_below, IsKnown}
 use Rattle.jc_base.specs.declared.record.MethodRec.{MethodRec}
 use Rattle.jc_base.specs.declared.ty.Kind.{Kind}
-use Rattle.jc_base.specs.declared.ty.Kind.TheVariants as kinds
 use Rattle.jc_base.specs.declared.ty.Ty.{Ty}
-use Rattle.jc_base.specs.declared.ty.Ty.TheVariants.{Bottom, Short, IntHigh, IntLow, Null, Class, ArrBool, ArrByte, ArrShort, ArrInt, ArrRef, Fresh, Top}
+use Rattle.jc_base.specs.declared.ty.Ty.TheVariants.{Short, IntHigh, IntLow, Class, Top}
 use Rattle.jc_base.proofs.Lists.{All-slice_get}
 use Rattle.jc_decode.specs.declared.insn.Placed.{Placed}
 use Rattle.jc_decode.specs.declared.symbols.Item.{Item}
@@ -42,7 +42,7 @@ use Rattle.xf_homes.specs.Walk.{local_of}
 use Rattle.xf_homes.specs.Source.{Source}
 use Rattle.xf_homes.specs.Plan.{home_of, register}
 use Rattle.xf_emission.specs.Move.{with_byte, load}
-use Rattle.xf_emission.specs.Group.{body, itself, stays, field_read, field_written, swap_words}
+use Rattle.xf_emission.specs.Group.{body, itself, stays, field_read, swap_words}
 use Rattle.xf_emission.specs.Mnemonics.{from_read, from_write, swap_x}
 use Rattle.law_rewritten_typing.specs.Typed.{registers_of}
 use Rattle.law_rewritten_typing.proofs.Walks.{holding, Asked, Turn, Flows, flow_plain, flow_end, flows-append}
@@ -57,48 +57,24 @@ use Rattle.law_rewritten_typing.proofs.Carried.{is-high, is-low}
 use Rattle.law_rewritten_typing.proofs.Rows.{read-on-stack, write-on-stack, swap-one-is, swap-two-is}
 use Rattle.law_rewritten_typing.proofs.Storing.{has-top}
 use Rattle.law_rewritten_typing.specs.Premises.{AreTypingLaws}
-use Rattle.law_rewritten_typing.proofs.Running.{IsRecordFor, IsRun, IsPassed, has-room, IsReferenceIn, is-reference, found-below, value-one, local-at}
+use Rattle.law_rewritten_typing.proofs.Running.{IsRecordFor, IsRun, IsPassed, has-room, IsReferenceIn}
+use Rattle.law_rewritten_typing.proofs.Running.{is-reference, found-below, value-one, local-at}
 use Rattle.law_rewritten_typing.proofs.Running.{push-lesser}
 
 -- ---- the value of a field
 
 given-full : (t : ClassTable) (ty : Ty) → IsDeclared t ty → All IsNotBottom (in_stack_order (value_given ty))
-given-full t Bottom h = absurd h
-given-full t IntHigh h = All-cons IsNotBottom IntLow (IntHigh ∷ []) tt (All-cons IsNotBottom IntHigh [] tt (All-nil IsNotBottom))
-given-full t Short h = All-cons IsNotBottom Short [] tt (All-nil IsNotBottom)
-given-full t IntLow h = All-cons IsNotBottom IntLow [] tt (All-nil IsNotBottom)
-given-full t Null h = All-cons IsNotBottom Null [] tt (All-nil IsNotBottom)
-given-full t (Class c) h = All-cons IsNotBottom (Class c) [] tt (All-nil IsNotBottom)
-given-full t ArrBool h = All-cons IsNotBottom ArrBool [] tt (All-nil IsNotBottom)
-given-full t ArrByte h = All-cons IsNotBottom ArrByte [] tt (All-nil IsNotBottom)
-given-full t ArrShort h = All-cons IsNotBottom ArrShort [] tt (All-nil IsNotBottom)
-given-full t ArrInt h = All-cons IsNotBottom ArrInt [] tt (All-nil IsNotBottom)
-given-full t (ArrRef c) h = All-cons IsNotBottom (ArrRef c) [] tt (All-nil IsNotBottom)
-given-full t (Fresh p c) h = absurd h
-given-full t Top h = absurd h
+given-full t y h = grind (arith)
 
 given-known : (t : ClassTable) (ty : Ty) → IsDeclared t ty → All (IsKnown t) (in_stack_order (value_given ty))
-given-known t Bottom h = absurd h
-given-known t IntHigh h = All-cons (IsKnown t) IntLow (IntHigh ∷ []) tt (All-cons (IsKnown t) IntHigh [] tt (All-nil (IsKnown t)))
-given-known t Short h = All-cons (IsKnown t) Short [] tt (All-nil (IsKnown t))
-given-known t IntLow h = All-cons (IsKnown t) IntLow [] tt (All-nil (IsKnown t))
-given-known t Null h = All-cons (IsKnown t) Null [] tt (All-nil (IsKnown t))
-given-known t (Class c) h = All-cons (IsKnown t) (Class c) [] h (All-nil (IsKnown t))
-given-known t ArrBool h = All-cons (IsKnown t) ArrBool [] tt (All-nil (IsKnown t))
-given-known t ArrByte h = All-cons (IsKnown t) ArrByte [] tt (All-nil (IsKnown t))
-given-known t ArrShort h = All-cons (IsKnown t) ArrShort [] tt (All-nil (IsKnown t))
-given-known t ArrInt h = All-cons (IsKnown t) ArrInt [] tt (All-nil (IsKnown t))
-given-known t (ArrRef c) h = All-cons (IsKnown t) (ArrRef c) [] h (All-nil (IsKnown t))
-given-known t (Fresh p c) h = absurd h
-given-known t Top h = absurd h
+given-known t y h = grind (arith)
 
 -- what is asked of the stack rests on the stack
 value-held : (t : ClassTable) (ty : Ty) (regs others st : List Ty) (d : Demand)
     → SatisfiesAll t (record { regs = regs; stack = st }) (value_wanted ty ++ d ∷ [])
     → (SatisfiesAll t (record { regs = regs; stack = st }) (d ∷ []) → SatisfiesAll t (record { regs = others; stack = st }) (d ∷ []))
     → SatisfiesAll t (record { regs = others; stack = st }) (value_wanted ty ++ d ∷ [])
-value-held t IntHigh regs others st d h f = (h.0, (h.1.0, f h.1.1))
-value-held t ty regs others st d h f = (h.0, f h.1)
+value-held t ty regs others st d h f = grind (arith)
 
 module _ (new : ℕ → ℕ) (apart : (a b : ℕ) → new a ≡ new b → a ≡ b) (s : Source) (l : AreTypingLaws s.world) (ready : IsReady s) (r : MethodRec)
     (own_rec : IsRecordFor s.method.rec r) (asks : ℕ → Asked) (res : IfSome s.method.rec.sig.result (IsDeclared s.world.classes)) where
@@ -227,16 +203,7 @@ module _ (new : ℕ → ℕ) (apart : (a b : ℕ) → new a ≡ new b → a ≡ 
           (sym (value-same new apart fld.ty (declared-not_fresh s.world.classes fld.ty run.sound.ty)))
 
       room : length (cells ++ map (named new apart) st) ≤ s.method.rec.max_stack
-      room =
-          omega (
-            arith,
-            ap length run.does.stack,
-            length-append cells f.stack,
-            length-append cells (map (named new apart) st),
-            length-map st (named new apart),
-            l.rules.order.lengths lesser.below,
-            run.does.room,
-          )
+      room = grind (arith, length-append, length-map)
 
       less : length (map (named new apart) st) ≤ s.method.rec.max_stack
       less = has-room new apart s l ready r own_rec asks res i (ops.FieldRead fld holders.This) f after st run lesser
@@ -284,41 +251,27 @@ module _ (new : ℕ → ℕ) (apart : (a b : ℕ) → new a ≡ new b → a ≡ 
     sized_int : swap_words k ≡ 18 → ty ≡ IntHigh → IsSized k ty
 
   sized-reference : (k : Kind) (ty : Ty) → swap_words k ≡ 17 → IsReference ty → IsSized k ty
-  sized-reference k (Class c) e h = sized_one e refl refl tt tt (λ q. absurd (cc))
-  sized-reference k ArrBool e h = sized_one e refl refl tt tt (λ q. absurd (cc))
-  sized-reference k ArrByte e h = sized_one e refl refl tt tt (λ q. absurd (cc))
-  sized-reference k ArrShort e h = sized_one e refl refl tt tt (λ q. absurd (cc))
-  sized-reference k ArrInt e h = sized_one e refl refl tt tt (λ q. absurd (cc))
-  sized-reference k (ArrRef c) e h = sized_one e refl refl tt tt (λ q. absurd (cc))
-  sized-reference k ty e h = absurd h
+  sized-reference k ty e h = grind (arith)
 
   sized-short : (k : Kind) (ty : Ty) → swap_words k ≡ 17 → ty ≡ Short → IsSized k ty
   sized-short k ty e own = subst (IsSized k) (sym own) (sized_one e refl refl tt tt (λ q. absurd (cc)))
 
   sized : (k : Kind) (ty : Ty) → IsOfKind k ty → IsSized k ty
-  sized kinds.Ref ty h = sized-reference kinds.Ref ty refl h
-  sized kinds.Byte ty h = sized-short kinds.Byte ty refl h
-  sized kinds.Short ty h = sized-short kinds.Short ty refl h
-  sized kinds.Int ty h = sized_int refl h
+  sized x ty h = grind (arith, sized-reference, sized-short)
 
   -- the last that is asked
   last-held : (ty : Ty) (f : Frame) (d : Demand) → SatisfiesAll s.world.classes f (value_wanted ty ++ d ∷ []) → SatisfiesAll s.world.classes f (d ∷ [])
-  last-held IntHigh f d h = h.1.1
-  last-held ty f d h = h.1
+  last-held ty f d h = grind (arith)
 
   over-low : (b : Ty) → is_below s.world.classes IntLow b ≡ true → b ≢ Top → b ≡ IntLow
   unfolding is_below
-  over-low IntLow e n = refl
-  over-low Top e n = absurd (n refl)
-  over-low b e n = absurd (cc)
+  over-low b e n = grind (arith)
 
   top-not : (b : Ty) → IsNotTop b → b ≢ Top
-  top-not Top h e = absurd h
-  top-not b h e = absurd (cc)
+  top-not b h e = grind (arith)
 
   low-not : (a : Ty) → IsNoHalf a → Some a ≡ Some IntLow → ⊥
-  low-not IntLow h e = absurd h
-  low-not a h e = absurd (cc)
+  low-not a h e = grind (arith)
 
   swap-one : (n : ℕ) (a v : Ty) (st : List Ty) → IsNoHalf a → v ≢ IntLow → length (a ∷ v ∷ st) ≤ r.max_stack
       → Flowing n (a ∷ v ∷ st) (Plain (with_byte swap_x 17) ∷ []) (v ∷ a ∷ st)
@@ -352,8 +305,7 @@ module _ (new : ℕ → ℕ) (apart : (a b : ℕ) → new a ≡ new b → a ≡ 
       differ e = absurd (cc)
 
   named-ready : (a : Ty) → IsNotFresh a → named new apart a ≡ a
-  named-ready (Fresh p c) h = absurd h
-  named-ready a h = refl
+  named-ready a h = grind (arith)
 
   pub write-passed : (i : Placed) (fld : InstanceField) (f after : Frame) (st : List Ty) (n : ℕ) → IsRun s i (ops.FieldWrite fld holders.This) f after
       → new i.place ≡ n → IsLesser s.world f st
@@ -362,9 +314,7 @@ module _ (new : ℕ → ℕ) (apart : (a b : ℕ) → new a ≡ new b → a ≡ 
   write-passed i fld f after st n run here lesser = record {
     stack = k.frame.stack;
     lesser = k.lesser;
-    flow =
-        subst (λ (o : Option Home). Flowing n (map (named new apart) st) (field_written s i fld.kind o) (map (named new apart) k.frame.stack))
-        (sym this.own) (by (stays s h) refl);
+    flow = grind (arith, this, by);
   }
     where
       op : Operation

@@ -1,21 +1,15 @@
 -- The turn of a kept instruction.
-use Rattle.std.proofs.Common.{◌≡◌, ℕ, ◌+◌, ◌<◌, ◌≤◌, List, [], ◌∷◌, ◌++◌, length, map, reverse, slice_get, All, Option, Some}
+use Rattle.std.proofs.Common.{◌≡◌, ℕ, ◌+◌, ◌<◌, ◌≤◌, List, [], ◌∷◌, ◌++◌, map, reverse, slice_get, All, Option, Some}
 use Rattle.std.proofs.Common.{None, Ok, IfSome, refl, sym, ◌∙◌, ap, arith}
 use Rattle.jc_base.specs.declared.ty.Ty.{Ty}
-use Rattle.jc_base.specs.declared.ty.Ty.TheVariants.{IntHigh}
-use Rattle.jc_base.specs.declared.ty.Kind.TheVariants as kinds
 use Rattle.jc_base.specs.declared.record.MethodRec.{MethodRec}
 use Rattle.jc_base.specs.Cell.{IsDeclared}
 use Rattle.jc_base.specs.Order.{IsKnown}
 use Rattle.jc_base.specs.World.{Linked, member_at}
 use Rattle.jc_decode.specs.declared.insn.Insn.{Insn}
-use Rattle.jc_ops.specs.declared.operation.Arithmetic.TheVariants as arithmetic
-use Rattle.jc_ops.specs.declared.operation.Branch.TheVariants as branches
 use Rattle.jc_ops.specs.declared.operation.Holder.TheVariants as holders
-use Rattle.jc_ops.specs.declared.operation.Move.TheVariants as moves
 use Rattle.jc_ops.specs.declared.operation.Operation.{Operation}
 use Rattle.jc_ops.specs.declared.operation.Operation.TheVariants as ops
-use Rattle.jc_ops.specs.declared.operation.Width.TheVariants as widths
 use Rattle.jc_ops.specs.Entry.{RestsOnEntry, entry_named}
 use Rattle.jc_ops.specs.Resolve.{resolved}
 use Rattle.jc_ops.specs.Row.{row_at}
@@ -30,7 +24,7 @@ use Rattle.jc_rules.specs.FlowLaws.{AreRules}
 use Rattle.jc_rules.specs.Footprint.{registers_asked, OperationNamesNone}
 use Rattle.jc_rules.specs.Laws.{IsNotBottom, OperationFalls, OperationKeeps, OperationRests}
 use Rattle.jc_rules.specs.Apply.{OperationApplies}
-use Rattle.jc_rules.specs.Rule.{demands, value_wanted, cells_wanted, receiver_wanted, args_at, return_demands}
+use Rattle.jc_rules.specs.Rule.{demands, value_wanted, cells_wanted, return_demands}
 use Rattle.jc_rules.proofs.Footprints.{receiver-registers}
 use Rattle.xf_emission.proofs.RowByRow.{moved_to, resolved-elsewhere}
 use Rattle.law_rewritten_typing.proofs.Renames.{named, named_op}
@@ -55,81 +49,23 @@ none-append ds es a b = both ds es a b
     both (Cut n ∷ ds) es a b = both ds es a b
 
 value-none : (ty : Ty) → registers_asked (value_wanted ty) ≡ 0
-value-none IntHigh = refl
-value-none ty = refl
+value-none ty = grind (arith)
 
 cells-none : (n : ℕ) (tys : List Ty) → registers_asked (cells_wanted n tys) ≡ 0
 cells-none n [] = refl
 cells-none n (ty ∷ tys) = cells-none (n + 1) tys
 
 return-none : (result : Option Ty) → registers_asked (return_demands result) ≡ 0
-return-none None = refl
-return-none (Some ty) = value-none ty
+return-none x = grind (arith, value-none)
 
 pub none-asked : (w : Linked) (op : Operation) → NamesNone op → registers_asked (demands w op) ≡ 0
-none-asked w (ops.Load letter x) h = absurd h
-none-asked w (ops.Store letter x) h = absurd h
-none-asked w (ops.Increment width x amount) h = absurd h
-none-asked w (ops.FieldRead f holders.This) h = absurd h
-none-asked w (ops.FieldWrite f holders.This) h = absurd h
-none-asked w (ops.Constant c) h = refl
-none-asked w (ops.Move moves.Pop) h = refl
-none-asked w (ops.Move moves.PopTwo) h = refl
-none-asked w (ops.Move moves.Duplicate) h = refl
-none-asked w (ops.Move moves.DuplicateTwo) h = refl
-none-asked w (ops.Move (moves.CopyUnder a b)) h = refl
-none-asked w (ops.Move (moves.Exchange a b)) h = refl
-none-asked w (ops.Arithmetic (arithmetic.Binary o widths.Short)) h = refl
-none-asked w (ops.Arithmetic (arithmetic.Binary o widths.Int)) h = refl
-none-asked w (ops.Arithmetic (arithmetic.Negate widths.Short)) h = refl
-none-asked w (ops.Arithmetic (arithmetic.Negate widths.Int)) h = refl
-none-asked w (ops.Arithmetic arithmetic.ShortToByte) h = refl
-none-asked w (ops.Arithmetic arithmetic.ShortToInt) h = refl
-none-asked w (ops.Arithmetic arithmetic.IntToByte) h = refl
-none-asked w (ops.Arithmetic arithmetic.IntToShort) h = refl
-none-asked w (ops.Arithmetic arithmetic.CompareInts) h = refl
-none-asked w (ops.ArrayRead k) h = refl
-none-asked w (ops.ArrayWrite kinds.Ref) h = refl
-none-asked w (ops.ArrayWrite kinds.Byte) h = refl
-none-asked w (ops.ArrayWrite kinds.Short) h = refl
-none-asked w (ops.ArrayWrite kinds.Int) h = refl
-none-asked w ops.ArrayLength h = refl
-none-asked w (ops.Branch branches.Always) h = refl
-none-asked w (ops.Branch (branches.Zero o)) h = refl
-none-asked w (ops.Branch (branches.Null o)) h = refl
-none-asked w (ops.Branch (branches.References o)) h = refl
-none-asked w (ops.Branch (branches.Shorts o)) h = refl
-none-asked w (ops.Switch widths.Short) h = refl
-none-asked w (ops.Switch widths.Int) h = refl
-none-asked w (ops.StaticRead f) h = refl
-none-asked w (ops.StaticWrite f) h = value-none f.ty
-none-asked w (ops.FieldRead f holders.Stack) h = refl
-none-asked w (ops.FieldWrite f holders.Stack) h = none-append (value_wanted f.ty) _ (value-none f.ty) refl
-none-asked w (ops.Call c) h =
-    let args = args_at (slice_get w.methods c.method) in
-    none-append (cells_wanted 0 (reverse args)) (receiver_wanted (length args) c.receiver) (cells-none 0 (reverse args))
-    (receiver-registers (length args) c.receiver)
-none-asked w (ops.New p c) h = refl
-none-asked w (ops.NewArray ty) h = refl
-none-asked w ops.Throw h = refl
-none-asked w (ops.TypeTest test ty) h = refl
-none-asked w (ops.Return result) h = return-none result
+none-asked w y h = grind (arith, value-none, none-append, slice_get, reverse, cells-none, receiver-registers, return-none)
 
 -- ---- the turn
 
 wider : (w : Linked) (limit more : ℕ) (op : Operation) (before after : Frame) (o : Outcome) → limit ≤ more
     → OperationApplies w limit op Flow before after o → OperationApplies w more op Flow before after o
-wider w limit more op before after o le a = record {
-  asked = a.asked;
-  regs = a.regs;
-  stack = a.stack;
-  room = omega (arith, a.room, le);
-  falls = a.falls;
-  ends = a.ends;
-  depth = a.depth;
-  wrote_is = a.wrote_is;
-  rose_is = a.rose_is;
-}
+wider w limit more op before after o le a = grind (arith)
 
 -- a stack below that of a frame, of values of the world
 pub record IsLesser (w : Linked) (f : Frame) (st : List Ty) : Type 0 where
@@ -178,8 +114,7 @@ module _ (new : ℕ → ℕ) (apart : (a b : ℕ) → new a ≡ new b → a ≡ 
 
   -- an instruction that stands at the place that its `new` has gets the operation
   moved-is : (place n : ℕ) (m : MethodRec) (op : Operation) → new place ≡ n → IsSound w m place op → moved_to n op ≡ named_op new apart op
-  moved-is place n m (ops.New p c) e sound = let own : n ≡ new p = sym e ∙ ap new (sym sound.0) in ap (λ (k : ℕ). ops.New k c) own
-  moved-is place n m op e sound = refl
+  moved-is place n m op e sound = grind (arith)
 
   pub kept-resolves :
       (m r : MethodRec) (place n : ℕ) (i : Insn) (op : Operation)

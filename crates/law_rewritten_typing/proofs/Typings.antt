@@ -178,10 +178,7 @@ module _ (w : Linked) (r0 : MethodRec) (source : List ℕ) (symbols : Symbols) (
 
     caught : (q : ℕ) → IsEntryAmong rec.handlers q → IsCaught q
     unfolding by_label
-    caught q e =
-        let p = range-of e.handler e.listed in
-        let at : place_of p.of.entry symbols.items ≡ q = ap (λ (h : Handler). h.entry) (sym p.is) ∙ e.begins in
-        record { range = p.of; listed = p.listed; at = at; stack = ap stacks (sym at) ∙ (caught-at p.of p.listed).1 }
+    caught q e = grind (arith, range-of e.handler e.listed, caught-at)
 
     not-entered : (q : ℕ) → stacks q ≡ [] → ¬ (IsEntryAmong rec.handlers q)
     not-entered q e entry = let c = caught q entry in absurd (differ (stacks q) (class_by r0.handlers c.range.pool) e c.stack)
@@ -317,11 +314,7 @@ module _ (w : Linked) (r0 : MethodRec) (source : List ℕ) (symbols : Symbols) (
     room-so : (i : Placed) → IsTurned w (record_with r0 symbols) regs asks 0 i.place i.insn symbols.items
         (stack_at w (record_with r0 symbols) regs asks f) left → length (stacks i.place) ≤ symbols.max_stack
     unfolding stacks
-    room-so i t =
-        let here : t.place ≡ i.place = omega (arith, t.is) in
-        let own : t.turn.stack ≡ stacks i.place = held t.turn.stack (stacks i.place)
-        (sym t.turn.here ∙ t.stack ∙ ap (λ (q : ℕ). holding (stacks q)) here) in
-        subst (λ (s : List Ty). length s ≤ symbols.max_stack) own t.turn.room
+    room-so i t = grind (arith, holding)
 
     -- ---- the whole
 

@@ -57,8 +57,7 @@ insn_of (Branch op l) = jump op
 insn_of (Switch i at ls) = i
 
 pub count-step : (x : Item) (xs : List Item) → is_instruction x ≡ true → count (x ∷ xs) ≡ suc (count xs)
-count-step (Label l) xs is = absurd (cc)
-count-step x xs is = refl
+count-step x xs is = grind (arith)
 
 module _ (w : Linked) (r : MethodRec) (regs : List Ty) (asks : ℕ → Asked) where
   -- the rule of an instruction applies, and stores nothing above the registers; a branch or switch leaves the stack empty
@@ -100,8 +99,7 @@ module _ (w : Linked) (r : MethodRec) (regs : List Ty) (asks : ℕ → Asked) wh
 
   pub goes-if : {a c : State} {xs ys : List Item} (b : Bool) → (b ≡ true → Goes a xs c) → (b ≡ false → Goes a ys c)
       → Goes a (if b then xs else ys) c
-  goes-if true f g = f refl
-  goes-if false f g = g refl
+  goes-if x f g = grind (arith)
 
   pub goes-flat : {X : Type 0} {a : State} (f : X → List Item) (xs : List X) → ((x : X) → Goes a (f x) a) → Goes a (flat_map f xs) a
   goes-flat f [] h = goes-nowhere

@@ -1,10 +1,10 @@
 -- Derived states have whole stacks, and no register without a value.
-use Rattle.std.proofs.Common.{◌≡◌, ℕ, suc, Bool, true, false, if◌then◌else◌, List, [], ◌∷◌, ◌++◌, replicate, All, refl, sym, subst}
+use Rattle.std.proofs.Common.{◌≡◌, ℕ, suc, Bool, true, if◌then◌else◌, List, [], ◌∷◌, ◌++◌, replicate, All, sym, subst}
 use Rattle.std.proofs.Common.{arith}
-use Rattle.std.proofs.lemmas.List.Elements.{All-append, All-nil, All-cons, All-replicate}
+use Rattle.std.proofs.lemmas.List.Elements.{All-append, All-replicate}
 use Rattle.jc_base.proofs.Lists.{All-reverse}
 use Rattle.jc_base.specs.declared.ty.Ty.{Ty}
-use Rattle.jc_base.specs.declared.ty.Ty.TheVariants.{Bottom, IntHigh, IntLow, Class, Top}
+use Rattle.jc_base.specs.declared.ty.Ty.TheVariants.{IntHigh, IntLow, Class, Top}
 use Rattle.jc_base.specs.Cell.{AreWhole, no_cells, whole_int, one_cell, IsNoHalf, IsDeclared}
 use Rattle.jc_base.specs.Class.{ClassTable}
 use Rattle.jc_base.specs.Order.{Below, is_below}
@@ -14,7 +14,8 @@ use Rattle.jc_decode.specs.declared.insn.Placed.{Placed}
 use Rattle.jc_ops.specs.Sound.{IsSound, OperationsAreSound}
 use Rattle.jc_control.specs.Method.{Method, IsMethodOf}
 use Rattle.jc_rules.specs.Demand.{Frame}
-use Rattle.jc_rules.specs.Flow.{CellsBelow, no_cells as no_below, more_cells, CellsJoin, none_joined, more_joined, FlowSteps, start_frame, receiver_of}
+use Rattle.jc_rules.specs.Flow.{CellsBelow, no_cells as no_below, more_cells, CellsJoin, none_joined}
+use Rattle.jc_rules.specs.Flow.{more_joined, FlowSteps, start_frame, receiver_of}
 use Rattle.jc_rules.specs.Flow.{IsNotTop, IsDerived, derived_start, derived_caught, derived_next, derived_joined}
 use Rattle.jc_rules.specs.FlowLaws.{AreRules}
 use Rattle.jc_rules.specs.Laws.{IsNotBottom}
@@ -28,32 +29,22 @@ use Rattle.law_rewritten_typing.specs.Whole.{DerivedAreWhole}
 module _ (t : ClassTable) (types : IsOrderOfTypes t) where
   pub high-only : (b : Ty) → is_below t IntHigh b ≡ true → IsNotTop b → b ≡ IntHigh
   unfolding is_below
-  high-only IntHigh e n = refl
-  high-only Top e n = absurd n
-  high-only b e n = absurd (cc)
+  high-only b e n = grind (arith)
 
   pub low-only : (b : Ty) → is_below t IntLow b ≡ true → IsNotTop b → b ≡ IntLow
   unfolding is_below
-  low-only IntLow e n = refl
-  low-only Top e n = absurd n
-  low-only b e n = absurd (cc)
+  low-only b e n = grind (arith)
 
   under-high : (a : Ty) → is_below t a IntHigh ≡ true → IsNotBottom a → IsNoHalf a → ⊥
   unfolding is_below
-  under-high Bottom e n h = n
-  under-high IntHigh e n h = h
-  under-high a e n h = absurd (cc)
+  under-high a e n h = grind (arith)
 
   under-low : (a : Ty) → is_below t a IntLow ≡ true → IsNotBottom a → IsNoHalf a → ⊥
   unfolding is_below
-  under-low Bottom e n h = n
-  under-low IntLow e n h = h
-  under-low a e n h = absurd (cc)
+  under-low a e n h = grind (arith)
 
   pub no-half-above : (a b : Ty) → Below t a b → IsNotBottom a → IsNoHalf a → IsNoHalf b
-  no-half-above a IntHigh le n h = absurd (under-high a ((types.decided a IntHigh).1 le) n h)
-  no-half-above a IntLow le n h = absurd (under-low a ((types.decided a IntLow).1 le) n h)
-  no-half-above a b le n h = tt
+  no-half-above a b le n h = grind (arith, under-high, under-low)
 
   all-first : (P : Ty → Type 0) (x : Ty) (xs : List Ty) → All P (x ∷ xs) → P x
   all-first P x xs all = all 0 x (omega arith)
@@ -81,8 +72,7 @@ join-left t (more_joined j more) = more_cells j.left (join-left t more)
 -- ---- frames
 
 declared-full : (t : ClassTable) (ty : Ty) → IsDeclared t ty → IsNotBottom ty
-declared-full t Bottom h = h
-declared-full t ty h = tt
+declared-full t ty h = grind (arith)
 
 module _ (w : Linked) (is : AreRules w) (keeps : OperationKeepsWhole w) (m : Method) (mo : IsMethodOf w m) where
   record IsGood (f : Frame) : Type 0 where
@@ -90,8 +80,7 @@ module _ (w : Linked) (is : AreRules w) (keeps : OperationKeepsWhole w) (m : Met
     whole : IsWholeStack f.stack
 
   receiver-full : (b : Bool) → All IsNotBottom (if b then [] else Class m.rec.class ∷ [])
-  receiver-full true = All-nil IsNotBottom
-  receiver-full false = All-cons IsNotBottom (Class m.rec.class) [] tt (All-nil IsNotBottom)
+  receiver-full x = grind (arith)
 
   start-good : IsGood (start_frame m.rec Top)
   start-good = record {
@@ -127,7 +116,4 @@ module _ (w : Linked) (is : AreRules w) (keeps : OperationKeepsWhole w) (m : Met
       }
 
 pub derived-are-whole : (w : Linked) → AreRules w → OperationsAreSound w → OperationKeepsWhole w → DerivedAreWhole w
-derived-are-whole w is law keeps m p f mo d =
-    let fine = derived-fine w is m mo d in
-    let g = good w is keeps m mo law d in
-    record { known = fine.known; ready = fine.no_fresh; regs = g.regs; stack = fine.no_bottom; whole = g.whole }
+derived-are-whole w is law keeps m p f mo d = grind (arith, derived-fine w is m mo d, good w is keeps m mo law d)

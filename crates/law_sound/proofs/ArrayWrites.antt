@@ -1,5 +1,5 @@
 -- Writes to elements of arrays, and their lengths, at a frame's turn.
-use Rattle.std.proofs.Common.{◌≡◌, ℕ, ◌+◌, ◌*◌, ◌<◌, inl, inr, Bool, true, false, if◌then◌else◌, List, [], ◌∷◌, length, refl}
+use Rattle.std.proofs.Common.{◌≡◌, ℕ, ◌+◌, ◌*◌, ◌<◌, inl, inr, Bool, true, false, if◌then◌else◌, List, [], ◌∷◌, length, refl, arith, rules}
 use Rattle.std.proofs.Common.{sym, ap, ◌∙◌, subst}
 use Rattle.std.specs.Prelude.{ℤ, Some, IsSomeAnd, slice_get, slice_index_or}
 use Rattle.jc_base.specs.declared.ty.Ty.{Ty}
@@ -30,7 +30,8 @@ use Rattle.vm_store.specs.Laws.{HasContent}
 use Rattle.vm_step.specs.declared.exception.Exception.TheVariants as exceptions
 use Rattle.vm_step.specs.Act.{Act, goes, raises}
 use Rattle.vm_step.specs.Numbers.{short_at, replaced}
-use Rattle.vm_step.specs.Fields.{elements_of, element_index, at_element, takes_element, keeps_kind, with_element, array_write_act, array_length_act}
+use Rattle.vm_step.specs.Fields.{elements_of, element_index, at_element, takes_element}
+use Rattle.vm_step.specs.Fields.{keeps_kind, with_element, array_write_act, array_length_act}
 use Rattle.vm_step.specs.Settled.{settled}
 use Rattle.law_sound.specs.Frames.{Typings, least_types, types_of_frame}
 use Rattle.law_sound.specs.State.{CanBeMade}
@@ -41,7 +42,8 @@ use Rattle.law_sound.proofs.Cells.{cell-at, one-stacked, stacked-at}
 use Rattle.law_sound.proofs.References.{reference-same}
 use Rattle.law_sound.proofs.Registers.{asked-of}
 use Rattle.law_sound.proofs.Writes.{with_heap, write-safe, write-int-safe}
-use Rattle.law_sound.proofs.Arrays.{Fits, IsArrayAt, array-there, element_type, first-at, second-at, index-within, short-element, int-element, element-ready}
+use Rattle.law_sound.proofs.Arrays.{Fits, IsArrayAt, array-there, element_type, first-at}
+use Rattle.law_sound.proofs.Arrays.{second-at, index-within, short-element, int-element, element-ready}
 use Rattle.law_sound.proofs.Instances.{made-at}
 use Rattle.law_sound.proofs.Objects.{may-cast-below}
 use Rattle.law_sound.proofs.SafeTurns.{Here, replace-safe, null-safe, some-safe, raise-safe}
@@ -55,9 +57,7 @@ module _ (w : Linked) (world : IsWorld w) (assigned : Typings) (f : Frame Cell) 
       pub filled : HasContent (slice_index_or f.stack n cells.Empty)
 
     pub held-filled : (n : ℕ) → n < length f.stack → HasContent (slice_index_or f.stack n cells.Empty)
-    held-filled n lt =
-        stacked-filled w here.turn.stands.rec (kinds_of heap) (slice_index_or f.stack n cells.Empty)
-        (stacked-at w here.turn.stands.rec (kinds_of heap) f.stack n lt here.turn.stacked)
+    held-filled n lt = grind (arith, stacked-filled, stacked-at)
 
     pub held-at : (n : ℕ) (ty : Ty) → IsReady ty → IsSomeAnd (slice_get (least_types w.classes (assigned.unset f.method) (kinds_of heap) f.stack) n)
         (λ a. Below w.classes a ty) → IsHeld n ty
@@ -115,8 +115,7 @@ module _ (w : Linked) (world : IsWorld w) (assigned : Typings) (f : Frame Cell) 
         (if keeps_kind tagged w.classes fk (record { frames = f ∷ below; heap = heap; statics = statics }) h
         then goes (with_element tagged fk h i (record { frames = f ∷ below; heap = heap; statics = statics }))
         else raises exceptions.ArrayStore))
-    element-write fields.Ref h i a is some within =
-        reference-write h i a is some within (keeps_kind tagged w.classes fields.Ref (record { frames = f ∷ below; heap = heap; statics = statics }) h) refl
+    element-write fields.Ref h i a is some within = search (rules, reference-write)
     element-write fields.Byte h i a is some within =
         let c : Cell = cells.Short (byte_of_word (word_of (slice_index_or f.stack 0 cells.Empty))) in
         write-safe w world assigned f below heap statics here h (i * 1) Short c 3 (ops.ArrayWrite fields.Byte) is refl refl some
@@ -142,11 +141,7 @@ module _ (w : Linked) (world : IsWorld w) (assigned : Typings) (f : Frame Cell) 
         (fk : Kind) → here.turn.operation ≡ ops.ArrayWrite fk
         → IsSomeAnd (slice_get (least_types w.classes (assigned.unset f.method) (kinds_of heap) f.stack) (width fk + 1))
         (Meets w.classes (array_wanted w.classes fk))
-    array-wanted fields.Ref is = (asked-of w world assigned f below heap statics here (ops.ArrayWrite fields.Ref) is).1.1.0
-    array-wanted fields.Byte is = (asked-of w world assigned f below heap statics here (ops.ArrayWrite fields.Byte) is).1.1.0
-    array-wanted fields.Short is = (asked-of w world assigned f below heap statics here (ops.ArrayWrite fields.Short) is).1.1.0
-    array-wanted fields.Int is =
-        let above_value = (asked-of w world assigned f below heap statics here (ops.ArrayWrite fields.Int) is).1.1 in above_value.1.0
+    array-wanted x is = grind (arith, asked-of)
 
     pub array-write-safe :
         (fk : Kind) → here.turn.operation ≡ ops.ArrayWrite fk

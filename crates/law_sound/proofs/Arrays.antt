@@ -24,7 +24,7 @@ use Rattle.jc_rules.specs.Flow.{no_cells, more_cells, IsNotTop, IsNotFresh}
 use Rattle.vm_store.specs.declared.cell.Cell.{Cell}
 use Rattle.vm_store.specs.declared.cell.Cell.TheVariants as cells
 use Rattle.vm_store.specs.declared.kind.ObjectKind.{ObjectKind}
-use Rattle.vm_store.specs.declared.kind.ObjectKind.TheVariants.{Instance, Booleans, Bytes, Shorts, Ints, References}
+use Rattle.vm_store.specs.declared.kind.ObjectKind.TheVariants.{Booleans, Bytes, Shorts, Ints, References}
 use Rattle.vm_store.specs.Kind.{kind_of_handle, type_of_kind, element_width}
 use Rattle.vm_store.specs.Typing.{IsReady, least_type, type_of_handle}
 use Rattle.vm_store.specs.Cells.{tagged, word_of}
@@ -63,48 +63,23 @@ module _ (t : ClassTable) (are : AreClasses t) where
 
   fits-ref : (k : ObjectKind) → is_below t (type_of_kind t k) (ArrRef (object t)) ≡ true → Fits fields.Ref k
   unfolding is_below
-  fits-ref (References c) h = tt
-  fits-ref (Instance c) h = no-test h
-  fits-ref Booleans h = no-test h
-  fits-ref Bytes h = no-test h
-  fits-ref Shorts h = no-test h
-  fits-ref Ints h = no-test h
+  fits-ref x h = grind (arith, no-test)
 
   fits-byte : (k : ObjectKind) → is_below t (type_of_kind t k) ArrByte ≡ true → Fits fields.Byte k
   unfolding is_below
-  fits-byte (References c) h = no-test h
-  fits-byte (Instance c) h = no-test h
-  fits-byte Booleans h = no-test h
-  fits-byte Bytes h = tt
-  fits-byte Shorts h = no-test h
-  fits-byte Ints h = no-test h
+  fits-byte x h = grind (arith, no-test)
 
   fits-boolean : (k : ObjectKind) → is_below t (type_of_kind t k) ArrBool ≡ true → Fits fields.Byte k
   unfolding is_below
-  fits-boolean (References c) h = no-test h
-  fits-boolean (Instance c) h = no-test h
-  fits-boolean Booleans h = tt
-  fits-boolean Bytes h = no-test h
-  fits-boolean Shorts h = no-test h
-  fits-boolean Ints h = no-test h
+  fits-boolean x h = grind (arith, no-test)
 
   fits-short : (k : ObjectKind) → is_below t (type_of_kind t k) ArrShort ≡ true → Fits fields.Short k
   unfolding is_below
-  fits-short (References c) h = no-test h
-  fits-short (Instance c) h = no-test h
-  fits-short Booleans h = no-test h
-  fits-short Bytes h = no-test h
-  fits-short Shorts h = tt
-  fits-short Ints h = no-test h
+  fits-short x h = grind (arith, no-test)
 
   fits-int : (k : ObjectKind) → is_below t (type_of_kind t k) ArrInt ≡ true → Fits fields.Int k
   unfolding is_below
-  fits-int (References c) h = no-test h
-  fits-int (Instance c) h = no-test h
-  fits-int Booleans h = no-test h
-  fits-int Bytes h = no-test h
-  fits-int Shorts h = no-test h
-  fits-int Ints h = tt
+  fits-int x h = grind (arith, no-test)
 
 -- ---- the types of elements
 
@@ -121,16 +96,8 @@ repeated-one (suc n) (suc i) ty lt = repeated-one n i ty (omega (arith, lt))
 repeated-two : (n i : ℕ) (a b : Ty) → i < n → (slice_get (repeated n (a ∷ b ∷ [])) (i * 2) ≡ Some a)
     × (slice_get (repeated n (a ∷ b ∷ [])) (i * 2 + 1) ≡ Some b)
 repeated-two zero i a b lt = absurd (omega (arith, lt))
-repeated-two (suc n) zero a b lt =
-    let e : 0 * 2 ≡ 0 = refl in
-    let g : 0 * 2 + 1 ≡ 1 = refl in (refl, refl)
-repeated-two (suc n) (suc i) a b lt =
-    let rest = repeated-two n i a b (omega (arith, lt)) in
-    let e : suc i * 2 ≡ suc (suc (i * 2)) = omega arith in
-    let g : suc i * 2 + 1 ≡ suc (suc (i * 2 + 1)) = omega arith in (
-      subst (λ k. slice_get (a ∷ b ∷ repeated n (a ∷ b ∷ [])) k ≡ Some a) (sym e) rest.0,
-      subst (λ k. slice_get (a ∷ b ∷ repeated n (a ∷ b ∷ [])) k ≡ Some b) (sym g) rest.1,
-    )
+repeated-two (suc n) zero a b lt = grind (arith)
+repeated-two (suc n) (suc i) a b lt = grind (arith, suc, repeated-two n i a b (omega (arith, lt)))
 
 types-one : (n i : ℕ) (ty : Ty) → i < n / 1 → slice_get (repeated n (ty ∷ [])) (i * 1) ≡ Some ty
 types-one n i ty lt = repeated-one n (i * 1) ty (omega (arith, lt, div-one n))
@@ -138,12 +105,7 @@ types-one n i ty lt = repeated-one n (i * 1) ty (omega (arith, lt, div-one n))
 element-first :
     (t : ClassTable) (fk : Kind) (k : ObjectKind) (n i : ℕ) → Fits fk k → i < n / element_width k → slice_get (cell_types t k n) (i * width fk)
     ≡ Some (element_type t k)
-element-first t fields.Ref (References c) n i fits lt = types-one n i (Class (class_in_types t c)) lt
-element-first t fields.Byte Bytes n i fits lt = types-one n i Short lt
-element-first t fields.Byte Booleans n i fits lt = types-one n i Short lt
-element-first t fields.Short Shorts n i fits lt = types-one n i Short lt
-element-first t fields.Int Ints n i fits lt = (repeated-two (n / 2) i IntHigh IntLow lt).0
-element-first t fk k n i fits lt = absurd fits
+element-first t fk k n i fits lt = grind (arith, types-one, repeated-two)
 
 element-second : (t : ClassTable) (k : ObjectKind) (n i : ℕ) → Fits fields.Int k → i < n / element_width k
     → slice_get (cell_types t k n) (i * 2 + 1) ≡ Some IntLow
@@ -210,36 +172,19 @@ second-at t heap h a i within =
 
 -- the type of an element of an array that fits
 pub short-element : (t : ClassTable) (k : ObjectKind) → Fits fields.Byte k ⊎ Fits fields.Short k → element_type t k ≡ Short
-short-element t Bytes h = refl
-short-element t Booleans h = refl
-short-element t Shorts h = refl
-short-element t (Instance c) h = absurd (⊎_elim (λ x. x) (λ x. x) h)
-short-element t Ints h = absurd (⊎_elim (λ x. x) (λ x. x) h)
-short-element t (References c) h = absurd (⊎_elim (λ x. x) (λ x. x) h)
+short-element t y h = grind (arith, ⊎_elim)
 
 pub int-element : (t : ClassTable) (k : ObjectKind) → Fits fields.Int k → element_type t k ≡ IntHigh
-int-element t Ints h = refl
-int-element t k h = absurd h
+int-element t k h = grind (arith)
 
 reference-element : (t : ClassTable) (k : ObjectKind) → Fits fields.Ref k → element_type t k ≡ element (type_of_kind t k)
-reference-element t (References c) h = refl
-reference-element t k h = absurd h
+reference-element t k h = grind (arith)
 
 element-value : (t : ClassTable) (k : ObjectKind) → IsNotTop (element_type t k) × IsNotFresh (element_type t k)
-element-value t (References c) = (tt, tt)
-element-value t Ints = (tt, tt)
-element-value t (Instance c) = (tt, tt)
-element-value t Booleans = (tt, tt)
-element-value t Bytes = (tt, tt)
-element-value t Shorts = (tt, tt)
+element-value t y = grind (arith)
 
 pub element-ready : (t : ClassTable) (k : ObjectKind) → IsReady (element_type t k)
-element-ready t (References c) = tt
-element-ready t Ints = tt
-element-ready t (Instance c) = tt
-element-ready t Booleans = tt
-element-ready t Bytes = tt
-element-ready t Shorts = tt
+element-ready t y = grind (arith)
 
 -- ---- reading
 

@@ -1,8 +1,8 @@
 -- Branches and switches at a frame's turn.
-use Rattle.std.proofs.Common.{◌≡◌, ℕ, ◌+◌, Bool, true, false, inl, inr, if◌then◌else◌, List, [], ◌∷◌, drop, map, refl, sym, ap}
+use Rattle.std.proofs.Common.{◌≡◌, ℕ, ◌+◌, Bool, true, false, inl, inr, if◌then◌else◌, List, [], ◌∷◌, drop, map, refl, sym, ap, arith}
 use Rattle.std.proofs.Common.{◌∙◌, subst}
 use Rattle.std.specs.Prelude.{ℤ, pos, negsuc, Option, Some, None, Contains, find}
-use Rattle.std.proofs.lemmas.List.Elements.{All-nil, All-drop, All-contains}
+use Rattle.std.proofs.lemmas.List.Elements.{All-nil, All-drop}
 use Rattle.jc_base.specs.Each.{IsAmong}
 use Rattle.jc_base.specs.World.{Linked, IsWorld, code_of}
 use Rattle.jc_base.proofs.Tests.{found-passes}
@@ -10,11 +10,9 @@ use Rattle.jc_decode.specs.declared.insn.Case.{Case}
 use Rattle.jc_decode.specs.declared.insn.Placed.{Placed}
 use Rattle.jc_decode.specs.Cases.{cases}
 use Rattle.jc_decode.specs.Listing.{jumps, target, targets}
-use Rattle.jc_control.specs.WellFormed.{IsTargetPlace}
 use Rattle.jc_control.specs.Control.{jumped}
 use Rattle.jc_decode.proofs.Elements.{Contains-first, Contains-later}
 use Rattle.jc_ops.specs.declared.operation.Width.{Width}
-use Rattle.jc_ops.specs.declared.operation.Width.TheVariants as widths
 use Rattle.jc_ops.specs.declared.operation.Branch.{Branch}
 use Rattle.jc_ops.specs.declared.operation.Branch.TheVariants as branches
 use Rattle.jc_ops.specs.declared.operation.Operation.{Operation}
@@ -54,9 +52,7 @@ mapped-among g (y ∷ ys) x (inl same) = subst (λ z. Contains (g y ∷ map g ys
 mapped-among g (y ∷ ys) x (inr more) = Contains-later (g y) (map g ys) (g x) (mapped-among g ys x more)
 
 default-led : (code : List ℕ) (p : Placed) → jumps p.insn.op ≡ true → Contains (targets code p) (target p.place p.insn.x)
-default-led code p h =
-    subst (λ ts. Contains ts (target p.place p.insn.x)) (sym (targets-are code p h))
-    (Contains-first (target p.place p.insn.x) (map (λ (c : Case). target p.place c.offset) (cases code p.place p.insn)))
+default-led code p h = grind (arith, targets-are)
 
 chosen-led :
     (code : List ℕ) (p : Placed) (test : Case → Bool) (chosen : Option Case) → jumps p.insn.op ≡ true → find test (cases code p.place p.insn)
@@ -96,11 +92,7 @@ module _ (w : Linked) (world : IsWorld w) (assigned : Typings) (f : Frame Cell) 
             here.waits,
           );
         })
-    leads-safe next (negsuc n) taken op is does leads =
-        let st = here.turn.stands in
-        let there = instruction-there (code_of w.infos st.rec) f.place st.instruction st.there in
-        absurd (All-contains (IsTargetPlace (code_of w.infos st.rec)) (targets (code_of w.infos st.rec) st.instruction) (negsuc n)
-        (st.typing.formed.targets st.instruction there.stands) leads)
+    leads-safe next (negsuc n) taken op is does leads = grind (arith, instruction-there)
 
     led-to : (op : Operation) → here.turn.operation ≡ op → jumps_from op ≡ true
         → Contains (targets (code_of w.infos here.turn.stands.rec) here.turn.stands.instruction) (target f.place here.turn.stands.instruction.insn.x)
@@ -171,5 +163,4 @@ module _ (w : Linked) (world : IsWorld w) (assigned : Typings) (f : Frame Cell) 
         → IsTypedOutcome w assigned (settled tagged w (here.turn.stands.instruction.place + here.turn.stands.instruction.insn.len)
         (record { frames = f ∷ below; heap = heap; statics = statics })
         (switch_act tagged (code_at w f.method) here.turn.stands.instruction.insn width (record { frames = f ∷ below; heap = heap; statics = statics })))
-    switch-safe widths.Short is = switch-by widths.Short 1 is refl
-    switch-safe widths.Int is = switch-by widths.Int 2 is refl
+    switch-safe x is = grind (arith, switch-by)

@@ -24,11 +24,9 @@ use Rattle.jc_ops.specs.Next.{falls_from}
 use Rattle.jc_rules.specs.declared.demand.Demand.TheVariants.{Cell as CellAsked}
 use Rattle.jc_rules.specs.declared.effect.Change.{Change}
 use Rattle.jc_rules.specs.declared.effect.Change.TheVariants.{Replace, MakeReady}
-use Rattle.jc_rules.specs.declared.effect.Effect.{Effect}
-use Rattle.jc_rules.specs.declared.effect.Mode.TheVariants.{Flow}
 use Rattle.jc_rules.specs.Demand.{SatisfiesAll, Meets}
-use Rattle.jc_rules.specs.Effect.{in_stack_order, ready, changed, StoresInRegisters}
-use Rattle.jc_rules.specs.Rule.{cell, cells_wanted, call_demands, call_effect, call_change, on_stack, ready_with, result_given, args_at, result_at, effect}
+use Rattle.jc_rules.specs.Effect.{in_stack_order, ready, changed}
+use Rattle.jc_rules.specs.Rule.{cell, cells_wanted, call_demands, call_change, on_stack, ready_with, result_given, result_at, effect}
 use Rattle.jc_rules.specs.Flow.{CellsBelow, no_cells, more_cells, FrameBelow, receiver_of}
 use Rattle.jc_rules.proofs.CellLists.{cells-same, cells-append}
 use Rattle.jc_rules.proofs.Demands.{SatisfiesAll-front, SatisfiesAll-rest}
@@ -107,10 +105,7 @@ module _ (w : Linked) (world : IsWorld w) (assigned : Typings) (typings : AreTyp
         (method : slice_get w.methods n ≡ Some m)
       where
         demanded : SatisfiesAll w.classes (types_of_frame w.classes (assigned.unset f.method) (kinds_of heap) f) (call_demands m.sig.args receiver)
-        demanded =
-            subst (λ args. SatisfiesAll w.classes (types_of_frame w.classes (assigned.unset f.method) (kinds_of heap) f) (call_demands args receiver))
-            (ap args_at method)
-            (asked-of w world assigned f below heap statics here (ops.Call (record { method = n; receiver = receiver; choice = choice })) is)
+        demanded = grind (arith, asked-of)
 
         -- the arguments are below their types, the last on top
         pub args-below : CellsBelow w.classes (take (length m.sig.args) (least_types w.classes (assigned.unset f.method) (kinds_of heap) f.stack))
@@ -124,10 +119,7 @@ module _ (w : Linked) (world : IsWorld w) (assigned : Typings) (typings : AreTyp
         does : effect w here.turn.operation (types_of_frame w.classes (assigned.unset f.method) (kinds_of heap) f)
             ≡ on_stack
             (call_change m.sig.args (result_given m.sig.result) receiver (types_of_frame w.classes (assigned.unset f.method) (kinds_of heap) f))
-        does =
-            let exact = types_of_frame w.classes (assigned.unset f.method) (kinds_of heap) f in
-            ap (λ o. effect w o exact) is ∙ (ap (λ args. call_effect args (result_at (slice_get w.methods n)) receiver exact) (ap args_at method)
-            ∙ ap (λ result. call_effect m.sig.args result receiver exact) (ap result_at method))
+        does = grind (arith)
 
         -- a frame whose stack is what the rule gives but for the result is below it
         given-below :
@@ -140,21 +132,7 @@ module _ (w : Linked) (world : IsWorld w) (assigned : Typings) (typings : AreTyp
             → FrameBelow w.classes
             (types_with w.classes (assigned.unset f.method) (kinds_of heap) m.sig.result
             (record { method = f.method; place = f.place; registers = f.registers; stack = stack })) here.turn.after
-        given-below change stack e stack_is =
-            let ks = kinds_of heap in
-            let exact = types_of_frame w.classes (assigned.unset f.method) ks f in
-            let a = here.turn.applies in
-            let after = here.turn.after in
-            let whole : effect w here.turn.operation exact ≡ on_stack change = does ∙ e in
-            let stack_after : after.stack ≡ changed change exact.stack = a.stack ∙ ap (λ (z : Effect). changed z.change exact.stack) whole in
-            let regs_after : after.regs ≡ exact.regs = subst (λ (z : Effect). StoresInRegisters w.classes Flow z.store exact.regs after.regs) whole a.regs in
-            record {
-              regs = subst (CellsBelow w.classes exact.regs) (sym regs_after) (cells-same w.classes exact.regs);
-              stack =
-                  subst (CellsBelow w.classes (in_stack_order (result_given m.sig.result) ++ least_types w.classes (assigned.unset f.method) ks stack))
-                  (stack_is ∙ sym stack_after)
-                  (cells-same w.classes (in_stack_order (result_given m.sig.result) ++ least_types w.classes (assigned.unset f.method) ks stack));
-            }
+        given-below change stack e stack_is = grind (arith, cells-same)
 
         -- cells in the order of the parameters
         turned-below :
@@ -169,9 +147,7 @@ module _ (w : Linked) (world : IsWorld w) (assigned : Typings) (typings : AreTyp
             (count : ℕ) (stack : List Cell) (tys : List Ty)
             → CellsBelow w.classes (take count (least_types w.classes (assigned.unset f.method) (kinds_of heap) stack)) tys
             → CellsBelow w.classes (least_types w.classes (assigned.unset f.method) (kinds_of heap) (reverse (take count stack))) (reverse tys)
-        args-turned count stack tys h =
-            turned-below (take count stack) tys
-            (subst (λ ts. CellsBelow w.classes ts tys) (take-map (least_type w.classes (assigned.unset f.method) (kinds_of heap)) count stack) h)
+        args-turned count stack tys h = grind (arith, turned-below, take-map)
 
         count-is : args_of w n ≡ length m.sig.args
         count-is = ap (of_method 0 (λ (x : MethodRec). length x.sig.args)) method
@@ -209,18 +185,13 @@ module _ (w : Linked) (world : IsWorld w) (assigned : Typings) (typings : AreTyp
           receiver-at = cell-at w.classes (assigned.unset f.method) (kinds_of heap) f.stack (length m.sig.args) (Meets w.classes want) receiver-asked
 
           pub receiver-filled : HasContent (slice_index_or f.stack (length m.sig.args) cells.Empty)
-          receiver-filled =
-              stacked-filled w here.turn.stands.rec (kinds_of heap) (slice_index_or f.stack (length m.sig.args) cells.Empty)
-              (stacked-at w here.turn.stands.rec (kinds_of heap) f.stack (length m.sig.args) receiver-at.inside here.turn.stacked)
+          receiver-filled = grind (arith, stacked-filled, stacked-at, receiver-at)
 
           -- the receiver and the arguments, in the order of the parameters of the method that runs
           parameters-are :
               (o : MethodRec) → o.sig ≡ m.sig → o.is_static ≡ false → reverse (reverse m.sig.args ++ Class o.class ∷ [])
               ≡ receiver_of o ++ o.sig.args
-          parameters-are o sig dynamic =
-              reverse-append (reverse m.sig.args) (Class o.class ∷ [])
-              ∙ (ap (λ ts. Class o.class ∷ [] ++ ts) (reverse-reverse m.sig.args ∙ ap (λ (x : Sig). x.args) (sym sig))
-              ∙ sym (ap (λ (b : Bool). (if b then [] else Class o.class ∷ []) ++ o.sig.args) dynamic))
+          parameters-are o sig dynamic = grind (arith, reverse-append, reverse, reverse-reverse)
 
           -- an object that is ready runs a method with code
           pub run-safe :

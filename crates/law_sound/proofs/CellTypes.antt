@@ -1,9 +1,9 @@
 -- Least types of cells, where an empty register is read as of any type.
-use Rattle.std.proofs.Common.{◌≡◌, ℕ, zero, suc, List, [], ◌∷◌, ◌++◌, refl, sym, ap, ◌∙◌, subst}
-use Rattle.std.specs.Prelude.{Option, Some, None, IsSomeAnd, All, slice_get, ⊤}
-use Rattle.std.proofs.lemmas.List.Elements.{All-head, All-tail, All-cons, All-nil}
+use Rattle.std.proofs.Common.{◌≡◌, ℕ, zero, suc, List, [], ◌∷◌, ◌++◌, refl, sym, subst, arith, ap, ◌∙◌}
+use Rattle.std.specs.Prelude.{Option, Some, IsSomeAnd, All, ⊤}
+use Rattle.std.proofs.lemmas.List.Elements.{All-head, All-tail, All-nil, All-cons}
 use Rattle.jc_base.specs.declared.ty.Ty.{Ty}
-use Rattle.jc_base.specs.declared.ty.Ty.TheVariants.{Bottom, Short, IntHigh, IntLow, Null, Class, ArrBool, ArrByte, ArrShort, ArrInt, ArrRef, Fresh, Top}
+use Rattle.jc_base.specs.declared.ty.Ty.TheVariants.{Bottom, Short, Fresh}
 use Rattle.jc_base.specs.declared.record.MethodRec.{MethodRec}
 use Rattle.jc_base.specs.Class.{ClassTable, AreClasses}
 use Rattle.jc_base.specs.Order.{Below, same, nothing}
@@ -15,51 +15,31 @@ use Rattle.jc_rules.specs.Laws.{IsNotBottom}
 use Rattle.vm_store.specs.declared.cell.Cell.{Cell}
 use Rattle.vm_store.specs.declared.cell.Cell.TheVariants as cells
 use Rattle.vm_store.specs.declared.kind.ObjectKind.{ObjectKind}
-use Rattle.vm_store.specs.declared.kind.ObjectKind.TheVariants.{Instance, Booleans, Bytes, Shorts, Ints, References}
 use Rattle.vm_store.specs.Kind.{kind_of_handle, type_of_kind}
 use Rattle.vm_store.specs.Typing.{HasType, IsReady, least_type, type_seen, fresh_seen}
 use Rattle.vm_store.specs.Laws.{HasContent}
 use Rattle.vm_store.proofs.CellTypes.{least-is, least-falls}
-use Rattle.law_sound.specs.Frames.{least_types, class_made, IsStacked}
+use Rattle.law_sound.specs.Frames.{least_types, IsStacked}
 
 -- ---- facts of an option
 
 pub some-weaker : {X : Type 0} (P Q : X → Type 0) → ((x : X) → P x → Q x) → (o : Option X) → IsSomeAnd o P → IsSomeAnd o Q
-some-weaker P Q f (Some x) h = f x h
-some-weaker P Q f None h = absurd h
+some-weaker x y f u h = grind (arith)
 
 pub some-both : {X : Type 0} (P Q : X → Type 0) (o : Option X) → IsSomeAnd o P → IsSomeAnd o Q → IsSomeAnd o (λ x. P x × Q x)
-some-both P Q (Some x) h k = (h, k)
-some-both P Q None h k = absurd h
+some-both x y z h k = grind (arith)
 
 -- ---- types that may be kept
 
 pub declared-ready : (t : ClassTable) (ty : Ty) → IsDeclared t ty → IsReady ty
-declared-ready t Bottom h = tt
-declared-ready t Short h = tt
-declared-ready t IntHigh h = tt
-declared-ready t IntLow h = tt
-declared-ready t Null h = tt
-declared-ready t (Class c) h = tt
-declared-ready t ArrBool h = tt
-declared-ready t ArrByte h = tt
-declared-ready t ArrShort h = tt
-declared-ready t ArrInt h = tt
-declared-ready t (ArrRef c) h = tt
-declared-ready t (Fresh p c) h = absurd h
-declared-ready t Top h = tt
+declared-ready t y h = grind (arith)
 
 module _ (t : ClassTable) (unset : Ty) (ks : List ObjectKind) where
   -- ---- cells in which something was stored
 
   -- their least types are the same, however an empty one is read
   pub filled-same : (c : Cell) → HasContent c → least_type t Bottom ks c ≡ least_type t unset ks c
-  filled-same cells.Empty h = absurd h
-  filled-same (cells.Short n) h = refl
-  filled-same (cells.High n) h = refl
-  filled-same (cells.Low n) h = refl
-  filled-same (cells.Ref n) h = refl
-  filled-same (cells.Fresh n p) h = refl
+  filled-same x h = grind (arith)
 
   pub has-below : AreClasses t → (c : Cell) (ty : Ty) → HasType t ks c ty → HasContent c → Below t (least_type t unset ks c) ty
   has-below are c ty has filled = subst (λ a. Below t a ty) (filled-same c filled) ((least-is t ks are c).least ty has)
@@ -68,35 +48,16 @@ module _ (t : ClassTable) (unset : Ty) (ks : List ObjectKind) where
   below-has are c ty below filled ready = (least-is t ks are c).above ty ready (subst (λ a. Below t a ty) (sym (filled-same c filled)) below)
 
   kind-not_bottom : (k : ObjectKind) → IsNotBottom (type_of_kind t k)
-  kind-not_bottom (Instance c) = tt
-  kind-not_bottom Booleans = tt
-  kind-not_bottom Bytes = tt
-  kind-not_bottom Shorts = tt
-  kind-not_bottom Ints = tt
-  kind-not_bottom (References c) = tt
+  kind-not_bottom x = grind (arith)
 
   seen-not_bottom : (o : Option ObjectKind) → IsNotBottom (type_seen t o)
-  seen-not_bottom None = tt
-  seen-not_bottom (Some k) = kind-not_bottom k
+  seen-not_bottom x = grind (arith, kind-not_bottom)
 
   fresh-not_bottom : (p : ℕ) (o : Option ObjectKind) → IsNotBottom (fresh_seen p o)
-  fresh-not_bottom p (Some (Instance c)) = tt
-  fresh-not_bottom p None = tt
-  fresh-not_bottom p (Some Booleans) = tt
-  fresh-not_bottom p (Some Bytes) = tt
-  fresh-not_bottom p (Some Shorts) = tt
-  fresh-not_bottom p (Some Ints) = tt
-  fresh-not_bottom p (Some (References c)) = tt
+  fresh-not_bottom p y = grind (arith)
 
   pub filled-not_bottom : (c : Cell) → HasContent c → IsNotBottom (least_type t unset ks c)
-  filled-not_bottom cells.Empty h = absurd h
-  filled-not_bottom (cells.Short n) h = tt
-  filled-not_bottom (cells.High n) h = tt
-  filled-not_bottom (cells.Low n) h = tt
-  filled-not_bottom (cells.Ref zero) h = tt
-  filled-not_bottom (cells.Ref (suc n)) h = seen-not_bottom (slice_get ks n)
-  filled-not_bottom (cells.Fresh zero p) h = tt
-  filled-not_bottom (cells.Fresh (suc n) p) h = fresh-not_bottom p (slice_get ks n)
+  filled-not_bottom x h = grind (arith, seen-not_bottom, fresh-not_bottom)
 
   -- ---- an empty register
 
@@ -122,27 +83,14 @@ module _ (t : ClassTable) (unset : Ty) (ks : List ObjectKind) where
 
 module _ (w : Linked) (m : MethodRec) where
   pub stacked-filled : (ks : List ObjectKind) (c : Cell) → IsStacked w m ks c → HasContent c
-  stacked-filled ks cells.Empty h = h
-  stacked-filled ks (cells.Short n) h = tt
-  stacked-filled ks (cells.High n) h = tt
-  stacked-filled ks (cells.Low n) h = tt
-  stacked-filled ks (cells.Ref n) h = tt
-  stacked-filled ks (cells.Fresh n p) h = tt
+  stacked-filled ks y h = grind (arith)
 
   pub kind-front : (ks more : List ObjectKind) (h : ℕ) (k : ObjectKind) → kind_of_handle ks h ≡ Some k → kind_of_handle (ks ++ more) h ≡ Some k
   kind-front ks more zero k e = e
   kind-front ks more (suc h) k e = slice_get-front ks more h k e
 
   pub stacked-falls : (ks more : List ObjectKind) (c : Cell) → IsStacked w m ks c → IsStacked w m (ks ++ more) c
-  stacked-falls ks more cells.Empty h = h
-  stacked-falls ks more (cells.Short n) h = tt
-  stacked-falls ks more (cells.High n) h = tt
-  stacked-falls ks more (cells.Low n) h = tt
-  stacked-falls ks more (cells.Ref n) h = tt
-  stacked-falls ks more (cells.Fresh n p) h =
-      some-weaker (λ c. kind_of_handle ks n ≡ Some (Instance c)) (λ c. kind_of_handle (ks ++ more) n ≡ Some (Instance c))
-      (λ c e. kind-front ks more n (Instance c) e)
-      (class_made w m p) h
+  stacked-falls ks more z h = grind (arith, some-weaker, kind-front)
 
   pub not_bottoms : (unset : Ty) (ks : List ObjectKind) (cs : List Cell) → All (IsStacked w m ks) cs → All IsNotBottom (least_types w.classes unset ks cs)
   not_bottoms unset ks [] h = All-nil IsNotBottom
@@ -169,9 +117,4 @@ IsReadyCell (cells.Fresh h p) = ⊥
 IsReadyCell _ = ⊤
 
 pub ready-stacked : (w : Linked) (m : MethodRec) (ks : List ObjectKind) (c : Cell) → IsReadyCell c → IsStacked w m ks c
-ready-stacked w m ks cells.Empty h = h
-ready-stacked w m ks (cells.Short n) h = tt
-ready-stacked w m ks (cells.High n) h = tt
-ready-stacked w m ks (cells.Low n) h = tt
-ready-stacked w m ks (cells.Ref n) h = tt
-ready-stacked w m ks (cells.Fresh n p) h = absurd h
+ready-stacked w m ks u h = grind (arith)

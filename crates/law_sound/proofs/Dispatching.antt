@@ -1,7 +1,7 @@
 -- The method that a call runs has code, and takes the receiver.
-use Rattle.std.proofs.Common.{◌≡◌, ℕ, ◌-◌, inl, inr, Bool, true, false, if◌then◌else◌, List, [], ◌∷◌, length, refl, sym, ap, ◌∙◌}
+use Rattle.std.proofs.Common.{◌≡◌, ℕ, ◌-◌, inl, inr, Bool, true, false, if◌then◌else◌, List, [], ◌∷◌, length, refl, sym, ap, ◌∙◌, arith}
 use Rattle.std.proofs.Common.{subst}
-use Rattle.std.specs.Prelude.{Option, Some, None, IsSomeAnd, All, slice_get, nat_lt, ◌==◌, find, cond, flat_map, option_and_then, option_map}
+use Rattle.std.specs.Prelude.{Option, Some, None, IsSomeAnd, All, slice_get, nat_lt, ◌==◌, flat_map, option_and_then, option_map}
 use Rattle.std.proofs.lemmas.Bool.{eq-eqb, eqb-true, MatchBool-at_false, or_from}
 use Rattle.std.proofs.lemmas.Option.{same_Some, option_and_then_some}
 use Rattle.std.proofs.lemmas.List.Elements.{All-contains}
@@ -13,7 +13,8 @@ use Rattle.jc_base.specs.declared.record.ClassRec.{ClassRec}
 use Rattle.jc_base.specs.declared.record.MethodRec.{MethodRec}
 use Rattle.jc_base.specs.Class.{ClassTable, IsClass, is_interface, chain, list_of}
 use Rattle.jc_base.specs.Order.{Below, is_on_chain, is_below}
-use Rattle.jc_base.specs.Dispatch.{of_record, package_of, public_of, visible_of, entry_at, nearest_of, visible_in, dispatched, HasBody, IsConcrete}
+use Rattle.jc_base.specs.Dispatch.{of_record, package_of, public_of, visible_of, entry_at}
+use Rattle.jc_base.specs.Dispatch.{nearest_of, visible_in, dispatched, HasBody, IsConcrete}
 use Rattle.jc_base.specs.Dispatch.{signature_of, signature_at}
 use Rattle.jc_base.specs.Linked.{IsInherited, Dispatches, IsImplemented, IsExtended, IsLinkedClass, lacks_code}
 use Rattle.jc_base.specs.Laws.{RunsPublic}
@@ -42,10 +43,7 @@ pub record RunsFor (w : Linked) (r n : ℕ) (sig : Sig) : Type 0 where
 
 own-nearest : (t : ClassTable) (c : ℕ) → nearest_of t (package_of t c) c ≡ Some c
 unfolding nearest_of
-own-nearest t c =
-    let front = chain-front t c in
-    ap (find (λ a. package_of t a == package_of t c)) front.1
-    ∙ ap (λ b. cond b (Some c) (find (λ a. package_of t a == package_of t c) front.0)) (eq-eqb (package_of t c) (package_of t c) refl)
+own-nearest t c = grind (arith, chain-front t c, eq-eqb (package_of t c) (package_of t c) refl)
 
 own-visible : (t : ClassTable) (c : ℕ) → visible_in t (package_of t c) c ≡ visible_of t c
 unfolding visible_in
@@ -84,14 +82,11 @@ module _ (w : Linked) (world : IsWorld w) where
   -- a method of a class, with a body, has code
   pub class-code : (r : ℕ) (m : MethodRec) → IsClass w.classes r → Below w.classes (Class r) (Class m.class) → m.is_abstract ≡ false
       → lacks_code w.classes m ≡ false
-  class-code r m class below body =
-      let on = on_chain-from_Below w.classes world.chains r m.class below in
-      or_from m.is_abstract (is_interface w.classes m.class) body (on_chain-class w.classes world.chains r m.class class on).class
+  class-code r m class below body = grind (arith, on_chain-from_Below, or_from, on_chain-class)
 
   signature-same : (n : ℕ) (m : MethodRec) (other : ℕ) (o : MethodRec) → slice_get w.methods n ≡ Some m → slice_get w.methods other ≡ Some o
       → signature_of w.methods n ≡ signature_of w.methods other → m.sig ≡ o.sig
-  signature-same n m other o is was e =
-      same_Some m.sig o.sig (sym (ap (option_map (λ (x : MethodRec). x.sig)) is) ∙ (e ∙ ap (option_map (λ (x : MethodRec). x.sig)) was))
+  signature-same n m other o is was e = grind (arith, same_Some)
 
   inherited-runs :
       (r n other : ℕ) (o : MethodRec) → IsConcrete w.classes w.methods r → slice_get w.methods other ≡ Some o
@@ -202,9 +197,4 @@ module _ (w : Linked) (world : IsWorld w) where
       → slice_get w.methods n ≡ Some o → o.class ≡ interface → o.token ≡ token
       → served w.classes interface token r ≡ Some method
       → RunsFor w r method o.sig
-  served-runs interface token r n method o concrete is class at e =
-      option_and_then_some (λ (x : Iface). option_and_then (λ public. slice_get (public_of w.classes r) public) (slice_get x.tokens token))
-      (serving w.classes interface r) method e
-      (λ x served_by rest.
-      option_and_then_some (λ public. slice_get (public_of w.classes r) public) (slice_get x.tokens token) method rest
-      (λ public told there. told-runs interface token r n public method o x concrete is class at served_by told there))
+  served-runs interface token r n method o concrete is class at e = grind (arith, option_and_then_some, told-runs)

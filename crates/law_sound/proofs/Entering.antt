@@ -39,9 +39,7 @@ use Rattle.law_sound.proofs.Turns.{frame-trans}
 map-reverse : {X Y : Type 0} (g : X → Y) (xs : List X) → map g (reverse xs) ≡ reverse (map g xs)
 map-reverse g [] = refl
 map-reverse g (x ∷ xs) =
-    ap (map g) (reverse-append (x ∷ []) xs)
-    ∙ (map-append g (reverse xs) (x ∷ [])
-    ∙ (ap (λ ys. ys ++ g x ∷ []) (map-reverse g xs) ∙ sym (reverse-append (g x ∷ []) (map g xs))))
+    grind (arith, reverse-append (x ∷ []) xs, map-append g (reverse xs) (x ∷ []), map-reverse g xs, reverse-append (g x ∷ []) (map g xs))
 
 map-replicate : {X Y : Type 0} (g : X → Y) (n : ℕ) (x : X) → map g (replicate n x) ≡ replicate n (g x)
 map-replicate g zero x = refl

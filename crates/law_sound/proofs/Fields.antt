@@ -1,6 +1,6 @@
 -- Instance fields at a frame's turn.
-use Rattle.std.proofs.Common.{◌≡◌, ℕ, ◌+◌, true, List, [], ◌∷◌, length, refl, sym, ap, ◌∙◌, subst, arith}
-use Rattle.std.specs.Prelude.{Some, IsSomeAnd, slice_get, slice_index_or, option_and_then}
+use Rattle.std.proofs.Common.{◌≡◌, ℕ, ◌+◌, true, List, [], ◌∷◌, refl, sym, ap, ◌∙◌, subst, arith}
+use Rattle.std.specs.Prelude.{Some, IsSomeAnd, slice_get, slice_index_or}
 use Rattle.std.proofs.lemmas.Bool.{eqb-true}
 use Rattle.jc_base.specs.declared.ty.Ty.{Ty}
 use Rattle.jc_base.specs.declared.ty.Ty.TheVariants.{Short, IntHigh, IntLow, Class, ArrBool, ArrByte, ArrShort, ArrInt, ArrRef}
@@ -32,14 +32,14 @@ use Rattle.jc_rules.proofs.Types.{declared-not_top, declared-not_fresh}
 use Rattle.vm_store.specs.declared.cell.Cell.{Cell as StoreCell}
 use Rattle.vm_store.specs.declared.cell.Cell.TheVariants as cells
 use Rattle.vm_store.specs.declared.kind.ObjectKind.{ObjectKind}
-use Rattle.vm_store.specs.declared.kind.ObjectKind.TheVariants.{Instance, Booleans, Bytes, Shorts, Ints, References}
+use Rattle.vm_store.specs.declared.kind.ObjectKind.TheVariants.{Instance}
 use Rattle.vm_store.specs.Kind.{type_of_kind}
 use Rattle.vm_store.specs.Typing.{short, type_of_handle}
 use Rattle.vm_store.specs.Cells.{tagged, word_of}
 use Rattle.vm_store.specs.State.{Frame, Object, State}
 use Rattle.vm_store.specs.Objects.{object_cells}
 use Rattle.vm_store.specs.Value.{byte_of_word, value_in, value_on, kept_value, with_object_value}
-use Rattle.vm_store.specs.Laws.{cell_types, cell_type_at}
+use Rattle.vm_store.specs.Laws.{cell_type_at}
 use Rattle.vm_step.specs.Act.{goes}
 use Rattle.vm_step.specs.Numbers.{dropped, replaced}
 use Rattle.vm_step.specs.Fields.{held_handle, with_field_read, field_read_act, with_field_write, field_write_act}
@@ -77,34 +77,20 @@ short-one : (ty : Ty) → ty ≡ Short → IsOneCell ty
 short-one ty e = subst IsOneCell (sym e) (record { given_is = refl; wanted = refl; size = refl })
 
 pub one-cell : (kind : Kind) (ty : Ty) → IsOfKind kind ty → width kind ≡ 1 → IsOneCell ty
-one-cell fields.Ref ty h one = reference-one ty h
-one-cell fields.Byte ty h one = short-one ty h
-one-cell fields.Short ty h one = short-one ty h
-one-cell fields.Int ty h one = absurd (omega (arith, one))
+one-cell x ty h one = grind (arith, reference-one, short-one)
 
 -- ---- the cells of an object of a class
 
 instance-of : (t : ClassTable) → AreClasses t → (k : ObjectKind) (c : ℕ) → (c ≡ object t → ⊥) → Below t (type_of_kind t k) (Class c)
     → (d : ℕ) × (k ≡ Instance d) × Below t (Class d) (Class c)
 unfolding is_below
-instance-of t are (Instance d) c no_object b = (d, refl, b)
-instance-of t are Booleans c no_object b = absurd (no_object (eqb-true c (object t) (is_below-from_Below t are b)))
-instance-of t are Bytes c no_object b = absurd (no_object (eqb-true c (object t) (is_below-from_Below t are b)))
-instance-of t are Shorts c no_object b = absurd (no_object (eqb-true c (object t) (is_below-from_Below t are b)))
-instance-of t are Ints c no_object b = absurd (no_object (eqb-true c (object t) (is_below-from_Below t are b)))
-instance-of t are (References e) c no_object b = absurd (no_object (eqb-true c (object t) (is_below-from_Below t are b)))
+instance-of t are z c no_object b = grind (arith, eqb-true, is_below-from_Below)
 
 field-at :
     (t : ClassTable) → AreClasses t → (heap : List (Object StoreCell)) (h c i : ℕ) (ty : Ty) (o : IsObject t heap h (Class c))
     → (c ≡ object t → ⊥) → slice_get (cells_of t c) i ≡ Some ty
     → cell_type_at t (with_heap heap) h i ≡ Some ty
-field-at t are heap h c i ty o no_object e =
-    let n : ℕ = length o.object.cells in
-    let found = instance-of t are o.object.kind c no_object o.below in
-    let extends = instances-extend t are found.0 c found.2 in
-    ap (option_and_then (λ (x : Object StoreCell). slice_get (cell_types t x.kind (length x.cells)) i)) o.found
-    ∙ (ap (λ k. slice_get (cell_types t k n) i) found.1
-    ∙ (ap (λ ts. slice_get ts i) extends.whole ∙ slice_get-front (cells_of t c) extends.more i ty e))
+field-at t are heap h c i ty o no_object e = grind (arith, instance-of, instances-extend, slice_get-front)
 
 module _ (w : Linked) (world : IsWorld w) (assigned : Typings) (f : Frame StoreCell) (below : List (Frame StoreCell)) (heap : List (Object StoreCell))
     (statics : List StoreCell)
@@ -162,18 +148,12 @@ module _ (w : Linked) (world : IsWorld w) (assigned : Typings) (f : Frame StoreC
 
     read-asked : (class cell : ℕ) (kind : Kind) (ty : Ty) (holder : Holder)
         → here.turn.operation ≡ ops.FieldRead (record { class = class; cell = cell; kind = kind; ty = ty }) holder → IsHolderAsked holder 0 class
-    read-asked class cell kind ty holders.Stack is =
-        (asked-of w world assigned f below heap statics here (ops.FieldRead (record { class = class; cell = cell; kind = kind; ty = ty }) holders.Stack) is).0
-    read-asked class cell kind ty holders.This is =
-        (asked-of w world assigned f below heap statics here (ops.FieldRead (record { class = class; cell = cell; kind = kind; ty = ty }) holders.This) is).1.0
+    read-asked class cell kind ty v is = grind (arith, asked-of)
 
     low-half : (kind : Kind) (h i c : ℕ) (o : IsObject w.classes heap h (Class c)) → (c ≡ object w.classes → ⊥)
         → HasLowHalf kind (cells_of w.classes c) i → kind ≡ fields.Int
         → cell_type_at w.classes (with_heap heap) h (i + 1) ≡ Some IntLow
-    low-half fields.Int h i c o no_object half e = field-at w.classes world.chains heap h c (i + 1) IntLow o no_object half
-    low-half fields.Ref h i c o no_object half e = absurd (cc)
-    low-half fields.Byte h i c o no_object half e = absurd (cc)
-    low-half fields.Short h i c o no_object half e = absurd (cc)
+    low-half x h i c o no_object half e = grind (arith, field-at)
 
     pub field-read-safe :
         (class cell : ℕ) (kind : Kind) (ty : Ty) (holder : Holder)
@@ -266,10 +246,7 @@ module _ (w : Linked) (world : IsWorld w) (assigned : Typings) (f : Frame StoreC
     size-is fields.Int ty h = ap value_size h
 
     more-none : (kind : Kind) → width kind ≡ width kind + 0
-    more-none fields.Ref = refl
-    more-none fields.Byte = refl
-    more-none fields.Short = refl
-    more-none fields.Int = refl
+    more-none x = grind (arith)
 
     pub field-write-safe :
         (class cell : ℕ) (kind : Kind) (ty : Ty) (holder : Holder)

@@ -1,7 +1,7 @@
 -- What the act of an instruction leads to is safe where the state after it is typed.
-use Rattle.std.proofs.Common.{◌≡◌, ℕ, ◌+◌, ◌<◌, ◌≤◌, Bool, true, false, if◌then◌else◌, List, [], ◌∷◌, ◌++◌, length, map}
-use Rattle.std.proofs.Common.{reverse, refl, sym, ap, ◌∙◌, subst, arith}
-use Rattle.std.specs.Prelude.{Option, Some, None, All, pos, nat_lt, nat_le, slice_get}
+use Rattle.std.proofs.Common.{◌≡◌, ℕ, ◌+◌, ◌<◌, ◌≤◌, Bool, true, false, if◌then◌else◌, List, [], ◌∷◌, ◌++◌, length, map, rules}
+use Rattle.std.proofs.Common.{reverse, sym, ap, ◌∙◌, subst, arith}
+use Rattle.std.specs.Prelude.{Option, Some, None, All, pos, nat_lt, slice_get}
 use Rattle.std.proofs.lemmas.Bool.{false≢true}
 use Rattle.std.proofs.lemmas.Bool.{le-ltb, lt-leb}
 use Rattle.std.proofs.lemmas.List.{length-map, map-append}
@@ -23,20 +23,21 @@ use Rattle.vm_store.specs.declared.cell.Cell.{Cell}
 use Rattle.vm_store.specs.declared.kind.ObjectKind.{ObjectKind}
 use Rattle.vm_store.specs.Typing.{least_type}
 use Rattle.vm_store.specs.Cells.{tagged}
-use Rattle.vm_store.specs.State.{Frame, Object, State, with_place, with_stack, frame_limit, with_call}
+use Rattle.vm_store.specs.State.{Frame, Object, State, with_place, with_stack, with_call}
 use Rattle.vm_store.specs.Objects.{has_room}
 use Rattle.vm_store.specs.Value.{with_value}
 use Rattle.vm_store.specs.Laws.{CellsHave, IsTypedHeap}
 use Rattle.vm_step.specs.declared.ending.Value.{Value}
 use Rattle.vm_step.specs.declared.ending.Plain.{Plain}
-use Rattle.vm_step.specs.declared.ending.Plain.TheVariants.{Returned, TooDeep, HeapFull}
+use Rattle.vm_step.specs.declared.ending.Plain.TheVariants.{Returned, HeapFull}
 use Rattle.vm_step.specs.declared.ending.Ending.TheVariants as endings
 use Rattle.vm_step.specs.declared.ending.Fault.{Fault}
-use Rattle.vm_step.specs.declared.ending.Fault.TheVariants.{StackFault, JumpFault}
 use Rattle.vm_step.specs.Methods.{of_method, code_at, max_stack_of, instruction_at}
 use Rattle.vm_step.specs.Raising.{Outcome, running, ends}
-use Rattle.vm_step.specs.Settled.{fault_next, is_there, fault_target, unless_fault, goes_to, jumps_to, with_new, made, entered_call, given_to}
-use Rattle.law_sound.specs.Frames.{Typings, least_types, types_of_frame, types_with, IsStacked, Standing, IsTypedFrame, at_next, IsWaiting, AreWaiting}
+use Rattle.vm_step.specs.Settled.{fault_next, is_there, fault_target, unless_fault, goes_to}
+use Rattle.vm_step.specs.Settled.{jumps_to, with_new, made, entered_call, given_to}
+use Rattle.law_sound.specs.Frames.{Typings, least_types, types_of_frame, types_with, IsStacked}
+use Rattle.law_sound.specs.Frames.{Standing, IsTypedFrame, at_next, IsWaiting, AreWaiting}
 use Rattle.law_sound.specs.State.{CanBeMade, static_types, IsTypedState}
 use Rattle.law_sound.specs.Soundness.{IsTypedOutcome}
 use Rattle.law_sound.proofs.CellTypes.{some-both, some-weaker, stacked-alike}
@@ -44,14 +45,10 @@ use Rattle.law_sound.proofs.Places.{instruction-there}
 use Rattle.law_sound.proofs.Turns.{frame-trans}
 
 pub pick : {X : Type 0} (x y : Option X) (a b : Bool) → a ≡ false → b ≡ false → (if a then x else if b then y else None) ≡ None
-pick x y true b h k = absurd (false≢true (sym h))
-pick x y false true h k = absurd (false≢true (sym k))
-pick x y false false h k = refl
+pick x y z b h k = grind (arith, false≢true)
 
 pub pick-yes : {X : Type 0} (x y : Option X) (a b : Bool) → a ≡ false → b ≡ true → (if a then x else if b then None else y) ≡ None
-pick-yes x y true b h k = absurd (false≢true (sym h))
-pick-yes x y false true h k = refl
-pick-yes x y false false h k = absurd (false≢true k)
+pick-yes x y z b h k = grind (arith, false≢true)
 
 -- the objects and the static fields of a typed state
 pub record IsTypedStore (w : Linked) (heap : List (Object Cell)) (statics : List Cell) : Type 0 where
@@ -109,17 +106,13 @@ module _ (w : Linked) (assigned : Typings) where
       (f : Frame Cell) (below : List (Frame Cell)) (heap : List (Object Cell)) (statics : List Cell) (depth place : ℕ)
       → depth ≤ max_stack_of w f.method → place < length (code_at w f.method)
       → fault_next tagged w (record { frames = f ∷ below; heap = heap; statics = statics }) depth place ≡ None
-  next-passes f below heap statics depth place room inside =
-      pick (Some StackFault) (Some JumpFault) (nat_lt (max_stack_of w f.method) depth) (nat_le (length (code_at w f.method)) place)
-      (le-ltb (max_stack_of w f.method) depth room) (lt-leb (length (code_at w f.method)) place inside)
+  next-passes f below heap statics depth place room inside = grind (arith, le-ltb, lt-leb)
 
   target-passes :
       (f : Frame Cell) (below : List (Frame Cell)) (heap : List (Object Cell)) (statics : List Cell) (place : ℕ)
       → length f.stack ≤ max_stack_of w f.method → is_there (instruction_at (code_at w f.method) place) ≡ true
       → fault_target tagged w (record { frames = f ∷ below; heap = heap; statics = statics }) (pos place) ≡ None
-  target-passes f below heap statics place room there =
-      pick-yes (Some StackFault) (Some JumpFault) (nat_lt (max_stack_of w f.method) (length f.stack)) (is_there (instruction_at (code_at w f.method) place))
-      (le-ltb (max_stack_of w f.method) (length f.stack) room) there
+  target-passes f below heap statics place room there = grind (arith, pick-yes, le-ltb)
 
   -- ---- going on
 
@@ -145,8 +138,7 @@ module _ (w : Linked) (assigned : Typings) where
 
   pub safe-if : (b : Bool) (x y : Outcome Cell) → IsTypedOutcome w assigned x → IsTypedOutcome w assigned y
       → IsTypedOutcome w assigned (if b then x else y)
-  safe-if true x y h k = h
-  safe-if false x y h k = k
+  safe-if x x2 y h k = grind (arith)
 
   -- ---- a new object
 
@@ -176,10 +168,7 @@ module _ (w : Linked) (assigned : Typings) where
       → IsTypedStore w heap statics
       → IsTypedState w assigned (with_call tagged w.methods (record { frames = f ∷ below; heap = heap; statics = statics }) method count)
       → IsTypedOutcome w assigned (entered_call tagged w method count (record { frames = f ∷ below; heap = heap; statics = statics }))
-  enters-safe f below heap statics method count store typed =
-      let now : State Cell = record { frames = f ∷ below; heap = heap; statics = statics } in
-      safe-if (nat_lt (length (f ∷ below)) frame_limit) (running (with_call tagged w.methods now method count)) (ends (endings.Plain TooDeep) now) typed
-      (plain-safe TooDeep (f ∷ below) heap statics store)
+  enters-safe f below heap statics method count store typed = grind (arith, safe-if, plain-safe)
 
   -- a caller that is given its result is typed after the call
   given-typed :
@@ -212,9 +201,7 @@ module _ (w : Linked) (assigned : Typings) where
           reached = next.reached;
           typing = next.typing;
         };
-        below = some-weaker (FrameBelow w.classes (types_with w.classes (assigned.unset f.method) ks result f)) (FrameBelow w.classes exact)
-            (λ g b. frame-trans w.classes (record { regs = cells-same w.classes exact.regs; stack = stack }) b)
-            ((assigned.frames f.method) (at_next w f).place) waits.below;
+        below = search (rules, some-weaker, frame-trans, cells-same);
         stacked = All-append (IsStacked w next.rec ks) (reverse value) f.stack (ready next.rec) waits.stacked;
       }
 

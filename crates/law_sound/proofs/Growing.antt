@@ -1,18 +1,18 @@
 -- What is typed stays typed among more objects.
+use Rattle.jc_rules.specs.Flow.{CellsBelow, FrameBelow}
+use Rattle.jc_rules.specs.Demand.{Frame as Types}
 use Rattle.std.proofs.Common.{List, [], ◌∷◌, ◌++◌}
 use Rattle.std.specs.Prelude.{Option}
 use Rattle.std.proofs.lemmas.List.Elements.{All-weaker}
 use Rattle.jc_base.specs.declared.ty.Ty.{Ty}
 use Rattle.jc_base.specs.World.{Linked}
-use Rattle.jc_rules.specs.Demand.{Frame as Types}
 use Rattle.jc_rules.specs.Effect.{in_stack_order}
 use Rattle.jc_rules.specs.Rule.{result_given}
-use Rattle.jc_rules.specs.Flow.{CellsBelow, FrameBelow}
 use Rattle.jc_rules.proofs.CellLists.{cells-same, cells-trans, cells-append}
 use Rattle.vm_store.specs.declared.cell.Cell.{Cell}
 use Rattle.vm_store.specs.declared.kind.ObjectKind.{ObjectKind}
 use Rattle.vm_store.specs.State.{Frame}
-use Rattle.law_sound.specs.Frames.{Typings, least_types, types_with, IsStacked, at_next, IsWaiting, result_of, AreWaiting}
+use Rattle.law_sound.specs.Frames.{Typings, IsStacked, IsWaiting, result_of, AreWaiting, least_types, types_with, at_next}
 use Rattle.law_sound.proofs.CellTypes.{some-weaker, types-fall, stacked-falls}
 
 module _ (w : Linked) (assigned : Typings) (ks more : List ObjectKind) where

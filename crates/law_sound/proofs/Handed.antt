@@ -1,11 +1,11 @@
 -- A method begins with as many cells as it has parameters.
-use Rattle.std.proofs.Common.{◌≡◌, ℕ, ◌+◌, ◌*◌, ◌≤◌, ◌==◌, Bool, true, false, if◌then◌else◌, inl, inr, List, [], ◌∷◌}
-use Rattle.std.proofs.Common.{length, map, take, refl, sym, ap, ◌∙◌, subst, arith}
-use Rattle.std.specs.Prelude.{ℤ, pos, negsuc, Option, Some, None, Ok, slice_get, slice_index_or, unwrap_or, ⊤}
+use Rattle.std.proofs.Common.{◌≡◌, ℕ, ◌+◌, ◌≤◌, ◌==◌, Bool, true, false, if◌then◌else◌, inl, inr, List, [], ◌∷◌}
+use Rattle.std.proofs.Common.{length, take, refl, sym, ap, ◌∙◌, subst, arith}
+use Rattle.std.specs.Prelude.{ℤ, Option, Some, None, Ok, slice_get, slice_index_or, unwrap_or, ⊤}
 use Rattle.std.proofs.lemmas.Bool.{eqb-false}
 use Rattle.std.proofs.lemmas.List.{length-map, length-reverse, length-take}
 use Rattle.jc_base.specs.declared.ty.Ty.{Ty}
-use Rattle.jc_base.specs.declared.ty.Ty.TheVariants.{Bottom, Short, IntHigh, Class}
+use Rattle.jc_base.specs.declared.ty.Ty.TheVariants.{Bottom, Class}
 use Rattle.jc_base.specs.declared.record.MethodRec.{MethodRec}
 use Rattle.jc_base.specs.declared.record.Sig.{Sig}
 use Rattle.jc_base.specs.Cell.{width}
@@ -16,12 +16,9 @@ use Rattle.jc_base.specs.Order.{Below}
 use Rattle.jc_base.specs.World.{Linked, IsWorld}
 use Rattle.jc_base.proofs.Subtypes.{is_below-from_Below}
 use Rattle.jc_decode.specs.declared.insn.Insn.{Insn}
-use Rattle.jc_decode.specs.Listing.{target}
 use Rattle.jc_decode.specs.declared.insn.Placed.{Placed}
 use Rattle.jc_ops.specs.declared.operation.Arithmetic.{Arithmetic}
-use Rattle.jc_ops.specs.declared.operation.Arithmetic.TheVariants as arithmetic
 use Rattle.jc_ops.specs.declared.operation.TypeTest.{TypeTest}
-use Rattle.jc_ops.specs.declared.operation.TypeTest.TheVariants as tests
 use Rattle.jc_ops.specs.declared.want.Want.{Want}
 use Rattle.jc_ops.specs.declared.want.Want.TheVariants.{Value}
 use Rattle.jc_ops.specs.declared.operation.Callee.{Callee}
@@ -39,19 +36,16 @@ use Rattle.vm_store.specs.Kind.{kind_of_handle, type_of_kind}
 use Rattle.vm_store.specs.Typing.{least_type}
 use Rattle.vm_store.specs.Cells.{Cells, tagged, word_of}
 use Rattle.vm_store.specs.State.{Frame, Object, State, arguments, top}
-use Rattle.vm_store.specs.Objects.{object_cells}
-use Rattle.vm_store.specs.Value.{value_in}
-use Rattle.vm_arithmetic.specs.Arithmetic.{short_of_word}
 use Rattle.vm_step.specs.declared.exception.Exception.{Exception}
 use Rattle.vm_step.specs.declared.exception.Exception.TheVariants as exceptions
-use Rattle.vm_step.specs.Act.{Act, goes, calls, raises, throws, lacks, unless_null, if_some}
-use Rattle.vm_step.specs.Branching.{leads_if, is_taken, branch_width}
-use Rattle.vm_step.specs.Fields.{at_element, elements_of, element_index, keeps_kind, with_element, held_handle, with_field_read, with_field_write}
-use Rattle.vm_step.specs.Numbers.{handle_at, short_at, replaced, dropped, number_cells}
-use Rattle.vm_step.specs.Calls.{args_of, class_with_methods, made_at, readied, served, served_act, interface_act, call_act, chosen_act, return_act}
+use Rattle.vm_step.specs.Act.{Act, calls, raises, throws, lacks, unless_null, if_some}
+use Rattle.vm_step.specs.Branching.{leads_if}
+use Rattle.vm_step.specs.Numbers.{handle_at, short_at, dropped}
+use Rattle.vm_step.specs.Calls.{args_of, class_with_methods, made_at, readied, served}
+use Rattle.vm_step.specs.Calls.{served_act, interface_act, call_act, chosen_act, return_act}
 use Rattle.vm_step.specs.Methods.{of_method}
-use Rattle.vm_step.specs.Objects.{array_of_count, kind_of_type, may_cast, type_test_act}
-use Rattle.vm_step.specs.Values.{arithmetic_act, binary, both_widths}
+use Rattle.vm_step.specs.Objects.{array_of_count, kind_of_type, type_test_act}
+use Rattle.vm_step.specs.Values.{arithmetic_act}
 use Rattle.vm_step.specs.Performed.{act}
 use Rattle.vm_step.specs.Step.{Fetches}
 use Rattle.law_sound.specs.Frames.{Typings}
@@ -82,12 +76,10 @@ null-calls-none h rest none = go (h == 0)
     go false = none h
 
 some-calls-none : {A X : Type 0} (e : Exception) (o : Option X) (rest : X → Act A) → ((x : X) → IsNoCall (rest x)) → IsNoCall (if_some e o rest)
-some-calls-none e None rest none = tt
-some-calls-none e (Some x) rest none = none x
+some-calls-none e y rest none = grind (arith)
 
 either-calls-none : {A : Type 0} (b : Bool) (x y : Act A) → IsNoCall x → IsNoCall y → IsNoCall (if b then x else y)
-either-calls-none true x y h g = h
-either-calls-none false x y h g = g
+either-calls-none x x2 y h g = grind (arith)
 
 -- a call, or an operation that calls nothing
 data CallOrNone : Operation → Type 0 where
@@ -95,33 +87,19 @@ data CallOrNone : Operation → Type 0 where
   calls_none : {op : Operation} → ((w : Linked) (i : Insn) (s : State Cell) → IsNoCall (act tagged w i op s)) → CallOrNone op
 
 arithmetic-calls-none : (a : Arithmetic) (s : State Cell) → IsNoCall (arithmetic_act tagged a s)
-arithmetic-calls-none (arithmetic.Binary operator width) s = some-calls-none exceptions.Arithmetic (binary tagged operator width (top s).stack)
-    (λ n. goes (replaced s (both_widths width) (number_cells tagged width n))) (λ n. tt {0})
-arithmetic-calls-none (arithmetic.Negate width) s = tt
-arithmetic-calls-none arithmetic.ShortToByte s = tt
-arithmetic-calls-none arithmetic.ShortToInt s = tt
-arithmetic-calls-none arithmetic.IntToByte s = tt
-arithmetic-calls-none arithmetic.IntToShort s = tt
-arithmetic-calls-none arithmetic.CompareInts s = tt
+arithmetic-calls-none x s = grind (arith, some-calls-none)
 
 branch-calls-none : {A : Type 0} (b : Bool) (to : ℤ) (s : State A) → IsNoCall (leads_if b to s)
-branch-calls-none true to s = tt
-branch-calls-none false to s = tt
+branch-calls-none x to s = grind (arith)
 
 array-calls-none : {A : Type 0} (k : Cells A) (kind : ObjectKind) (n : ℤ) (s : State A) → IsNoCall (array_of_count k kind n s)
-array-calls-none k kind (pos n) s = tt
-array-calls-none k kind (negsuc n) s = tt
+array-calls-none k kind z s = grind (arith)
 
 return-calls-none : (result : Option Ty) (s : State Cell) → IsNoCall (return_act tagged result s)
-return-calls-none None s = tt
-return-calls-none (Some Short) s = tt
-return-calls-none (Some IntHigh) s = tt
-return-calls-none (Some ty) s = tt
+return-calls-none x s = grind (arith)
 
 test-calls-none : (w : Linked) (test : TypeTest) (ty : Ty) (s : State Cell) → IsNoCall (type_test_act tagged w.classes test ty s)
-test-calls-none w tests.Cast ty s =
-    either-calls-none (may_cast w.classes s ty (handle_at tagged (top s).stack 0)) (goes s) (raises exceptions.ClassCast) (tt {0}) (tt {0})
-test-calls-none w tests.InstanceOf ty s = tt
+test-calls-none w y ty s = grind (arith, either-calls-none)
 
 call-or-none : (op : Operation) → CallOrNone op
 call-or-none (ops.Constant c) = calls_none (λ w i s. tt)
@@ -130,31 +108,15 @@ call-or-none (ops.Store of x) = calls_none (λ w i s. tt)
 call-or-none (ops.Increment width x amount) = calls_none (λ w i s. tt)
 call-or-none (ops.Move move) = calls_none (λ w i s. tt)
 call-or-none (ops.Arithmetic a) = calls_none (λ w i s. arithmetic-calls-none a s)
-call-or-none (ops.ArrayRead kind) = calls_none (λ w i s. null-calls-none (handle_at tagged (top s).stack 1)
-    (λ h. at_element (short_at tagged (top s).stack 0) (elements_of s h)
-    (λ i. goes (replaced s 2 (value_in tagged kind (object_cells s h) (i * width kind)))))
-    (λ h. some-calls-none exceptions.ArrayIndex (element_index (short_at tagged (top s).stack 0) (elements_of s h))
-    (λ i. goes (replaced s 2 (value_in tagged kind (object_cells s h) (i * width kind)))) (λ n. tt {0})))
-call-or-none (ops.ArrayWrite kind) =
-    calls_none (λ w i s. null-calls-none (handle_at tagged (top s).stack (width kind + 1))
-    (λ h. at_element (short_at tagged (top s).stack (width kind)) (elements_of s h)
-    (λ i. if keeps_kind tagged w.classes kind s h then goes (with_element tagged kind h i s) else raises exceptions.ArrayStore))
-    (λ h. some-calls-none exceptions.ArrayIndex (element_index (short_at tagged (top s).stack (width kind)) (elements_of s h))
-    (λ i. if keeps_kind tagged w.classes kind s h then goes (with_element tagged kind h i s) else raises exceptions.ArrayStore)
-    (λ i. either-calls-none (keeps_kind tagged w.classes kind s h) (goes (with_element tagged kind h i s)) (raises exceptions.ArrayStore) (tt {0}) (tt {0}))))
-call-or-none ops.ArrayLength =
-    calls_none
-    (λ w i s. null-calls-none (handle_at tagged (top s).stack 0) (λ h. goes (replaced s 1 (tagged.short (short_of_word (elements_of s h)) ∷ [])))
-    (λ h. tt {0}))
-call-or-none (ops.Branch branch) =
-    calls_none (λ w i s. branch-calls-none (is_taken tagged branch (top s).stack) (target (top s).place i.x) (dropped s (branch_width branch)))
+call-or-none (ops.ArrayRead kind) = grind (arith, calls_none, null-calls-none, some-calls-none)
+call-or-none (ops.ArrayWrite kind) = grind (arith, calls_none, null-calls-none, some-calls-none, either-calls-none)
+call-or-none ops.ArrayLength = grind (arith, calls_none, null-calls-none)
+call-or-none (ops.Branch branch) = grind (arith, calls_none, branch-calls-none)
 call-or-none (ops.Switch width) = calls_none (λ w i s. tt)
 call-or-none (ops.StaticRead f) = calls_none (λ w i s. tt)
 call-or-none (ops.StaticWrite f) = calls_none (λ w i s. tt)
-call-or-none (ops.FieldRead f holder) =
-    calls_none (λ w i s. null-calls-none (held_handle tagged holder 0 s) (λ h. goes (with_field_read tagged f holder h s)) (λ h. tt {0}))
-call-or-none (ops.FieldWrite f holder) =
-    calls_none (λ w i s. null-calls-none (held_handle tagged holder (width f.kind) s) (λ h. goes (with_field_write tagged f holder h s)) (λ h. tt {0}))
+call-or-none (ops.FieldRead f holder) = grind (arith, calls_none, null-calls-none)
+call-or-none (ops.FieldWrite f holder) = grind (arith, calls_none, null-calls-none)
 call-or-none (ops.Call callee) = is_call callee
 call-or-none (ops.New place class) = calls_none (λ w i s. tt)
 call-or-none (ops.NewArray ty) = calls_none (λ w i s. array-calls-none tagged (kind_of_type ty) (short_at tagged (top s).stack 0) (dropped s 1))
@@ -201,20 +163,14 @@ module _ (w : Linked) (world : IsWorld w) where
       (k count : ℕ) (y : State Cell) (j size : ℕ) (z : State Cell) → calls j size z ≡ calls k count y
       → length (arguments size (top z).stack) ≡ nargs_of w j → length (arguments count (top y).stack) ≡ nargs_of w k
   unfolding called-method called-count called-state
-  handed k count y j size z e h =
-      let method : j ≡ k = ap called-method e in
-      let many : size ≡ count = ap called-count e in
-      let state : z ≡ y = ap (called-state z) e in
-      ap (λ n. length (arguments n (top y).stack)) (sym many)
-      ∙ (ap (λ (x : State Cell). length (arguments size (top x).stack)) (sym state) ∙ (h ∙ ap (nargs_of w) method))
+  handed k count y j size z e h = grind (arith, called-method, called-count, called-state)
 
   words-of : (k : ℕ) (o : MethodRec) → slice_get w.methods k ≡ Some o → nargs_of w k ≡ length o.sig.args + receiver_words o.is_static
   words-of k o e = ap (of_method 0 (λ (x : MethodRec). x.nargs)) e ∙ (method-known w world k o e).words
 
   with-receiver : (k : ℕ) (o : MethodRec) (sig : Sig) → slice_get w.methods k ≡ Some o → o.sig ≡ sig → o.is_static ≡ false
       → nargs_of w k ≡ length sig.args + 1
-  with-receiver k o sig e same dynamic =
-      words-of k o e ∙ (ap (λ (s : Sig). length s.args + receiver_words o.is_static) same ∙ ap (λ b. length sig.args + receiver_words b) dynamic)
+  with-receiver k o sig e same dynamic = grind (arith, words-of)
 
   module _ (assigned : Typings) (typings : AreTypings w assigned) (f : Frame Cell) (below : List (Frame Cell)) (heap : List (Object Cell)) (statics : List Cell)
       (here : Here w assigned f below heap statics)
@@ -234,44 +190,32 @@ module _ (w : Linked) (world : IsWorld w) where
 
           args-there : few ≤ length f.stack
           args-there =
-              let tys = map (least_type w.classes (assigned.unset f.method) (kinds_of heap)) f.stack in
-              let same = cells-length w.classes (args-below w world assigned typings f below heap statics here n receiver choice m is method) in
-              omega (
+              grind (
                 arith,
-                same,
-                length-take few tys,
+                cells-length w.classes (args-below w world assigned typings f below heap statics here n receiver choice m is method),
                 length-map f.stack (least_type w.classes (assigned.unset f.method) (kinds_of heap)),
                 length-reverse m.sig.args,
+                length-take,
               )
 
           receiver-there : (want : Want) → receiver ≡ Some want → few + 1 ≤ length f.stack
           receiver-there want wants =
-              let at = receiver-at w world assigned typings f below heap statics here n receiver choice m is method want wants in
-              omega (arith, at.inside)
+              grind (arith, receiver-at w world assigned typings f below heap statics here n receiver choice m is method want wants)
 
           readied-length : (o : Option ℕ) → length (top (readied tagged now o)).stack ≡ length f.stack
-          readied-length None = refl
-          readied-length (Some p) = length-map f.stack _
+          readied-length x = grind (arith, length-map)
 
           -- a method of this signature, with a receiver
           whole :
               (k count : ℕ) (y : State Cell) (j : ℕ) (o : MethodRec) (z : State Cell) (want : Want) → receiver ≡ Some want
               → slice_get w.methods j ≡ Some o → o.sig ≡ m.sig → o.is_static ≡ false → length (top z).stack ≡ length f.stack
               → calls j (args_of w n + 1) z ≡ calls k count y → length (arguments count (top y).stack) ≡ nargs_of w k
-          whole k count y j o z want wants there sig dynamic size e =
-              let some : few + 1 ≤ length f.stack = receiver-there want wants in
-              handed k count y j (args_of w n + 1) z e
-              (enough (args_of w n + 1) (top z).stack (omega (arith, some, size, counted))
-              ∙ (ap (λ c. c + 1) counted ∙ sym (with-receiver j o m.sig there sig dynamic)))
+          whole k count y j o z want wants there sig dynamic size e = grind (arith, receiver-there, enough, with-receiver)
 
           static-handed :
               (k count : ℕ) (y : State Cell) → m.is_static ≡ true → calls n (args_of w n) now ≡ calls k count y
               → length (arguments count (top y).stack) ≡ nargs_of w k
-          static-handed k count y static e =
-              let words : nargs_of w n ≡ few + receiver_words m.is_static = words-of n m method in
-              let none : receiver_words m.is_static ≡ 0 = ap receiver_words static in
-              let le : args_of w n ≤ length f.stack = omega (arith, counted, args-there) in
-              handed k count y n (args_of w n) now e (enough (args_of w n) f.stack le ∙ omega (arith, counted, words, none))
+          static-handed k count y static e = grind (arith, words-of, args-there, enough)
 
           special-handed :
               (k count : ℕ) (y : State Cell) (want : Want) → receiver ≡ Some want → m.is_static ≡ false

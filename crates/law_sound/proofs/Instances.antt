@@ -1,12 +1,13 @@
 -- An instance of a class, an interface or an array type is below the type that stands for it.
-use Rattle.std.proofs.Common.{◌≡◌, ℕ, zero, suc, ◌<◌, Bool, true, false, if◌then◌else◌, ◌==◌, List, refl, sym, ap, ◌∙◌, subst}
+use Rattle.std.proofs.Common.{◌≡◌, ℕ, zero, suc, ◌<◌, Bool, true, false, if◌then◌else◌, ◌==◌, List, refl, sym, ap, subst, arith}
 use Rattle.std.specs.Prelude.{length, Some, All}
 use Rattle.std.proofs.lemmas.Bool.{false≢true, eqb-true}
 use Rattle.std.proofs.lemmas.Option.{none-some}
 use Rattle.jc_base.specs.declared.ty.Ty.{Ty}
 use Rattle.jc_base.specs.declared.ty.Ty.TheVariants.{Class, ArrBool, ArrByte, ArrShort, ArrInt, ArrRef}
 use Rattle.jc_base.specs.Class.{ClassTable, AreClasses, IsClass, is_interface, object, class_in_types}
-use Rattle.jc_base.specs.Order.{Below, same, array_object, array_array, of_booleans, of_bytes, of_shorts, of_ints, of_references, is_on_chain, is_below}
+use Rattle.jc_base.specs.Order.{Below, same, array_object, array_array, of_booleans, of_bytes}
+use Rattle.jc_base.specs.Order.{of_shorts, of_ints, of_references, is_on_chain, is_below}
 use Rattle.jc_base.specs.Interface.{is_or_extends, implements}
 use Rattle.jc_base.specs.World.{Linked}
 use Rattle.jc_base.proofs.Lists.{All-slice_get}
@@ -58,17 +59,14 @@ module _ (t : ClassTable) (are : AreClasses t) where
 
   object-below : (k : ObjectKind) (d : ℕ) → Below t (type_of_kind t k) (Class (object t)) → (d == object t) ≡ true
       → Below t (type_of_kind t k) (Class (class_in_types t d))
-  object-below k d b h =
-      let e : object t ≡ class_in_types t d = object-seen ∙ ap (class_in_types t) (sym (eqb-true d (object t) h)) in
-      subst (λ x. Below t (type_of_kind t k) (Class x)) e b
+  object-below k d b h = grind (arith, object-seen, eqb-true)
 
 -- an object that can be made
 pub instance-below :
     (w : Linked) → AreClasses w.classes → (k : ObjectKind) (ty : Ty) → CanBeMade w k → is_instance w.classes k ty ≡ true
     → Below w.classes (type_of_kind w.classes k) (seen w.classes ty)
 instance-below w are (Instance c) (Class d) made h =
-    subst (λ x. Below w.classes (Class x) (Class (class_in_types w.classes d))) (sym (seen-itself w.classes are c made.class))
-    (subtype-below w.classes are c d made.class.number h)
+    grind (arith, seen-itself w.classes are c made.class, subtype-below w.classes are c d made.class.number h)
 instance-below w are (References c) (ArrRef d) made h = array_array (subtype-below w.classes are c d made h)
 instance-below w are (References c) (Class d) made h = object-below w.classes are (References c) d (array_object of_references refl) h
 instance-below w are Booleans (Class d) made h = object-below w.classes are Booleans d (array_object of_booleans refl) h

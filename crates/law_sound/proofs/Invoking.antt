@@ -1,9 +1,10 @@
 -- The four ways in which a method is chosen, at a frame's turn.
-use Rattle.std.proofs.Common.{◌≡◌, ℕ, ◌+◌, ◌⊎◌, inl, inr, true, false, List, ◌∷◌, length, refl, sym, ap, ◌∙◌, subst}
+use Rattle.std.proofs.Common.{◌≡◌, ℕ, ◌+◌, ◌⊎◌, inl, inr, true, false, List, ◌∷◌, length, refl, sym, ap, ◌∙◌, subst, arith, rules}
 use Rattle.std.specs.Prelude.{Option, Some, None, slice_get, slice_index_or, unwrap_or}
 use Rattle.std.proofs.lemmas.Bool.{eqb-true}
 use Rattle.jc_base.specs.declared.ty.Ty.{Ty}
-use Rattle.jc_base.specs.declared.ty.Ty.TheVariants.{Bottom, Short, IntHigh, IntLow, Null, Class, ArrBool, ArrByte, ArrShort, ArrInt, ArrRef, Fresh, Top}
+use Rattle.jc_base.specs.declared.ty.Ty.TheVariants.{Bottom, Short, IntHigh, IntLow, Null, Class, ArrBool}
+use Rattle.jc_base.specs.declared.ty.Ty.TheVariants.{ArrByte, ArrShort, ArrInt, ArrRef, Fresh, Top}
 use Rattle.jc_base.specs.declared.record.MethodRec.{MethodRec}
 use Rattle.jc_base.specs.Class.{ClassTable, object}
 use Rattle.jc_base.specs.Order.{Below, joined, is_below}
@@ -22,7 +23,7 @@ use Rattle.jc_rules.proofs.Falls.{plain_class}
 use Rattle.vm_store.specs.declared.cell.Cell.{Cell}
 use Rattle.vm_store.specs.declared.cell.Cell.TheVariants as cells
 use Rattle.vm_store.specs.declared.kind.ObjectKind.{ObjectKind}
-use Rattle.vm_store.specs.declared.kind.ObjectKind.TheVariants.{Instance, Booleans, Bytes, Shorts, Ints, References}
+use Rattle.vm_store.specs.declared.kind.ObjectKind.TheVariants.{Instance}
 use Rattle.vm_store.specs.Kind.{kind_of_handle, type_of_kind, IsArrayKind}
 use Rattle.vm_store.specs.Typing.{least_type}
 use Rattle.vm_store.specs.Cells.{tagged, word_of}
@@ -46,39 +47,19 @@ use Rattle.law_sound.proofs.SafeTurns.{Here, null-safe}
 
 -- an object is an instance of a class, or an array
 pub instance-or-array : (k : ObjectKind) → ((d : ℕ) × (k ≡ Instance d)) ⊎ IsArrayKind k
-instance-or-array (Instance d) = inl (d, refl)
-instance-or-array Booleans = inr (tt {0})
-instance-or-array Bytes = inr (tt {0})
-instance-or-array Shorts = inr (tt {0})
-instance-or-array Ints = inr (tt {0})
-instance-or-array (References c) = inr (tt {0})
+instance-or-array x = grind (arith)
 
 -- an array has the methods of class object, and is below it alone
 pub array-class : (t : ClassTable) (k : ObjectKind) → IsArrayKind k → class_with_methods t (Some k) ≡ object t
-array-class t (Instance d) h = absurd h
-array-class t Booleans h = refl
-array-class t Bytes h = refl
-array-class t Shorts h = refl
-array-class t Ints h = refl
-array-class t (References c) h = refl
+array-class t y h = grind (arith)
 
 pub array-object : (t : ClassTable) (k : ObjectKind) (c : ℕ) → IsArrayKind k → is_below t (type_of_kind t k) (Class c) ≡ true → c ≡ object t
 unfolding is_below
-array-object t (Instance d) c h b = absurd h
-array-object t Booleans c h b = eqb-true c (object t) b
-array-object t Bytes c h b = eqb-true c (object t) b
-array-object t Shorts c h b = eqb-true c (object t) b
-array-object t Ints c h b = eqb-true c (object t) b
-array-object t (References d) c h b = eqb-true c (object t) b
+array-object t y c h b = grind (arith, eqb-true)
 
 pub array-lacks : (t : ClassTable) (interface token count : ℕ) (k : ObjectKind) (s : State Cell) → IsArrayKind k
     → interface_act t interface token count (Some k) s ≡ lacks (object t)
-array-lacks t interface token count (Instance d) s h = absurd h
-array-lacks t interface token count Booleans s h = refl
-array-lacks t interface token count Bytes s h = refl
-array-lacks t interface token count Shorts s h = refl
-array-lacks t interface token count Ints s h = refl
-array-lacks t interface token count (References d) s h = refl
+array-lacks t interface token count v s h = grind (arith)
 
 module _ (w : Linked) (world : IsWorld w) (assigned : Typings) (typings : AreTypings w assigned) (f : Frame Cell) (below : List (Frame Cell))
     (heap : List (Object Cell)) (statics : List Cell)
@@ -99,29 +80,20 @@ module _ (w : Linked) (world : IsWorld w) (assigned : Typings) (typings : AreTyp
           own-type : (o : IsObject w.classes heap (word_of (slice_index_or f.stack (length m.sig.args) cells.Empty)) (Class c))
               → least_type w.classes (assigned.unset f.method) (kinds_of heap) (slice_index_or f.stack (length m.sig.args) cells.Empty)
               ≡ type_of_kind w.classes o.object.kind
-          own-type o =
-              reference-same w.classes world.chains (assigned.unset f.method) (kinds_of heap) (slice_index_or f.stack (length m.sig.args) cells.Empty)
-              (Class c) tt
-              (receiver-filled w world assigned typings f below heap statics here n receiver choice m is method (Value (Class c)) wants) under
-              ∙ kind-type w.classes (kinds_of heap) (word_of (slice_index_or f.stack (length m.sig.args) cells.Empty)) o.object.kind o.kind_is
+          own-type o = grind (arith, reference-same, kinds_of, receiver-filled, under, kind-type)
 
           run : (k : ℕ) (o : MethodRec) → slice_get w.methods k ≡ Some o → lacks_code w.classes o ≡ false → o.sig ≡ m.sig
               → o.is_static ≡ false
               → Below w.classes (least_type w.classes (assigned.unset f.method) (kinds_of heap) (slice_index_or f.stack (length m.sig.args) cells.Empty))
               (Class o.class)
               → IsTypedOutcome w assigned (entered_call tagged w k (args_of w n + 1) (record { frames = f ∷ below; heap = heap; statics = statics }))
-          run k o there code_is sig dynamic receives =
-              run-safe w world assigned typings f below heap statics here n receiver choice m is method (Value (Class c)) wants k o there code_is sig dynamic
-              (ready-value (length m.sig.args + 1) (result_given m.sig.result)
-              (cell (least_types w.classes (assigned.unset f.method) (kinds_of heap) f.stack) (length m.sig.args)) (Class c)) receives
+          run k o there code_is sig dynamic receives = search (rules, run-safe, ready-value)
 
           run-for : (r k : ℕ) (kind : ObjectKind) → kind ≡ Instance r → RunsFor w r k m.sig
               → least_type w.classes (assigned.unset f.method) (kinds_of heap) (slice_index_or f.stack (length m.sig.args) cells.Empty)
               ≡ type_of_kind w.classes kind
               → IsTypedOutcome w assigned (entered_call tagged w k (args_of w n + 1) (record { frames = f ∷ below; heap = heap; statics = statics }))
-          run-for r k kind kind_is runs type_is =
-              run k runs.rec runs.is_method runs.code runs.sig_is runs.dynamic
-              (subst (λ a. Below w.classes a (Class runs.rec.class)) (sym (type_is ∙ ap (type_of_kind w.classes) kind_is)) runs.receives)
+          run-for r k kind kind_is runs type_is = grind (arith, run)
 
           -- by the class of the object
           dispatched-safe :
@@ -190,8 +162,7 @@ module _ (w : Linked) (world : IsWorld w) (assigned : Typings) (typings : AreTyp
               ≡ type_of_kind w.classes (Instance r)
               → IsTypedOutcome w assigned (settled tagged w next (record { frames = f ∷ below; heap = heap; statics = statics })
               (served_act o r (args_of w n + 1) (record { frames = f ∷ below; heap = heap; statics = statics })))
-          served-safe interface token next r h None e concrete class at type_is =
-              plain-safe w assigned (InterfaceMissing r) (f ∷ below) heap statics here.store
+          served-safe interface token next r h None e concrete class at type_is = grind (arith, plain-safe)
           served-safe interface token next r h (Some k) e concrete class at type_is =
               run-for r k (Instance r) refl (served-runs w world interface token r n k m concrete method class at e) type_is
 
@@ -233,10 +204,7 @@ module _ (w : Linked) (world : IsWorld w) (assigned : Typings) (typings : AreTyp
             (entered_call tagged w n (args_of w n + 1) (readied tagged (record { frames = f ∷ below; heap = heap; statics = statics }) o))
             → IsTypedOutcome w assigned
             (entered_call tagged w n (args_of w n + 1) (readied tagged (record { frames = f ∷ below; heap = heap; statics = statics }) place))
-        readied-safe o place e h =
-            subst
-            (λ p. IsTypedOutcome w assigned
-            (entered_call tagged w n (args_of w n + 1) (readied tagged (record { frames = f ∷ below; heap = heap; statics = statics }) p))) (sym e) h
+        readied-safe o place e h = grind (arith)
 
         pub named-safe :
             (want : Want) → receiver ≡ Some want → lacks_code w.classes m ≡ false → m.is_static ≡ false → IsReceiverOf w m (Some want)

@@ -1,5 +1,5 @@
 -- Moves on the stack at a frame's turn.
-use Rattle.std.proofs.Common.{◌≡◌, ℕ, ◌+◌, List, ◌∷◌, ◌++◌, take, drop, map, refl, sym, ap, ◌∙◌, subst}
+use Rattle.std.proofs.Common.{◌≡◌, ℕ, ◌+◌, List, ◌∷◌, ◌++◌, take, drop, map, refl, sym, ap, ◌∙◌, subst, arith}
 use Rattle.std.specs.Prelude.{All}
 use Rattle.std.proofs.lemmas.List.{map-append, take-map, drop-map, drop-take}
 use Rattle.std.proofs.lemmas.List.Elements.{All-append, All-take, All-drop}
@@ -29,31 +29,14 @@ use Rattle.law_sound.proofs.SafeTurns.{Here, on-safe}
 -- the types of moved cells are moved types
 copied-types : (ty : Cell → Ty) (copied under : ℕ) (cs : List Cell) →
     map ty (take under cs ++ (take copied cs ++ drop under cs)) ≡ take under (map ty cs) ++ (take copied (map ty cs) ++ drop under (map ty cs))
-copied-types ty copied under cs =
-    map-append ty (take under cs) (take copied cs ++ drop under cs)
-    ∙ (ap (λ ts. ts ++ map ty (take copied cs ++ drop under cs)) (sym (take-map ty under cs))
-    ∙ ap (λ ts. take under (map ty cs) ++ ts)
-    (map-append ty (take copied cs) (drop under cs)
-    ∙ (ap (λ ts. ts ++ map ty (drop under cs)) (sym (take-map ty copied cs)) ∙ ap (λ ts. take copied (map ty cs) ++ ts) (sym (drop-map ty under cs)))))
+copied-types ty copied under cs = grind (arith, map-append, take-map, drop-map)
 
 exchanged-types : (ty : Cell → Ty) (top under : ℕ) (cs : List Cell) →
     map ty (rotated (top + under) top cs) ≡ take under (drop top (map ty cs)) ++ (take top (map ty cs) ++ drop (top + under) (map ty cs))
-exchanged-types ty top under cs =
-    ap (λ xs. map ty (xs ++ (take top cs ++ drop (top + under) cs))) (drop-take top under cs)
-    ∙ (map-append ty (take under (drop top cs)) (take top cs ++ drop (top + under) cs)
-    ∙ (ap (λ ts. ts ++ map ty (take top cs ++ drop (top + under) cs)) (sym (take-map ty under (drop top cs)) ∙ ap (take under) (sym (drop-map ty top cs)))
-    ∙ ap (λ ts. take under (drop top (map ty cs)) ++ ts)
-    (map-append ty (take top cs) (drop (top + under) cs)
-    ∙ (ap (λ ts. ts ++ map ty (drop (top + under) cs)) (sym (take-map ty top cs))
-    ∙ ap (λ ts. take top (map ty cs) ++ ts) (sym (drop-map ty (top + under) cs))))))
+exchanged-types ty top under cs = grind (arith, drop-take, map-append, take-map, drop-map)
 
 moved-types : (ty : Cell → Ty) (m : Move) (cs : List Cell) → map ty (moved m cs) ≡ changed (move_effect m).change (map ty cs)
-moved-types ty moves.Pop cs = sym (drop-map ty 1 cs)
-moved-types ty moves.PopTwo cs = sym (drop-map ty 2 cs)
-moved-types ty moves.Duplicate cs = copied-types ty 1 0 cs
-moved-types ty moves.DuplicateTwo cs = copied-types ty 2 0 cs
-moved-types ty (moves.CopyUnder copied under) cs = copied-types ty copied under cs
-moved-types ty (moves.Exchange top under) cs = exchanged-types ty top under cs
+moved-types ty y cs = grind (arith, drop-map, copied-types, exchanged-types)
 
 moved-all : {X : Type 0} (P : X → Type 0) (m : Move) (cs : List X) → All P cs → All P (moved m cs)
 moved-all P moves.Pop cs h = All-drop P 1 cs h
@@ -69,12 +52,7 @@ moved-all P (moves.Exchange top under) cs h =
     (All-append P (take top cs) (drop (top + under) cs) (All-take P top cs h) (All-drop P (top + under) cs h))
 
 on-stack-alone : (m : Move) → move_effect m ≡ on_stack (move_effect m).change
-on-stack-alone moves.Pop = refl
-on-stack-alone moves.PopTwo = refl
-on-stack-alone moves.Duplicate = refl
-on-stack-alone moves.DuplicateTwo = refl
-on-stack-alone (moves.CopyUnder copied under) = refl
-on-stack-alone (moves.Exchange top under) = refl
+on-stack-alone x = grind (arith)
 
 module _ (w : Linked) (world : IsWorld w) (assigned : Typings) (f : Frame Cell) (below : List (Frame Cell)) (heap : List (Object Cell)) (statics : List Cell)
     (here : Here w assigned f below heap statics)
@@ -98,8 +76,6 @@ module _ (w : Linked) (world : IsWorld w) (assigned : Typings) (f : Frame Cell) 
         on-safe w world assigned f below heap statics here f.registers (moved m f.stack) heap statics (ap falls_from is)
         (record {
           regs = subst (CellsBelow w.classes exact.regs) (sym regs_are) (cells-same w.classes exact.regs);
-          stack =
-              subst (CellsBelow w.classes (least_types w.classes (assigned.unset f.method) ks (moved m f.stack))) stack_now
-              (cells-same w.classes (least_types w.classes (assigned.unset f.method) ks (moved m f.stack)));
+          stack = grind (arith, cells-same);
         })
         (moved-all (IsStacked w here.turn.stands.rec ks) m f.stack here.turn.stacked) here.store refl

@@ -1,5 +1,5 @@
 -- Constants and arithmetic at a frame's turn.
-use Rattle.std.proofs.Common.{◌≡◌, ℕ, ◌+◌, true, List, [], ◌∷◌, refl, ap, ◌∙◌}
+use Rattle.std.proofs.Common.{◌≡◌, ℕ, ◌+◌, true, List, [], ◌∷◌, refl, ap, ◌∙◌, arith}
 use Rattle.std.specs.Prelude.{ℤ, Option}
 use Rattle.std.proofs.lemmas.List.Elements.{All-nil}
 use Rattle.jc_base.specs.Order.{same}
@@ -21,8 +21,6 @@ use Rattle.vm_store.specs.declared.cell.Cell.{Cell}
 use Rattle.vm_store.specs.declared.cell.Cell.TheVariants as cells
 use Rattle.vm_store.specs.Cells.{tagged}
 use Rattle.vm_store.specs.State.{Frame, Object}
-use Rattle.vm_step.specs.declared.exception.Exception.TheVariants as exceptions
-use Rattle.vm_step.specs.Act.{goes}
 use Rattle.vm_step.specs.Numbers.{short_at, int_on, number_on, number_cells, replaced}
 use Rattle.vm_step.specs.Values.{with_constant, binary, negated, computed, arithmetic_act}
 use Rattle.vm_step.specs.Settled.{goes_to, settled}
@@ -80,11 +78,7 @@ module _ (w : Linked) (world : IsWorld w) (assigned : Typings) (f : Frame Cell) 
         → IsTypedOutcome w assigned (settled tagged w (here.turn.stands.instruction.place + here.turn.stands.instruction.insn.len)
         (record { frames = f ∷ below; heap = heap; statics = statics })
         (computed tagged width (record { frames = f ∷ below; heap = heap; statics = statics }) taken result))
-    computed-safe taken width result op is does falls =
-        some-safe w world assigned f below heap statics here (here.turn.stands.instruction.place + here.turn.stands.instruction.insn.len)
-        exceptions.Arithmetic result
-        (λ n. goes (replaced (record { frames = f ∷ below; heap = heap; statics = statics }) taken (number_cells tagged width n)))
-        (λ n e. number-safe taken width n op is does falls)
+    computed-safe taken width result op is does falls = grind (arith, some-safe, number-safe)
 
     pub arithmetic-safe :
         (a : Arithmetic) → here.turn.operation ≡ ops.Arithmetic a

@@ -1,11 +1,12 @@
 -- New objects, casts and what is thrown, at a frame's turn.
-use Rattle.std.proofs.Common.{◌≡◌, ℕ, ◌+◌, ◌<◌, inl, inr, Bool, true, false, if◌then◌else◌, List, [], ◌∷◌, ◌++◌, length, drop}
+use Rattle.std.proofs.Common.{◌≡◌, ℕ, ◌+◌, ◌<◌, Bool, true, false, if◌then◌else◌, List, [], ◌∷◌, ◌++◌, length, drop}
 use Rattle.std.proofs.Common.{refl, sym, ap, ◌∙◌, subst, arith}
 use Rattle.std.specs.Prelude.{ℤ, pos, negsuc, Option, Some, None, Ok, All, slice_index_or, ◌==◌, ◌||◌}
 use Rattle.std.proofs.lemmas.Bool.{false≢true, eqb-true, or_cases}
 use Rattle.std.proofs.lemmas.List.Elements.{All-cons, All-drop, All-weaker}
 use Rattle.jc_base.specs.declared.ty.Ty.{Ty}
-use Rattle.jc_base.specs.declared.ty.Ty.TheVariants.{Bottom, Short, IntHigh, IntLow, Null, Class, ArrBool, ArrByte, ArrShort, ArrInt, ArrRef, Fresh, Top}
+use Rattle.jc_base.specs.declared.ty.Ty.TheVariants.{Bottom, Short, IntHigh, IntLow, Null, Class, ArrBool}
+use Rattle.jc_base.specs.declared.ty.Ty.TheVariants.{ArrByte, ArrShort, ArrInt, ArrRef, Fresh, Top}
 use Rattle.jc_base.specs.Class.{object, throwable}
 use Rattle.jc_base.specs.Order.{Below, same, null_object, null_array, of_booleans, of_bytes, of_shorts, of_ints, of_references, IsArray}
 use Rattle.jc_base.specs.Dispatch.{IsConcrete}
@@ -34,9 +35,11 @@ use Rattle.vm_step.specs.declared.exception.Exception.TheVariants as exceptions
 use Rattle.vm_step.specs.Methods.{instruction_at}
 use Rattle.vm_step.specs.Act.{goes, makes, raises, throws}
 use Rattle.vm_step.specs.Numbers.{handle_at, short_at, dropped}
-use Rattle.vm_step.specs.Objects.{kind_of_type, new_act, array_of_count, new_array_act, throw_act, kind_passes, passes, may_cast, truth, type_test_act}
+use Rattle.vm_step.specs.Objects.{kind_of_type, new_act, array_of_count, new_array_act, throw_act}
+use Rattle.vm_step.specs.Objects.{kind_passes, passes, may_cast, truth, type_test_act}
 use Rattle.vm_step.specs.Settled.{goes_to, settled}
-use Rattle.law_sound.specs.Frames.{Typings, types_of_frame, class_made, class_of_new, class_made_by, IsStacked, IsTypedFrame, AreWaiting, result_of}
+use Rattle.law_sound.specs.Frames.{Typings, types_of_frame, class_made, class_of_new, class_made_by}
+use Rattle.law_sound.specs.Frames.{IsStacked, result_of, IsTypedFrame, AreWaiting}
 use Rattle.law_sound.specs.State.{CanBeMade}
 use Rattle.law_sound.specs.Soundness.{IsTypedOutcome}
 use Rattle.law_sound.proofs.CellTypes.{stacked-filled, stacked-falls, types-fall}
@@ -54,8 +57,7 @@ use Rattle.law_sound.proofs.SafeTurns.{Here, typed-after, replaced-below, replac
 
 -- a list that has an element is its first and the rest
 top-and-rest : (xs : List Cell) → 0 < length xs → slice_index_or xs 0 cells.Empty ∷ drop 1 xs ≡ xs
-top-and-rest [] h = absurd (omega (arith, h))
-top-and-rest (x ∷ xs) h = refl
+top-and-rest x h = grind (arith)
 
 module _ (w : Linked) (world : IsWorld w) (assigned : Typings) (f : Frame Cell) (below : List (Frame Cell)) (heap : List (Object Cell)) (statics : List Cell)
     (here : Here w assigned f below heap statics)
@@ -152,34 +154,10 @@ module _ (w : Linked) (world : IsWorld w) (assigned : Typings) (f : Frame Cell) 
     kind-seen Top a = elim a [ ]
 
     kind-array : (ty : Ty) → IsArrayKind (kind_of_type ty)
-    kind-array ArrBool = tt {0}
-    kind-array ArrByte = tt {0}
-    kind-array ArrShort = tt {0}
-    kind-array ArrInt = tt {0}
-    kind-array (ArrRef c) = tt {0}
-    kind-array Bottom = tt {0}
-    kind-array Short = tt {0}
-    kind-array IntHigh = tt {0}
-    kind-array IntLow = tt {0}
-    kind-array Null = tt {0}
-    kind-array (Class c) = tt {0}
-    kind-array (Fresh p c) = tt {0}
-    kind-array Top = tt {0}
+    kind-array x = grind (arith)
 
     kind-made : (ty : Ty) → IsNamedType w.classes ty → CanBeMade w (kind_of_type ty)
-    kind-made (ArrRef c) named = named
-    kind-made ArrBool named = tt
-    kind-made ArrByte named = tt
-    kind-made ArrShort named = tt
-    kind-made ArrInt named = tt
-    kind-made Bottom named = tt
-    kind-made Short named = tt
-    kind-made IntHigh named = tt
-    kind-made IntLow named = tt
-    kind-made Null named = tt
-    kind-made (Class c) named = tt
-    kind-made (Fresh p c) named = tt
-    kind-made Top named = tt
+    kind-made x named = grind (arith)
 
     array-safe :
         (ty : Ty) (count : ℤ) → here.turn.operation ≡ ops.NewArray ty → IsArray ty → IsNamedType w.classes ty
@@ -253,11 +231,7 @@ module _ (w : Linked) (world : IsWorld w) (assigned : Typings) (f : Frame Cell) 
     pub may-cast-below :
         (ty : Ty) (h : ℕ) → IsNamedType w.classes ty → (h == 0 || kind_passes w.classes ty (kind_of_handle (kinds_of heap) h)) ≡ true
         → Below w.classes (type_of_handle w.classes (kinds_of heap) h) (seen w.classes ty)
-    may-cast-below ty h named test = elim (or_cases (h == 0) (kind_passes w.classes ty (kind_of_handle (kinds_of heap) h)) test) [
-      | inl null ↦ subst (λ n. Below w.classes (type_of_handle w.classes (kinds_of heap) n) (seen w.classes ty)) (sym (eqb-true h 0 null))
-          (null-below ty named)
-      | inr passed ↦ cast-below ty h named passed
-    ]
+    may-cast-below ty h named test = grind (arith, or_cases, eqb-true, null-below, cast-below)
 
     pub type-test-safe :
         (test : TypeTest) (ty : Ty) → here.turn.operation ≡ ops.TypeTest test ty → IsNamedType w.classes ty

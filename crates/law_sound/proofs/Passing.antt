@@ -1,5 +1,5 @@
 -- An operation whose demands are met passes the tests before it, in a world whose classes are as they should be.
-use Rattle.std.proofs.Common.{◌≡◌, ◌≤◌, Bool, true, false, if◌then◌else◌, List, [], ◌∷◌, length, map, refl, sym, subst}
+use Rattle.std.proofs.Common.{◌≡◌, ◌≤◌, Bool, true, false, if◌then◌else◌, List, [], ◌∷◌, length, map, refl, subst, arith}
 use Rattle.std.specs.Prelude.{Option, Some, None, nat_lt, MatchBool}
 use Rattle.std.specs.List.{list_all}
 use Rattle.std.proofs.lemmas.Bool.{false≢true, le-ltb, and_from}
@@ -26,14 +26,10 @@ use Rattle.law_sound.specs.Frames.{types_of_frame}
 module _ (w : Linked) (chains : AreClasses w.classes) where
   pick : {X : Type 0} (x y z : Option X) (a b c : Bool) → a ≡ false → b ≡ false → c ≡ true
       → (if a then x else if b then y else if c then None else z) ≡ None
-  pick x y z true b c h k l = absurd (false≢true (sym h))
-  pick x y z false true c h k l = absurd (false≢true (sym k))
-  pick x y z false false false h k l = absurd (false≢true l)
-  pick x y z false false true h k l = refl
+  pick x y z u b c h k l = grind (arith, false≢true)
 
   true-of : (b : Bool) (P : Type 0) → MatchBool b P (¬ P) → P → b ≡ true
-  true-of true P decided h = refl
-  true-of false P decided h = absurd (decided h)
+  true-of x y decided h = grind (arith)
 
   hold-tests : (types : Types) (ds : List Demand) → SatisfiesAll w.classes types ds → list_all (satisfies w.classes types) ds ≡ true
   hold-tests types [] h = refl

@@ -1,18 +1,17 @@
 -- The receiver of a call, and cells that a constructor makes ready.
-use Rattle.std.proofs.Common.{◌≡◌, ℕ, zero, suc, Bool, true, false, if◌then◌else◌, ◌==◌, List, [], ◌∷◌, map, refl, sym, ap, ◌∙◌}
+use Rattle.std.proofs.Common.{◌≡◌, ℕ, zero, suc, Bool, true, false, if◌then◌else◌, ◌==◌, List, [], ◌∷◌, map, refl, sym, ap, ◌∙◌, arith}
 use Rattle.std.proofs.Common.{subst}
 use Rattle.std.specs.Prelude.{Option, Some, None, All, slice_get}
 use Rattle.std.proofs.lemmas.Bool.{eqb-true}
 use Rattle.std.proofs.lemmas.Option.{same_Some}
 use Rattle.std.proofs.lemmas.List.Elements.{All-head, All-tail, All-cons, All-nil}
 use Rattle.jc_base.specs.declared.ty.Ty.{Ty}
-use Rattle.jc_base.specs.declared.ty.Ty.TheVariants.{Bottom, Short, IntHigh, IntLow, Null, Class, ArrBool, ArrByte, ArrShort, ArrInt, ArrRef, Fresh, Top}
+use Rattle.jc_base.specs.declared.ty.Ty.TheVariants.{Short, Class, Fresh}
 use Rattle.jc_base.specs.declared.record.MethodRec.{MethodRec}
 use Rattle.jc_base.specs.Class.{ClassTable, AreClasses}
 use Rattle.jc_base.specs.Order.{Below}
 use Rattle.jc_base.specs.Cell.{IsDeclared}
 use Rattle.jc_base.specs.World.{Linked}
-use Rattle.jc_base.proofs.Lists.{IsSomeAnd-some, IsSomeAnd-from}
 use Rattle.jc_ops.specs.declared.want.Want.TheVariants.{Value, Receiver}
 use Rattle.jc_rules.specs.declared.effect.Cells.{Cells}
 use Rattle.jc_rules.specs.declared.effect.Change.TheVariants.{Replace}
@@ -39,80 +38,26 @@ use Rattle.law_sound.proofs.Ready.{value-ready}
 -- ---- what is no object on which a constructor is to be called
 
 pub ready-value : (taken : ℕ) (given : Cells) (found wanted : Ty) → ready_with taken given found (Value wanted) ≡ Replace taken given
-ready-value taken given (Fresh p c) wanted = refl
-ready-value taken given Bottom wanted = refl
-ready-value taken given Short wanted = refl
-ready-value taken given IntHigh wanted = refl
-ready-value taken given IntLow wanted = refl
-ready-value taken given Null wanted = refl
-ready-value taken given (Class c) wanted = refl
-ready-value taken given ArrBool wanted = refl
-ready-value taken given ArrByte wanted = refl
-ready-value taken given ArrShort wanted = refl
-ready-value taken given ArrInt wanted = refl
-ready-value taken given (ArrRef c) wanted = refl
-ready-value taken given Top wanted = refl
+ready-value taken given z wanted = grind (arith)
 
 pub ready-receiver : (taken : ℕ) (given : Cells) (found : Ty) (class : ℕ) → IsNotFresh found → ready_with taken given found (Receiver class)
     ≡ Replace taken given
-ready-receiver taken given (Fresh p c) class h = absurd h
-ready-receiver taken given Bottom class h = refl
-ready-receiver taken given Short class h = refl
-ready-receiver taken given IntHigh class h = refl
-ready-receiver taken given IntLow class h = refl
-ready-receiver taken given Null class h = refl
-ready-receiver taken given (Class c) class h = refl
-ready-receiver taken given ArrBool class h = refl
-ready-receiver taken given ArrByte class h = refl
-ready-receiver taken given ArrShort class h = refl
-ready-receiver taken given ArrInt class h = refl
-ready-receiver taken given (ArrRef c) class h = refl
-ready-receiver taken given Top class h = refl
+ready-receiver taken given z class h = grind (arith)
 
 pub made-none : (class : ℕ) (found : Ty) → IsNotFresh found → made_at (Some (Receiver class)) found ≡ None
-made-none class (Fresh p c) h = absurd h
-made-none class Bottom h = refl
-made-none class Short h = refl
-made-none class IntHigh h = refl
-made-none class IntLow h = refl
-made-none class Null h = refl
-made-none class (Class c) h = refl
-made-none class ArrBool h = refl
-made-none class ArrByte h = refl
-made-none class ArrShort h = refl
-made-none class ArrInt h = refl
-made-none class (ArrRef c) h = refl
-made-none class Top h = refl
+made-none class y h = grind (arith)
 
 pub made-value : (wanted found : Ty) → made_at (Some (Value wanted)) found ≡ None
-made-value wanted (Fresh p c) = refl
-made-value wanted Bottom = refl
-made-value wanted Short = refl
-made-value wanted IntHigh = refl
-made-value wanted IntLow = refl
-made-value wanted Null = refl
-made-value wanted (Class c) = refl
-made-value wanted ArrBool = refl
-made-value wanted ArrByte = refl
-made-value wanted ArrShort = refl
-made-value wanted ArrInt = refl
-made-value wanted (ArrRef c) = refl
-made-value wanted Top = refl
+made-value wanted y = grind (arith)
 
 -- ---- an object on which a constructor is to be called
 
 module _ (t : ClassTable) (unset : Ty) (ks : List ObjectKind) where
   kind-no_fresh : (class : ℕ) (k : ObjectKind) → IsFreshOf class (type_of_kind t k) → ⊥
-  kind-no_fresh class (Instance c) h = h
-  kind-no_fresh class Booleans h = h
-  kind-no_fresh class Bytes h = h
-  kind-no_fresh class Shorts h = h
-  kind-no_fresh class Ints h = h
-  kind-no_fresh class (References c) h = h
+  kind-no_fresh class y h = grind (arith)
 
   seen-no_fresh : (class : ℕ) (o : Option ObjectKind) → IsFreshOf class (type_seen t o) → ⊥
-  seen-no_fresh class None h = h
-  seen-no_fresh class (Some k) h = kind-no_fresh class k h
+  seen-no_fresh class y h = grind (arith, kind-no_fresh)
 
   -- its handle and its place
   pub record IsNewOf (class : ℕ) (c : Cell) : Type 0 where
@@ -134,46 +79,18 @@ module _ (t : ClassTable) (unset : Ty) (ks : List ObjectKind) where
   seen-new class h p (Some (References c)) e fresh = absurd fresh
 
   empty-no_fresh : (class : ℕ) (c : Cell) → IsReadyCell c → IsFreshOf class (least_type t unset ks c) → ⊥
-  empty-no_fresh class cells.Empty r h = r
-  empty-no_fresh class (cells.Short n) r h = h
-  empty-no_fresh class (cells.High n) r h = h
-  empty-no_fresh class (cells.Low n) r h = h
-  empty-no_fresh class (cells.Ref zero) r h = h
-  empty-no_fresh class (cells.Ref (suc n)) r h = seen-no_fresh class (slice_get ks n) h
-  empty-no_fresh class (cells.Fresh n p) r h = r
+  empty-no_fresh class y r h = grind (arith, seen-no_fresh)
 
   pub new-of : (class : ℕ) (c : Cell) → HasContent c → IsFreshOf class (least_type t unset ks c) → IsNewOf class c
-  new-of class cells.Empty f h = absurd f
-  new-of class (cells.Short n) f h = absurd h
-  new-of class (cells.High n) f h = absurd h
-  new-of class (cells.Low n) f h = absurd h
-  new-of class (cells.Ref n) f h = absurd (empty-no_fresh class (cells.Ref n) tt h)
-  new-of class (cells.Fresh n p) f h = seen-new class n p (kind_of_handle ks n) refl (subst (IsFreshOf class) (fresh-at ks n p) h)
+  new-of class y f h = grind (arith, empty-no_fresh, seen-new, fresh-at)
 
 -- ---- cells that are made ready
 
 pub ready-kept : (place class : ℕ) (ty : Ty) → IsNotFresh ty → ready place class ty ≡ ty
-ready-kept place class (Fresh p c) h = absurd h
-ready-kept place class Bottom h = refl
-ready-kept place class Short h = refl
-ready-kept place class IntHigh h = refl
-ready-kept place class IntLow h = refl
-ready-kept place class Null h = refl
-ready-kept place class (Class c) h = refl
-ready-kept place class ArrBool h = refl
-ready-kept place class ArrByte h = refl
-ready-kept place class ArrShort h = refl
-ready-kept place class ArrInt h = refl
-ready-kept place class (ArrRef c) h = refl
-ready-kept place class Top h = refl
+ready-kept place class z h = grind (arith)
 
 cell-kept : (place : ℕ) (c : Cell) → IsReadyCell c → made_ready place c ≡ c
-cell-kept place cells.Empty h = absurd h
-cell-kept place (cells.Short n) h = refl
-cell-kept place (cells.High n) h = refl
-cell-kept place (cells.Low n) h = refl
-cell-kept place (cells.Ref n) h = refl
-cell-kept place (cells.Fresh n p) h = absurd h
+cell-kept place y h = grind (arith)
 
 below-parts : (t : ClassTable) {a b : Ty} {xs ys : List Ty} → CellsBelow t (a ∷ xs) (b ∷ ys) → Below t a b × CellsBelow t xs ys
 below-parts t (more_cells first rest) = (first, rest)
@@ -212,9 +129,7 @@ module _ (w : Linked) (are : AreClasses w.classes) (m : MethodRec) (unset : Ty) 
           let cell_is : made_ready place (cells.Fresh h p) ≡ cells.Ref h = ap (λ x. if x then cells.Ref h else cells.Fresh h p) e in
           let after_is : ready place class (Fresh p c) ≡ Class class = ap (λ x. if x then Class class else Fresh p c) e in
           record {
-            type_is =
-                ap (least_type w.classes unset ks) cell_is
-                ∙ (kind-type w.classes ks h (Instance c) kind ∙ (ap Class same_class ∙ sym (ap (ready place class) ty ∙ after_is)));
+            type_is = grind (arith, cell_is, kind-type, kind, place, ty);
             stacked = subst (IsStacked w m ks) (sym cell_is) tt;
           }
       go false e =
@@ -222,8 +137,7 @@ module _ (w : Linked) (are : AreClasses w.classes) (m : MethodRec) (unset : Ty) 
           let after_is : ready place class (Fresh p c) ≡ Fresh p c = ap (λ x. if x then Class class else Fresh p c) e in
           record {
             type_is = ap (least_type w.classes unset ks) cell_is ∙ (ty ∙ sym (ap (ready place class) ty ∙ after_is));
-            stacked = subst (IsStacked w m ks) (sym cell_is)
-                (IsSomeAnd-from (λ (x : ℕ). kind_of_handle ks h ≡ Some (Instance x)) (class_made w m p) c told kind);
+            stacked = grind (arith, cell_is, kind);
           }
 
   cell-readied : (c : Cell) → IsStacked w m ks c → IsReadied c
@@ -232,9 +146,7 @@ module _ (w : Linked) (are : AreClasses w.classes) (m : MethodRec) (unset : Ty) 
   cell-readied (cells.High n) h = record { type_is = refl; stacked = tt }
   cell-readied (cells.Low n) h = record { type_is = refl; stacked = tt }
   cell-readied (cells.Ref n) h = record { type_is = sym (ready-kept place class (type_of_handle w.classes ks n) (reference-not_fresh n)); stacked = tt }
-  cell-readied (cells.Fresh n p) h =
-      let found = IsSomeAnd-some (λ (c : ℕ). kind_of_handle ks n ≡ Some (Instance c)) (class_made w m p) h in
-      new-readied n p found.0 found.2 found.1
+  cell-readied (cells.Fresh n p) h = grind (arith, new-readied)
 
   -- of all cells of a stack
   pub types-readied : (cs : List Cell) → All (IsStacked w m ks) cs → least_types w.classes unset ks (map (made_ready place) cs)

@@ -1,17 +1,17 @@
 -- References at a frame's turn: the object of a cell whose type lies below that of a reference.
-use Rattle.std.proofs.Common.{◌≡◌, ℕ, zero, suc, inl, inr, true, List, [], refl, sym, ap, ◌∙◌, subst}
+use Rattle.vm_store.specs.declared.cell.Cell.TheVariants as cells
+use Rattle.std.proofs.Common.{◌≡◌, ℕ, zero, suc, inl, inr, true, List, [], refl, sym, ap, ◌∙◌, subst, arith}
 use Rattle.std.specs.Prelude.{Option, Some, None, slice_get, option_map}
 use Rattle.std.proofs.lemmas.Bool.{false≢true}
 use Rattle.std.proofs.lemmas.Option.{none-some, same_Some, slice_get-map}
 use Rattle.jc_base.specs.declared.ty.Ty.{Ty}
-use Rattle.jc_base.specs.declared.ty.Ty.TheVariants.{Bottom, Short, IntHigh, IntLow, Null, Class, ArrBool, ArrByte, ArrShort, ArrInt, ArrRef, Fresh, Top}
+use Rattle.jc_base.specs.declared.ty.Ty.TheVariants.{Short, IntHigh, IntLow, Null, Class, ArrBool, ArrByte, ArrShort, ArrInt, ArrRef, Fresh}
 use Rattle.jc_base.specs.Class.{ClassTable, AreClasses}
 use Rattle.jc_base.specs.Order.{Below, null_object, null_array, of_booleans, of_bytes, of_shorts, of_ints, of_references, is_below}
 use Rattle.jc_base.specs.Cell.{IsReference}
 use Rattle.jc_base.proofs.Subtypes.{is_below-from_Below}
 use Rattle.jc_rules.specs.Flow.{IsNotTop, IsNotFresh}
 use Rattle.vm_store.specs.declared.cell.Cell.{Cell}
-use Rattle.vm_store.specs.declared.cell.Cell.TheVariants as cells
 use Rattle.vm_store.specs.declared.kind.ObjectKind.{ObjectKind}
 use Rattle.vm_store.specs.Kind.{kind_of_handle, type_of_kind}
 use Rattle.vm_store.specs.Typing.{least_type, type_of_handle}
@@ -23,34 +23,10 @@ use Rattle.law_sound.proofs.Handles.{kinds_of, kind-type, value-handle}
 use Rattle.law_sound.proofs.Ready.{not-over-top, not-over-seen}
 
 pub reference-topless : (ty : Ty) → IsReference ty → IsNotTop ty
-reference-topless Top h = h
-reference-topless Bottom h = tt
-reference-topless Short h = tt
-reference-topless IntHigh h = tt
-reference-topless IntLow h = tt
-reference-topless Null h = tt
-reference-topless (Class c) h = tt
-reference-topless ArrBool h = tt
-reference-topless ArrByte h = tt
-reference-topless ArrShort h = tt
-reference-topless ArrInt h = tt
-reference-topless (ArrRef c) h = tt
-reference-topless (Fresh p c) h = tt
+reference-topless x h = grind (arith)
 
 pub reference-ready : (ty : Ty) → IsReference ty → IsNotFresh ty
-reference-ready (Fresh p c) h = h
-reference-ready Top h = tt
-reference-ready Bottom h = tt
-reference-ready Short h = tt
-reference-ready IntHigh h = tt
-reference-ready IntLow h = tt
-reference-ready Null h = tt
-reference-ready (Class c) h = tt
-reference-ready ArrBool h = tt
-reference-ready ArrByte h = tt
-reference-ready ArrShort h = tt
-reference-ready ArrInt h = tt
-reference-ready (ArrRef c) h = tt
+reference-ready x h = grind (arith)
 
 pub null-reference : (t : ClassTable) (ty : Ty) → IsReference ty → Below t Null ty
 null-reference t (Class c) h = null_object
@@ -64,21 +40,15 @@ null-reference t _ h = absurd h
 module _ (t : ClassTable) (are : AreClasses t) where
   over-short : (ty : Ty) → IsReference ty → is_below t Short ty ≡ true → ⊥
   unfolding is_below
-  over-short Short r h = r
-  over-short Top r h = r
-  over-short ty r h = false≢true h
+  over-short ty r h = grind (arith, false≢true)
 
   over-high : (ty : Ty) → IsReference ty → is_below t IntHigh ty ≡ true → ⊥
   unfolding is_below
-  over-high IntHigh r h = r
-  over-high Top r h = r
-  over-high ty r h = false≢true h
+  over-high ty r h = grind (arith, false≢true)
 
   over-low : (ty : Ty) → IsReference ty → is_below t IntLow ty ≡ true → ⊥
   unfolding is_below
-  over-low IntLow r h = r
-  over-low Top r h = r
-  over-low ty r h = false≢true h
+  over-low ty r h = grind (arith, false≢true)
 
   -- the word of such a cell is a handle whose type lies below it, which is null where nothing was stored
   pub reference-handle :
@@ -97,14 +67,8 @@ module _ (t : ClassTable) (are : AreClasses t) where
   pub reference-same :
       (unset : Ty) (ks : List ObjectKind) (c : Cell) (ty : Ty) → IsReference ty → HasContent c → Below t (least_type t unset ks c) ty
       → least_type t unset ks c ≡ type_of_handle t ks (word_of c)
-  reference-same unset ks cells.Empty ty r h b = absurd h
-  reference-same unset ks (cells.Short n) ty r h b = absurd (over-short ty r (is_below-from_Below t are b))
-  reference-same unset ks (cells.High n) ty r h b = absurd (over-high ty r (is_below-from_Below t are b))
-  reference-same unset ks (cells.Low n) ty r h b = absurd (over-low ty r (is_below-from_Below t are b))
-  reference-same unset ks (cells.Ref n) ty r h b = refl
-  reference-same unset ks (cells.Fresh zero p) ty r h b = absurd (not-over-top t are ty (reference-topless ty r) b)
-  reference-same unset ks (cells.Fresh (suc n) p) ty r h b =
-      absurd (not-over-seen t are p (slice_get ks n) ty (reference-ready ty r) (reference-topless ty r) b)
+  reference-same unset ks z ty r h b =
+      grind (arith, over-short, is_below-from_Below, over-high, over-low, not-over-top, reference-topless, not-over-seen, reference-ready)
 
 -- the object of a handle that is not null
 pub record IsObject (t : ClassTable) (heap : List (Object Cell)) (h : ℕ) (ty : Ty) : Type 0 where

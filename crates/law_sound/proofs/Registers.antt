@@ -1,13 +1,15 @@
 -- Loads, stores and increments at a frame's turn.
-use Rattle.std.proofs.Common.{◌≡◌, ℕ, ◌+◌, true, List, [], ◌∷◌, drop, set, refl, sym, ap, ◌∙◌, subst}
+use Rattle.std.proofs.Common.{◌≡◌, ℕ, ◌+◌, true, List, [], ◌∷◌, drop, set, refl, sym, ap, ◌∙◌, subst, arith}
 use Rattle.std.specs.Prelude.{ℤ, slice_index_or}
 use Rattle.std.proofs.lemmas.Bool.{false≢true}
 use Rattle.std.proofs.lemmas.List.{map-set, drop-map}
 use Rattle.std.proofs.lemmas.List.Elements.{All-drop}
 use Rattle.jc_base.specs.declared.ty.Ty.{Ty}
-use Rattle.jc_base.specs.declared.ty.Ty.TheVariants.{Bottom, Short, IntHigh, IntLow, Null, Class, ArrBool, ArrByte, ArrShort, ArrInt, ArrRef, Fresh, Top}
+use Rattle.jc_base.specs.declared.ty.Ty.TheVariants.{Bottom, Short, IntHigh, IntLow, Null, Class, ArrBool}
+use Rattle.jc_base.specs.declared.ty.Ty.TheVariants.{ArrByte, ArrShort, ArrInt, ArrRef, Fresh, Top}
 use Rattle.jc_base.specs.Class.{ClassTable, AreClasses, object}
-use Rattle.jc_base.specs.Order.{Below, same, nothing, null_object, null_array, of_booleans, of_bytes, of_shorts, of_ints, of_references, is_below}
+use Rattle.jc_base.specs.Order.{Below, same, nothing, null_object, null_array, of_booleans}
+use Rattle.jc_base.specs.Order.{of_bytes, of_shorts, of_ints, of_references, is_below}
 use Rattle.jc_base.specs.World.{Linked, IsWorld}
 use Rattle.jc_base.proofs.Subtypes.{is_below-from_Below}
 use Rattle.jc_ops.specs.declared.operation.Sort.{Sort}
@@ -23,7 +25,7 @@ use Rattle.jc_rules.specs.declared.effect.Mode.TheVariants.{Flow}
 use Rattle.jc_rules.specs.Effect.{changed, StoresInRegisters, WritesRegister, WritesInt}
 use Rattle.jc_rules.specs.Demand.{SatisfiesAll}
 use Rattle.jc_rules.specs.Rule.{or_null, cell, storing, effect, demands}
-use Rattle.jc_rules.specs.Flow.{CellsBelow, no_cells, more_cells}
+use Rattle.jc_rules.specs.Flow.{no_cells, more_cells}
 use Rattle.jc_rules.proofs.CellLists.{cells-same, cells-set}
 use Rattle.vm_arithmetic.specs.Arithmetic.{high_word, low_word}
 use Rattle.vm_store.specs.declared.cell.Cell.{Cell}
@@ -121,8 +123,7 @@ module _ (w : Linked) (world : IsWorld w) (assigned : Typings) (f : Frame Cell) 
     -- what the operation asks of the least types of cells
     pub asked-of : (op : Operation) → here.turn.operation ≡ op
         → SatisfiesAll w.classes (types_of_frame w.classes (assigned.unset f.method) (kinds_of heap) f) (demands w op)
-    asked-of op is =
-        subst (λ o. SatisfiesAll w.classes (types_of_frame w.classes (assigned.unset f.method) (kinds_of heap) f) (demands w o)) is here.turn.applies.asked
+    asked-of op is = grind (arith)
 
     pub load-safe :
         (sort : Sort) (x : ℕ) → here.turn.operation ≡ ops.Load sort x
@@ -195,12 +196,8 @@ module _ (w : Linked) (world : IsWorld w) (assigned : Typings) (f : Frame Cell) 
         let regs_are : after.regs ≡ set exact.regs x ty = wrote.after_is ∙ ap (set exact.regs x) wrote.stored in
         on-safe w world assigned f below heap statics here (set f.registers x c) (drop taken f.stack) heap statics (ap falls_from is ∙ falls)
         (record {
-          regs = subst (CellsBelow w.classes (least_types w.classes (assigned.unset f.method) ks (set f.registers x c))) (sym regs_are)
-              (subst (λ ts. CellsBelow w.classes ts (set exact.regs x ty)) (sym (map-set (least_type w.classes (assigned.unset f.method) ks) f.registers x c))
-              (cells-set w.classes x lower (cells-same w.classes exact.regs)));
-          stack = subst (CellsBelow w.classes (least_types w.classes (assigned.unset f.method) ks (drop taken f.stack))) (sym stack_is)
-              (subst (λ ts. CellsBelow w.classes ts (drop taken exact.stack)) (drop-map (least_type w.classes (assigned.unset f.method) ks) taken f.stack)
-              (cells-same w.classes (drop taken exact.stack)));
+          regs = grind (arith, set, map-set, cells-set, cells-same);
+          stack = grind (arith, drop-map, cells-same);
         })
         (All-drop (IsStacked w here.turn.stands.rec ks) taken f.stack here.turn.stacked) here.store refl
 
@@ -236,11 +233,8 @@ module _ (w : Linked) (world : IsWorld w) (assigned : Typings) (f : Frame Cell) 
         map-set ty (set f.registers x c) (x + 1) d ∙ ap (λ ts. set ts (x + 1) (ty d)) (map-set ty f.registers x c) in
         on-safe w world assigned f below heap statics here (set (set f.registers x c) (x + 1) d) (drop taken f.stack) heap statics (ap falls_from is ∙ falls)
         (record {
-          regs = subst (CellsBelow w.classes (least_types w.classes (assigned.unset f.method) ks (set (set f.registers x c) (x + 1) d))) (sym regs_are)
-              (subst (λ ts. CellsBelow w.classes ts (set (set exact.regs x IntHigh) (x + 1) IntLow)) (sym split)
-              (cells-set w.classes (x + 1) low (cells-set w.classes x high (cells-same w.classes exact.regs))));
-          stack = subst (CellsBelow w.classes (least_types w.classes (assigned.unset f.method) ks (drop taken f.stack))) (sym stack_is)
-              (subst (λ ts. CellsBelow w.classes ts (drop taken exact.stack)) (drop-map ty taken f.stack) (cells-same w.classes (drop taken exact.stack)));
+          regs = grind (arith, set, cells-set, cells-same);
+          stack = grind (arith, drop-map, cells-same);
         })
         (All-drop (IsStacked w here.turn.stands.rec ks) taken f.stack here.turn.stacked) here.store refl
 

@@ -1,9 +1,10 @@
 -- Returns at a frame's turn.
-use Rattle.std.proofs.Common.{◌≡◌, ◌+◌, List, [], ◌∷◌, refl, sym, ap, ◌∙◌, subst}
+use Rattle.std.proofs.Common.{◌≡◌, ◌+◌, List, [], ◌∷◌, refl, sym, subst, arith}
 use Rattle.std.specs.Prelude.{Option, Some, None, IfSome, slice_index_or}
 use Rattle.std.proofs.lemmas.List.Elements.{All-nil}
 use Rattle.jc_base.specs.declared.ty.Ty.{Ty}
-use Rattle.jc_base.specs.declared.ty.Ty.TheVariants.{Bottom, Short, IntHigh, IntLow, Null, Class, ArrBool, ArrByte, ArrShort, ArrInt, ArrRef, Fresh, Top}
+use Rattle.jc_base.specs.declared.ty.Ty.TheVariants.{Bottom, Short, IntHigh, IntLow, Null, Class, ArrBool}
+use Rattle.jc_base.specs.declared.ty.Ty.TheVariants.{ArrByte, ArrShort, ArrInt, ArrRef, Fresh, Top}
 use Rattle.jc_base.specs.Order.{Below}
 use Rattle.jc_base.specs.Cell.{IsDeclared}
 use Rattle.jc_base.specs.World.{Linked, IsWorld}
@@ -13,7 +14,7 @@ use Rattle.jc_ops.specs.Sound.{IsResult}
 use Rattle.jc_rules.specs.declared.demand.Demand.TheVariants.{Cell as CellAsked}
 use Rattle.jc_rules.specs.Demand.{SatisfiesAll}
 use Rattle.jc_rules.specs.Effect.{in_stack_order}
-use Rattle.jc_rules.specs.Rule.{result_at, result_given, value_wanted}
+use Rattle.jc_rules.specs.Rule.{result_given, value_wanted}
 use Rattle.jc_rules.specs.Flow.{CellsBelow, no_cells, more_cells}
 use Rattle.jc_rules.proofs.CellLists.{cells-trans}
 use Rattle.jc_rules.proofs.Types.{declared-not_top, declared-not_fresh}
@@ -45,8 +46,7 @@ module _ (w : Linked) (world : IsWorld w) (assigned : Typings) (f : Frame Cell) 
     (here : Here w assigned f below heap statics)
   where
     waits-for : (result : Option Ty) → result ≡ here.turn.stands.rec.sig.result → AreWaiting w assigned (kinds_of heap) result below
-    waits-for result is =
-        subst (λ r. AreWaiting w assigned (kinds_of heap) r below) (ap result_at here.turn.stands.is_method ∙ sym is) here.waits
+    waits-for result is = grind (arith)
 
     -- a value of one cell
     one-given :

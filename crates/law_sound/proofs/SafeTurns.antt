@@ -1,21 +1,17 @@
 -- A frame at its turn in a typed state: where its operation leads is safe.
-use Rattle.std.proofs.Common.{◌≡◌, ℕ, ◌+◌, ◌<◌, ◌≤◌, Bool, true, false, if◌then◌else◌, List, [], ◌∷◌, ◌++◌, length, drop}
+use Rattle.std.proofs.Common.{◌≡◌, ℕ, ◌+◌, ◌<◌, ◌≤◌, Bool, true, false, if◌then◌else◌, List, [], ◌∷◌, ◌++◌, length, drop, arith}
 use Rattle.std.proofs.Common.{refl, sym, ap, ◌∙◌, subst, lit<, lit≤}
-use Rattle.std.specs.Prelude.{Option, Some, None, All, slice_index, ◌==◌}
+use Rattle.std.specs.Prelude.{Option, Some, All, ◌==◌}
 use Rattle.std.proofs.lemmas.Bool.{eqb-false}
 use Rattle.std.proofs.lemmas.List.{map-append, drop-map, append-nil}
 use Rattle.std.proofs.lemmas.List.Elements.{All-append, All-drop}
-use Rattle.jc_base.specs.declared.ty.Ty.TheVariants.{Class}
 use Rattle.jc_base.specs.World.{Linked, IsWorld}
-use Rattle.jc_base.specs.Dispatch.{cells_of, IsConcrete}
-use Rattle.jc_base.specs.Order.{Below, is_on_chain}
-use Rattle.jc_base.proofs.Lists.{IsSomeAnd-from}
+use Rattle.jc_base.specs.Dispatch.{IsConcrete}
 use Rattle.jc_control.specs.Control.{falls_through}
 use Rattle.jc_ops.specs.Next.{falls_from}
 use Rattle.jc_rules.specs.declared.effect.Cells.{Cells}
 use Rattle.jc_rules.specs.declared.effect.Effect.{Effect}
 use Rattle.jc_rules.specs.declared.effect.Mode.TheVariants.{Flow}
-use Rattle.jc_rules.specs.Demand.{Frame as Types}
 use Rattle.jc_rules.specs.Effect.{in_stack_order, changed, StoresInRegisters}
 use Rattle.jc_rules.specs.Rule.{effect, replacing}
 use Rattle.jc_rules.specs.Flow.{CellsBelow, FrameBelow}
@@ -26,15 +22,14 @@ use Rattle.vm_store.specs.declared.kind.ObjectKind.TheVariants.{Instance}
 use Rattle.vm_store.specs.Kind.{kind_of_handle}
 use Rattle.vm_store.specs.Typing.{least_type}
 use Rattle.vm_store.specs.Cells.{tagged}
-use Rattle.vm_store.specs.State.{Frame, Object, State}
-use Rattle.vm_store.specs.Objects.{has_room, new_instance_cells, with_object}
+use Rattle.vm_store.specs.State.{Frame, Object}
+use Rattle.vm_store.specs.Objects.{new_instance_cells, with_object}
 use Rattle.vm_step.specs.declared.exception.Exception.{Exception}
 use Rattle.vm_step.specs.declared.exception.Exception.TheVariants as exceptions
 use Rattle.vm_step.specs.declared.ending.Plain.TheVariants.{HeapFull}
-use Rattle.vm_step.specs.declared.ending.Ending.TheVariants as endings
 use Rattle.vm_step.specs.Act.{Act, raises, role_of, unless_null, if_some}
 use Rattle.vm_step.specs.Calls.{class_with_methods}
-use Rattle.vm_step.specs.Raising.{ends, thrown, raised}
+use Rattle.vm_step.specs.Raising.{thrown, raised}
 use Rattle.vm_step.specs.Settled.{goes_to, settled}
 use Rattle.law_sound.specs.Frames.{Typings, least_types, types_of_frame, IsStacked, IsTypedFrame, result_of, AreWaiting}
 use Rattle.law_sound.specs.Soundness.{IsTypedOutcome}
@@ -136,9 +131,7 @@ module _ (w : Linked) (world : IsWorld w) (assigned : Typings) (f : Frame Cell) 
         (sym (drop-map (least_type w.classes (assigned.unset f.method) ks) taken f.stack)) in
         record {
           regs = subst (CellsBelow w.classes (least_types w.classes (assigned.unset f.method) ks f.registers)) (sym regs_are) regs;
-          stack = subst (CellsBelow w.classes (least_types w.classes (assigned.unset f.method) ks (value ++ drop taken f.stack))) (sym stack_is)
-              (subst (λ ts. CellsBelow w.classes ts (in_stack_order given ++ drop taken exact.stack)) (sym split)
-              (cells-append w.classes lower (cells-drop w.classes taken stack)));
+          stack = grind (arith, cells-append, cells-drop);
         }
 
     -- on, with a value in place of cells of the stack
@@ -170,17 +163,13 @@ module _ (w : Linked) (world : IsWorld w) (assigned : Typings) (f : Frame Cell) 
 
     catching : (more : List ObjectKind) → AreCatching w assigned (kinds_of heap ++ more) (f ∷ below)
     unfolding AreCatching
-    catching more = (
-      record {
-        stands = here.turn.stands;
-        regs =
-            IsSomeAnd-from (λ (g : Types). CellsBelow w.classes (least_types w.classes (assigned.unset f.method) (kinds_of heap ++ more) f.registers)
-            g.regs)
-            ((assigned.frames f.method) f.place) here.turn.above here.turn.held
-            (cells-trans w.classes (types-fall w.classes (assigned.unset f.method) (kinds_of heap) more f.registers) here.turn.under.regs);
-      },
-      all-waiting-fall w assigned (kinds_of heap) more (result_of w f.method) below here.waits,
-    )
+    catching more =
+        grind (
+          arith,
+          kinds_of heap ++ more,
+          cells-trans w.classes (types-fall w.classes (assigned.unset f.method) (kinds_of heap) more f.registers) here.turn.under.regs,
+          all-waiting-fall w assigned (kinds_of heap) more (result_of w f.method) below here.waits,
+        )
 
     catching-now : AreCatching w assigned (kinds_of heap) (f ∷ below)
     catching-now = subst (λ ks. AreCatching w assigned ks (f ∷ below)) (append-nil (kinds_of heap)) (catching [])
@@ -188,9 +177,7 @@ module _ (w : Linked) (world : IsWorld w) (assigned : Typings) (f : Frame Cell) 
     throwable : (ks : List ObjectKind) (handle : ℕ) (k : ObjectKind) → kind_of_handle ks handle ≡ Some k
         → IsThrowable w.classes ks (class_with_methods w.classes (kind_of_handle ks handle)) handle
     unfolding IsThrowable
-    throwable ks handle k e = λ d on.
-        subst (λ ty. Below w.classes ty (Class d)) (sym (kind-type w.classes ks handle k e))
-        (kind-throwable w.classes world.chains k d (subst (λ o. is_on_chain w.classes d (class_with_methods w.classes o) ≡ true) e on))
+    throwable ks handle k e = grind (arith, kind-type, kind-throwable)
 
     -- an object
     pub throw-safe :
@@ -202,12 +189,7 @@ module _ (w : Linked) (world : IsWorld w) (assigned : Typings) (f : Frame Cell) 
         (f ∷ below) (f ∷ below) catching-now
 
     role-range : (e : Exception) → (2 ≤ role_of e) × (role_of e < 8)
-    role-range exceptions.NullPointer = (lit≤ tt, lit< tt)
-    role-range exceptions.Arithmetic = (lit≤ tt, lit< tt)
-    role-range exceptions.ArrayIndex = (lit≤ tt, lit< tt)
-    role-range exceptions.NegativeSize = (lit≤ tt, lit< tt)
-    role-range exceptions.ClassCast = (lit≤ tt, lit< tt)
-    role-range exceptions.ArrayStore = (lit≤ tt, lit< tt)
+    role-range x = grind (arith, lit≤, lit<)
 
     made-thrown : (c : ℕ) → IsConcrete w.classes w.methods c → IsTypedOutcome w assigned (thrown tagged w (length heap + 1)
         (with_object (record { frames = f ∷ below; heap = heap; statics = statics }) (Instance c) (new_instance_cells tagged w.classes c)))
@@ -226,13 +208,7 @@ module _ (w : Linked) (world : IsWorld w) (assigned : Typings) (f : Frame Cell) 
     pub raise-safe : (exception : Exception)
         → IsTypedOutcome w assigned (raised tagged w exception (record { frames = f ∷ below; heap = heap; statics = statics }))
     raise-safe exception =
-        let now : State Cell = record { frames = f ∷ below; heap = heap; statics = statics } in
-        let class : ℕ = slice_index w.classes.roles (role_of exception) in
-        safe-if w assigned (has_room now (length (cells_of w.classes class)))
-        (thrown tagged w (length heap + 1) (with_object now (Instance class) (new_instance_cells tagged w.classes class)))
-        (ends (endings.Plain HeapFull) now)
-        (made-thrown class (world.roles.others (role_of exception) (role-range exception).0 (role-range exception).1).concrete)
-        (plain-safe w assigned HeapFull (f ∷ below) heap statics here.store)
+        grind (arith, role-range exception, plain-safe w assigned HeapFull (f ∷ below) heap statics here.store, safe-if, made-thrown)
 
     -- ---- acts that may throw
 
@@ -255,5 +231,4 @@ module _ (w : Linked) (world : IsWorld w) (assigned : Typings) (f : Frame Cell) 
         → ((x : X) → o ≡ Some x
         → IsTypedOutcome w assigned (settled tagged w next (record { frames = f ∷ below; heap = heap; statics = statics }) (rest x)))
         → IsTypedOutcome w assigned (settled tagged w next (record { frames = f ∷ below; heap = heap; statics = statics }) (if_some exception o rest))
-    some-safe next exception None rest safe = raise-safe exception
-    some-safe next exception (Some x) rest safe = safe x refl
+    some-safe next exception z rest safe = grind (arith, raise-safe)

@@ -1,4 +1,5 @@
 -- A step from a typed state is safe, and so is a run.
+use Rattle.vm_step.specs.declared.ending.Ending.TheVariants.{Faulted}
 use Rattle.std.proofs.Common.{◌≡◌, ℕ, ◌+◌, List, [], ◌∷◌, length, refl, sym, ap, ◌∙◌, subst, arith}
 use Rattle.std.specs.Prelude.{Option, Some, None, Result, Ok, Err, slice_get, slice_index_or, unwrap_or}
 use Rattle.std.proofs.lemmas.Option.{none-some, same_Some}
@@ -24,7 +25,6 @@ use Rattle.vm_store.specs.Kind.{kind_of_handle}
 use Rattle.vm_store.specs.Typing.{least_type}
 use Rattle.vm_store.specs.Cells.{tagged, word_of}
 use Rattle.vm_store.specs.State.{Frame, Object, State, IsRunning}
-use Rattle.vm_step.specs.declared.ending.Ending.TheVariants.{Faulted}
 use Rattle.vm_step.specs.Methods.{of_method, code_at, instruction_at}
 use Rattle.vm_step.specs.Performed.{act}
 use Rattle.vm_step.specs.Tests.{fault_before}
@@ -36,7 +36,7 @@ use Rattle.vm_step.specs.Step.{Steps, misplaced, unresolved, performs, performed
 use Rattle.vm_step.specs.Run.{Runs, stands, stops, steps}
 use Rattle.law_sound.specs.Frames.{Typings}
 use Rattle.law_sound.specs.State.{IsTypedState}
-use Rattle.law_sound.specs.Soundness.{AreTypings, HasTypings, IsTypedOutcome, StepsAreSafe, RunsAreSafe, TypedCodeIsFaultFree}
+use Rattle.law_sound.specs.Soundness.{AreTypings, IsTypedOutcome, StepsAreSafe, RunsAreSafe, TypedCodeIsFaultFree, HasTypings}
 use Rattle.law_sound.proofs.Entering.{method-known}
 use Rattle.law_sound.proofs.TypingsByNumber.{methods-have-typings}
 use Rattle.law_sound.proofs.Finish.{there-at}
@@ -217,13 +217,7 @@ module _ (w : Linked) (world : IsWorld w) (assigned : Typings) (typings : AreTyp
     pub same-answer : (m : MethodRec) (i : Placed) (r : Result Operation RuleFault) → here-now.turn.stands.rec ≡ m
         → here-now.turn.stands.instruction ≡ i
         → Resolves w m i.place i.insn r → Ok here-now.turn.operation ≡ r
-    same-answer m i r same_m same_i resolves =
-        let moved : Resolves w m here-now.turn.stands.instruction.place here-now.turn.stands.instruction.insn (Ok here-now.turn.operation) =
-        subst (λ (x : MethodRec). Resolves w x here-now.turn.stands.instruction.place here-now.turn.stands.instruction.insn (Ok here-now.turn.operation))
-        same_m here-now.turn.resolves in
-        let here_too : Resolves w m i.place i.insn (Ok here-now.turn.operation) =
-        subst (λ (x : Placed). Resolves w m x.place x.insn (Ok here-now.turn.operation)) same_i moved in
-        here_too ∙ sym resolves
+    same-answer m i r same_m same_i resolves = grind (arith, here-now, turn)
 
     step-safe : {o : Outcome Cell} → Steps tagged w (record { frames = f ∷ below; heap = heap; statics = statics }) o → IsTypedOutcome w assigned o
     step-safe (misplaced checks runs e) = absurd (none-some here-now.turn.stands.instruction (sym e ∙ there))
@@ -239,16 +233,12 @@ module _ (w : Linked) (world : IsWorld w) (assigned : Typings) (typings : AreTyp
         (performs-safe f below heap statics m i op here-now (same-method m fetched.method) (same-instruction i fetched.instruction) same_op)
 
   runs-some : (s : State Cell) {o : Outcome Cell} → Steps tagged w s o → IsRunning s
-  runs-some s (misplaced checks runs e) = runs
-  runs-some s (unresolved checks fetched fault resolves) = fetched.runs
-  runs-some s (performs fetched op resolves is) = fetched.runs
+  runs-some s y = grind (arith)
 
   steps-by : (fs : List (Frame Cell)) (heap : List (Object Cell)) (statics : List Cell) (o : Outcome Cell)
       → IsTypedState w assigned (record { frames = fs; heap = heap; statics = statics })
       → Steps tagged w (record { frames = fs; heap = heap; statics = statics }) o → IsTypedOutcome w assigned o
-  steps-by [] heap statics o typed step =
-      let runs = runs-some (record { frames = []; heap = heap; statics = statics }) step in absurd (omega (arith, runs))
-  steps-by (f ∷ below) heap statics o typed step = step-safe f below heap statics typed step
+  steps-by x heap statics o typed step = grind (arith, runs-some, step-safe)
 
   one-safe : (s : State Cell) (o : Outcome Cell) → IsTypedState w assigned s → Steps tagged w s o → IsTypedOutcome w assigned o
   one-safe s o typed step = steps-by s.frames s.heap s.statics o typed step

@@ -1,14 +1,15 @@
 -- A run begins in a typed state.
-use Rattle.std.proofs.Common.{◌≡◌, ℕ, zero, suc, ◌+◌, ◌*◌, ◌/◌, ◌%◌, Bool, true, false, not, if◌then◌else◌, ◌==◌, List, []}
+use Rattle.std.proofs.Common.{◌≡◌, ℕ, zero, suc, ◌+◌, ◌*◌, ◌/◌, ◌%◌, Bool, true, false, not, if◌then◌else◌, List, []}
 use Rattle.std.proofs.Common.{◌∷◌, ◌++◌, length, map, filter, refl, sym, ap, ◌∙◌, subst, arith, lit<, append_assoc}
 use Rattle.std.specs.Prelude.{ℤ, Option, Some, None, All, slice_get, flat_map, option_map}
 use Rattle.std.proofs.Math.Nat.{mul-div_cancel_left}
 use Rattle.std.proofs.lemmas.Bool.{false≢true, and_parts, eqb-true, not-true}
 use Rattle.std.proofs.lemmas.Option.{none-some}
 use Rattle.std.proofs.lemmas.List.{append-nil, length_push, length-map, map-append}
-use Rattle.std.proofs.lemmas.List.Elements.{All-nil, All-cons, All-head, All-tail, All-append, All-weaker, All-push}
+use Rattle.std.proofs.lemmas.List.Elements.{All-nil, All-cons, All-head, All-tail, All-append, All-push}
 use Rattle.jc_base.specs.declared.ty.Ty.{Ty}
-use Rattle.jc_base.specs.declared.ty.Ty.TheVariants.{Bottom, Short, IntHigh, IntLow, Null, Class, ArrBool, ArrByte, ArrShort, ArrInt, ArrRef, Fresh, Top}
+use Rattle.jc_base.specs.declared.ty.Ty.TheVariants.{Bottom, Short, IntHigh, IntLow, Null, Class, ArrBool}
+use Rattle.jc_base.specs.declared.ty.Ty.TheVariants.{ArrByte, ArrShort, ArrInt, ArrRef, Fresh, Top}
 use Rattle.jc_base.specs.declared.ty.Kind.{Kind}
 use Rattle.jc_base.specs.declared.ty.Kind.TheVariants as fields
 use Rattle.jc_base.specs.declared.record.MethodRec.{MethodRec}
@@ -16,7 +17,8 @@ use Rattle.jc_base.specs.declared.record.StaticRec.{StaticRec}
 use Rattle.jc_base.specs.declared.record.ArrayRec.{ArrayRec}
 use Rattle.jc_base.specs.Class.{ClassTable}
 use Rattle.jc_base.specs.Order.{Below, same, null_object, null_array, of_booleans, of_bytes, of_shorts, of_ints, of_references}
-use Rattle.jc_base.specs.Cell.{IsReference, IsOfKind, AreWhole, no_cells as no_whole, whole_int, one_cell, IsNoHalf, IsInitialHandle, AreInitialWords}
+use Rattle.jc_base.specs.Cell.{IsReference, IsOfKind, AreWhole, no_cells as no_whole, whole_int}
+use Rattle.jc_base.specs.Cell.{one_cell, IsNoHalf, IsInitialHandle, AreInitialWords}
 use Rattle.jc_base.specs.Cell.{AreElementsOf}
 use Rattle.jc_base.specs.Linked.{IsStatic, lacks_code, receiver_words}
 use Rattle.jc_base.specs.World.{Linked, IsWorld}
@@ -40,7 +42,8 @@ use Rattle.vm_step.specs.declared.start_fault.StartFault.{StartFault}
 use Rattle.vm_step.specs.Arguments.{Argument, number, null as no_object, bytes}
 use Rattle.vm_step.specs.Objects.{kind_of_type}
 use Rattle.vm_step.specs.Methods.{of_method}
-use Rattle.vm_step.specs.Start.{field_cells, int_cells, initial_element_cells, initial_object, with_arrays, argument_cells, cells_handed, can_begin}
+use Rattle.vm_step.specs.Start.{field_cells, int_cells, initial_element_cells, initial_object}
+use Rattle.vm_step.specs.Start.{with_arrays, argument_cells, cells_handed, can_begin}
 use Rattle.vm_step.specs.Start.{is_parameter, parameters, fits, first_misfit, or_room, entry_fault, entry_state}
 use Rattle.law_sound.specs.Frames.{Typings, least_types}
 use Rattle.law_sound.specs.State.{CanBeMade, field_types, static_types, IsTypedState}
@@ -95,18 +98,10 @@ module _ (t : ClassTable) (ks : List ObjectKind) where
 -- ---- initial arrays
 
 kind-made : (w : Linked) (ty : Ty) (ws : List ℕ) → AreElementsOf ty ws → CanBeMade w (kind_of_type ty)
-kind-made w ArrBool ws h = tt
-kind-made w ArrByte ws h = tt
-kind-made w ArrShort ws h = tt
-kind-made w ArrInt ws h = tt
-kind-made w ty ws h = absurd h
+kind-made w ty ws h = grind (arith)
 
 kind-is : (t : ClassTable) (ty : Ty) (ws : List ℕ) → AreElementsOf ty ws → type_of_kind t (kind_of_type ty) ≡ ty
-kind-is t ArrBool ws h = refl
-kind-is t ArrByte ws h = refl
-kind-is t ArrShort ws h = refl
-kind-is t ArrInt ws h = refl
-kind-is t ty ws h = absurd h
+kind-is t ty ws h = grind (arith)
 
 initial-kind : (arrays : List ArrayRec) (n : ℕ) (a : ArrayRec) → slice_get arrays n ≡ Some a
     → slice_get (kinds_of (map (initial_object tagged) arrays)) n ≡ Some (kind_of_type a.kind)
@@ -186,9 +181,7 @@ module _ (w : Linked) (world : IsWorld w) where
 
 module _ (w : Linked) where
   object-more : (ks more : List ObjectKind) (os : List (Object Cell)) → All (IsTypedObject w.classes ks) os → All (IsTypedObject w.classes (ks ++ more)) os
-  object-more ks more os h =
-      All-weaker (IsTypedObject w.classes ks) (IsTypedObject w.classes (ks ++ more))
-      (λ o typed. have-more w.classes ks more o.cells (cell_types w.classes o.kind (length o.cells)) typed) os h
+  object-more ks more os h = grind (arith, have-more)
 
   store-more : (heap : List (Object Cell)) (statics : List Cell) (bs : List ℕ) → IsTypedStore w heap statics
       → IsTypedStore w (heap ++ record { kind = kinds.Bytes; cells = map (λ b. cells.Short (byte_of_word b)) bs } ∷ []) statics
@@ -201,8 +194,7 @@ module _ (w : Linked) where
         objects = subst (λ ks. All (IsTypedObject w.classes ks) (heap ++ o ∷ [])) same
             (All-append (IsTypedObject w.classes more) heap (o ∷ []) (object-more (kinds_of heap) (kinds.Bytes ∷ []) heap store.objects)
             (All-cons (IsTypedObject w.classes more) o [] (shorts-have w.classes more byte_of_word bs) (All-nil (IsTypedObject w.classes more))));
-        fields = subst (λ ks. CellsHave w.classes ks statics (static_types w.statics)) same
-            (have-more w.classes (kinds_of heap) (kinds.Bytes ∷ []) statics (static_types w.statics) store.fields);
+        fields = grind (arith, have-more, kinds_of);
       }
 
   arrays-store : (args : List Argument) (heap : List (Object Cell)) (statics : List Cell) → IsTypedStore w heap statics
@@ -303,8 +295,7 @@ module _ (w : Linked) (unset : Ty) where
       (ks : List ObjectKind) (cs ds : List Cell) (types others : List Ty)
       → CellsBelow w.classes (least_types w.classes unset ks cs) types → CellsBelow w.classes (least_types w.classes unset ks ds) others
       → CellsBelow w.classes (least_types w.classes unset ks (cs ++ ds)) (types ++ others)
-  both-below ks cs ds types others h g =
-      subst (λ ts. CellsBelow w.classes ts (types ++ others)) (sym (map-append (least_type w.classes unset ks) cs ds)) (cells-append w.classes h g)
+  both-below ks cs ds types others h g = grind (arith, map-append, cells-append)
 
   handle-front : (ks more : List ObjectKind) (h : ℕ) (k : ObjectKind) → kind_of_handle ks h ≡ Some k → kind_of_handle (ks ++ more) h ≡ Some k
   handle-front ks more zero k e = e
@@ -355,10 +346,7 @@ module _ (w : Linked) (unset : Ty) where
 begins-by :
     (b c : Bool) (x y : StartFault) (misfit room : Option ℕ)
     → (if not b then Some x else if not c then Some y else or_room misfit room) ≡ None → (b ≡ true) × (c ≡ true) × (misfit ≡ None)
-begins-by false c x y misfit room e = absurd (none-some x (sym e))
-begins-by true false x y misfit room e = absurd (none-some y (sym e))
-begins-by true true x y None room e = (refl, refl, refl)
-begins-by true true x y (Some n) room e = absurd (none-some _ (sym e))
+begins-by x c x2 y misfit room e = grind (arith, none-some)
 
 module _ (w : Linked) (world : IsWorld w) (assigned : Typings) (typings : AreTypings w assigned) (entry : ℕ) (args : List Argument) where
   -- a static method with code, whose parameters the arguments fit
@@ -394,10 +382,7 @@ module _ (w : Linked) (world : IsWorld w) (assigned : Typings) (typings : AreTyp
 
   entry-starts : (o : Option MethodRec) → slice_get w.methods entry ≡ o → entry_fault w args o ≡ None
       → IsTypedState w assigned (entry_state tagged w entry args)
-  entry-starts None is e = absurd (none-some _ (sym e))
-  entry-starts (Some m) is e =
-      let parts = begins-by (can_begin w m) (length args == length (parameters m)) _ _ (first_misfit 0 args (parameters m)) _ e in
-      method-starts m is parts.0 (eqb-true (length args) (length (parameters m)) parts.1) parts.2
+  entry-starts x is e = grind (arith, none-some, begins-by, method-starts, eqb-true)
 
 pub starts-are-typed : (w : Linked) → IsWorld w → StartsAreTyped w
 starts-are-typed w world assigned entry args s typings starts =
@@ -428,11 +413,7 @@ module _ (w : Linked) (world : IsWorld w) (entry : ℕ) (args : List Argument) w
   entry-handed :
       (o : Option MethodRec) → slice_get w.methods entry ≡ o → entry_fault w args o ≡ None
       → length (cells_handed tagged (length w.arrays) args (of_method [] parameters (slice_get w.methods entry))) ≡ nargs_of w entry
-  entry-handed None is e = absurd (none-some _ (sym e))
-  entry-handed (Some m) is e =
-      let parts = begins-by (can_begin w m) (length args == length (parameters m)) _ _ (first_misfit 0 args (parameters m)) _ e in
-      let two = and_parts m.is_static (not (lacks_code w.classes m)) parts.0 in
-      method-handed m is (eqb-true (length args) (length (parameters m)) parts.1) parts.2 two.0
+  entry-handed x is e = grind (arith, none-some, begins-by, and_parts, not, method-handed, eqb-true)
 
 pub starts-hand-all : (w : Linked) → IsWorld w → StartsHandAll w
 starts-hand-all w world entry args begins = entry-handed w world entry args (slice_get w.methods entry) refl begins

@@ -59,10 +59,7 @@ own-types fields.Byte ty more = record { first = refl; second = λ e. absurd (cc
 own-types fields.Short ty more = record { first = refl; second = λ e. absurd (cc) }
 
 types-width : (kind : Kind) (ty : Ty) → length (field_types kind ty) ≡ width kind
-types-width fields.Int ty = refl
-types-width fields.Ref ty = refl
-types-width fields.Byte ty = refl
-types-width fields.Short ty = refl
+types-width x ty = grind (arith)
 
 later-types : (front types : List Ty) (kind : Kind) (ty : Ty) (n : ℕ) → IsFieldAt types kind ty n → IsFieldAt (front ++ types) kind ty (length front + n)
 later-types front types kind ty n at =
@@ -78,15 +75,7 @@ slot-in :
     → AreSlots base fs → k < length fs → get_or fs k x ≡ x → IsSlotOf slot kind ty x
     → (n : ℕ) × (slot ≡ base + n) × IsFieldAt (static_types fs) kind ty n
 slot-in base slot kind ty [] k x slots lt is of = absurd (omega (arith, lt))
-slot-in base slot kind ty (f ∷ fs) zero x slots lt is of =
-    let same : f ≡ x = is in
-    let at : IsFieldAt (static_types (f ∷ fs)) x.kind x.ty 0 = subst (λ (y : StaticRec). IsFieldAt (static_types (f ∷ fs)) y.kind y.ty 0) same
-    (own-types f.kind f.ty (static_types fs)) in
-    let here : x.slot ≡ base = sym (ap (λ (y : StaticRec). y.slot) same) ∙ slots.0 in (
-      0,
-      omega (arith, of.slot, here),
-      subst (λ a. IsFieldAt (static_types (f ∷ fs)) kind a 0) of.ty (subst (λ k. IsFieldAt (static_types (f ∷ fs)) k x.ty 0) of.kind at),
-    )
+slot-in base slot kind ty (f ∷ fs) zero x slots lt is of = grind (arith, own-types)
 slot-in base slot kind ty (f ∷ fs) (suc k) x slots lt is of =
     let rest = slot-in (base + width f.kind) slot kind ty fs k x slots.1 (omega (arith, lt)) is of in
     let wide : length (field_types f.kind f.ty) ≡ width f.kind = types-width f.kind f.ty in (
@@ -97,10 +86,7 @@ slot-in base slot kind ty (f ∷ fs) (suc k) x slots lt is of =
 
 slot-at : (w : Linked) → IsWorld w → (slot : ℕ) (kind : Kind) (ty : Ty) → Any (IsSlotOf slot kind ty) w.statics
     → IsFieldAt (static_types w.statics) kind ty slot
-slot-at w world slot kind ty (k, x, lt, is, of) =
-    let found = slot-in 0 slot kind ty w.statics k x world.slots lt is of in
-    let e : slot ≡ found.0 = omega (arith, found.1) in
-    subst (IsFieldAt (static_types w.statics) kind ty) (sym e) found.2
+slot-at w world slot kind ty (k, x, lt, is, of) = grind (arith, slot-in 0 slot kind ty w.statics k x world.slots lt is of)
 
 module _ (w : Linked) (world : IsWorld w) (assigned : Typings) (f : Frame Cell) (below : List (Frame Cell)) (heap : List (Object Cell)) (statics : List Cell)
     (here : Here w assigned f below heap statics)

@@ -1,5 +1,5 @@
 -- Objects and static fields that are typed, with one object more.
-use Rattle.std.proofs.Common.{ℕ, List, [], ◌∷◌, ◌++◌, sym, subst}
+use Rattle.std.proofs.Common.{ℕ, List, [], ◌∷◌, ◌++◌, sym, subst, rules, arith}
 use Rattle.std.specs.Prelude.{All}
 use Rattle.std.proofs.lemmas.List.Elements.{All-push}
 use Rattle.jc_base.specs.declared.ty.Ty.{Ty}
@@ -17,7 +17,7 @@ use Rattle.vm_store.specs.State.{Object}
 use Rattle.vm_store.specs.Objects.{new_instance_cells, array_cells, with_object}
 use Rattle.vm_store.specs.Laws.{CellsHave, IsTypedHeap}
 use Rattle.vm_store.proofs.NewObjects.{new-instances, new-arrays}
-use Rattle.law_sound.specs.State.{CanBeMade, static_types}
+use Rattle.law_sound.specs.State.{CanBeMade}
 use Rattle.law_sound.proofs.Handles.{kinds_of, kinds-more}
 use Rattle.law_sound.proofs.Finish.{IsTypedStore}
 
@@ -47,20 +47,15 @@ module _ (w : Linked) (heap : List (Object Cell)) (statics : List Cell) (store :
       record {
         made = subst (All (CanBeMade w)) same (All-push (CanBeMade w) (kinds_of heap) o.kind store.made made);
         objects = typed;
-        fields = subst (λ ks. CellsHave w.classes ks statics (static_types w.statics)) same
-            (have-more w.classes (kinds_of heap) (o.kind ∷ []) statics (static_types w.statics) store.fields);
+        fields = grind (arith, have-more, kinds_of);
       }
 
   pub with-instance :
       IsWorld w → (c : ℕ) → IsConcrete w.classes w.methods c
       → IsTypedStore w (heap ++ record { kind = Instance c; cells = new_instance_cells tagged w.classes c } ∷ []) statics
-  with-instance world c concrete =
-      with-more (record { kind = Instance c; cells = new_instance_cells tagged w.classes c }) concrete
-      (new-instances w.classes _ w.methods world.classes (record { frames = []; heap = heap; statics = statics }) c store.objects concrete.class)
+  with-instance world c concrete = search (rules, with-more, new-instances)
 
   pub with-array :
       (kind : ObjectKind) (count : ℕ) → CanBeMade w kind → IsArrayKind kind
       → IsTypedStore w (heap ++ record { kind = kind; cells = array_cells tagged kind count } ∷ []) statics
-  with-array kind count made array =
-      with-more (record { kind = kind; cells = array_cells tagged kind count }) made
-      (new-arrays w.classes (record { frames = []; heap = heap; statics = statics }) kind count store.objects array)
+  with-array kind count made array = search (rules, with-more, new-arrays)

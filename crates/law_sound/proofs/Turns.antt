@@ -185,14 +185,7 @@ module _ (w : Linked) (world : IsWorld w) (assigned : Typings) where
       let next : q ≡ (at_next w caller).place = ap return_place (sym here) in
       let exact : Types = types_with w.classes (assigned.unset f.method) ks result caller in
       record {
-        stands = record {
-          rec = st.rec;
-          is_method = st.is_method;
-          instruction = st.instruction;
-          there = st.there;
-          reached = st.reached;
-          typing = st.typing;
-        };
+        stands = grind (arith);
         regs =
             IsSomeAnd-from (λ (g : Types). CellsBelow w.classes (least_types w.classes (assigned.unset f.method) ks registers) g.regs)
             ((assigned.frames f.method) f.place) turn.above turn.held held;

@@ -1,6 +1,6 @@
 -- Cells of objects at a frame's turn: what is read has the type of its place, and what is written keeps the heap typed.
-use Rattle.std.proofs.Common.{◌≡◌, ℕ, zero, suc, ◌+◌, true, List, [], ◌∷◌, length, refl, sym, ap, ◌∙◌, subst, length-set}
-use Rattle.std.specs.Prelude.{Some, IsSomeAnd, All, slice_get, slice_index_or, option_and_then}
+use Rattle.std.proofs.Common.{◌≡◌, ℕ, zero, suc, ◌+◌, true, List, [], ◌∷◌, length, refl, sym, ap, ◌∙◌, subst, length-set, arith}
+use Rattle.std.specs.Prelude.{Some, IsSomeAnd, slice_get, slice_index_or, option_and_then}
 use Rattle.std.proofs.lemmas.List.Elements.{All-nil}
 use Rattle.jc_base.specs.declared.ty.Ty.{Ty}
 use Rattle.jc_base.specs.Class.{ClassTable}
@@ -17,12 +17,11 @@ use Rattle.vm_store.specs.Cells.{tagged}
 use Rattle.vm_store.specs.State.{Frame, Object, State}
 use Rattle.vm_store.specs.Objects.{object_cells, write_object}
 use Rattle.vm_store.specs.Value.{with_object_value}
-use Rattle.vm_store.specs.Laws.{HasContent, CellsHave, IsTypedHeap, cell_types, cell_type_at}
+use Rattle.vm_store.specs.Laws.{HasContent, IsTypedHeap, cell_types, cell_type_at}
 use Rattle.vm_store.proofs.TypedHeaps.{kinds-write, heap-read, heap-write}
 use Rattle.vm_step.specs.Numbers.{dropped}
 use Rattle.vm_step.specs.Settled.{goes_to}
 use Rattle.law_sound.specs.Frames.{Typings, types_of_frame, IsStacked}
-use Rattle.law_sound.specs.State.{CanBeMade, static_types}
 use Rattle.law_sound.specs.Soundness.{IsTypedOutcome}
 use Rattle.law_sound.proofs.Finish.{IsTypedStore}
 use Rattle.law_sound.proofs.Handles.{kinds_of}
@@ -42,9 +41,7 @@ pub read-cell :
     (t : ClassTable) (heap : List (Object Cell)) (h i : ℕ) (ty : Ty) → IsTypedHeap t (with_heap heap) → cell_type_at t (with_heap heap) h i ≡ Some ty
     → HasType t (kinds_of heap) (slice_index_or (object_cells (with_heap heap) h) i cells.Empty) ty
     × HasContent (slice_index_or (object_cells (with_heap heap) h) i cells.Empty)
-read-cell t heap h i ty typed e =
-    some-nth (λ c. HasType t (kinds_of heap) c ty × HasContent c) (object_cells (with_heap heap) h) i cells.Empty
-    (heap-read t (with_heap heap) h i ty typed e)
+read-cell t heap h i ty typed e = grind (arith, kinds_of heap, heap-read t (with_heap heap) h i ty typed e, some-nth)
 
 -- a write keeps the types of the cells of the object
 type-kept :
@@ -61,12 +58,7 @@ module _ (w : Linked) (heap : List (Object Cell)) (statics : List Cell) where
       (h i : ℕ) (ty : Ty) (c : Cell) → IsTypedStore w heap statics → cell_type_at w.classes (with_heap heap) (suc h) i ≡ Some ty
       → HasType w.classes (kinds_of heap) c ty → HasContent c → IsTypedStore w (write_object heap h i c) statics
   store-write h i ty c store e has filled =
-      let same = sym (kinds-write heap h i c) in
-      record {
-        made = subst (All (CanBeMade w)) same store.made;
-        objects = heap-write w.classes (with_heap heap) (suc h) i ty c store.objects e has filled;
-        fields = subst (λ ks. CellsHave w.classes ks statics (static_types w.statics)) same store.fields;
-      }
+      grind (arith, kinds-write heap h i c, heap-write w.classes (with_heap heap) (suc h) i ty c store.objects e has filled)
 
 module _ (w : Linked) (world : IsWorld w) (assigned : Typings) (f : Frame Cell) (below : List (Frame Cell)) (heap : List (Object Cell)) (statics : List Cell)
     (here : Here w assigned f below heap statics)
