@@ -1,13 +1,10 @@
 -- The conditions on what stands on the classes, asked one after the other.
 use Rattle.std.proofs.Common.{◌≡◌, ℕ, List, [], Ok, Err, sym, ap, subst, ◌∙◌, inl, inr}
-use Rattle.std.specs.Prelude.{All}
 use Rattle.std.specs.Option.{option_to_list}
 use Rattle.cap_package.specs.PackageRecord.{PackageRecord}
-use Rattle.jc_base.specs.declared.record.Member.{Member}
 use Rattle.jc_base.specs.declared.record.MethodRec.{MethodRec}
 use Rattle.jc_base.specs.declared.record.StaticRec.{StaticRec}
 use Rattle.jc_base.specs.Class.{ClassTable}
-use Rattle.jc_base.specs.Linked.{IsMember}
 use Rattle.jc_resolve.specs.declared.fault.LinkFault.{LinkFault}
 use Rattle.jc_resolve.specs.declared.fault.LinkEnd.{LinkEnd}
 use Rattle.jc_resolve.specs.declared.fault.LinkEnd.TheVariants.{Fault, Memory}
@@ -17,7 +14,7 @@ use Rattle.first_fault.specs.Least.{least_of, refused}
 use Rattle.first_fault.specs.First.{IsLeast, IsFirst, AllEmpty}
 use Rattle.jc_resolve.proofs.ConditionLists.{things-refused, things-none, one-refused, one-none}
 use Rattle.jc_link.specs.Room.{statics_fault, arrays_fault}
-use Rattle.jc_link.specs.Pools.{pools, missing_members}
+use Rattle.jc_link.specs.Pools.{missing_members}
 use Rattle.jc_link.specs.Catches.{catch_fault, handler_places, bad_catches}
 use Rattle.jc_link.specs.Roles.{role_fault, thrown_roles, abstract_roles}
 use Rattle.jc_link.specs.declared.linking.Resolved.{Resolved}
@@ -40,9 +37,6 @@ module _ (ps : List PackageRecord) (roles : List ℕ) (qs : List PackageRecord) 
   -- the static fields have room
   abbrev pub HasStatics : Type 0
   HasStatics = option_to_list (statics_fault ps) ≡ []
-
-  pub statics_first : (f : LinkFault) → Err f ≡ refused (statics_fault qs) → IsFirst link_place (member_conditions ps roles) f
-  statics_first f h = inl (one-refused link_place (statics_fault ps) f (h ∙ ap (λ (xs : List PackageRecord). refused (statics_fault xs)) a.packages))
 
   pub statics_none : (x : Unit {0}) → Ok x ≡ refused (statics_fault qs) → HasStatics
   statics_none x h = one-none link_place (statics_fault ps) x (h ∙ ap (λ (xs : List PackageRecord). refused (statics_fault xs)) a.packages)
@@ -99,10 +93,6 @@ module _ (ps : List PackageRecord) (roles : List ℕ) (qs : List PackageRecord) 
     missing_same =
         ap (λ (u : ClassTable). missing_members ps u statics) a.table.is ∙ ap (λ (xs : List StaticRec). missing_members ps (table_of ps roles) xs) s
 
-    pub members_first : (f : LinkFault) → HasStatics → IsLeast link_place (missing_members ps t statics) f
-        → IsFirst link_place (member_conditions ps roles) f
-    members_first f none h = inr (none, inl (subst (λ (fs : List LinkFault). IsLeast link_place fs f) missing_same h))
-
     pub rest_told : (end : LinkEnd) → HasStatics → missing_members ps t statics ≡ [] → TellsFirst {A = Unit {0}} (rest_conditions ps roles)
         (Err end) → TellsFirst {A = Resolved} (member_conditions ps roles) (Err end)
     rest_told (Fault f) none members h = inr (none, inr (sym missing_same ∙ members, h))
@@ -110,14 +100,3 @@ module _ (ps : List PackageRecord) (roles : List ℕ) (qs : List PackageRecord) 
 
     pub members_empty : HasStatics → missing_members ps t statics ≡ [] → AllEmpty (rest_conditions ps roles) → AllEmpty (member_conditions ps roles)
     members_empty none members rest = (none, (sym missing_same ∙ members, rest))
-
-    -- ---- what is found
-
-    pub pools_same : (found : List (List Member)) → found ≡ pools ps t statics → found ≡ pools ps (table_of ps roles) (statics_of ps roles)
-    pools_same found e = e ∙ ap (λ (u : ClassTable). pools ps u statics) a.table.is ∙ ap (λ (xs : List StaticRec). pools ps (table_of ps roles) xs) s
-
-    pub members_same : (found : List (List Member)) → All (All (IsMember t methods statics)) found
-        → All (All (IsMember (table_of ps roles) (methods_of ps roles) statics)) found
-    members_same found all =
-        subst (λ (ms : List MethodRec). All (All (IsMember (table_of ps roles) ms statics)) found) a.methods_are
-        (subst (λ (u : ClassTable). All (All (IsMember u methods statics)) found) a.table.is all)

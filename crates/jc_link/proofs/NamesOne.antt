@@ -30,6 +30,7 @@ use Rattle.jc_link.specs.World.{table_of, statics_of, table_conditions, class_co
 use Rattle.jc_link.specs.OneEach.{IsAskedFor, NamesPackage, ImportsNameOne, ReferencesNameOne, NamesOneEach}
 use Rattle.jc_link.proofs.EachNamed.{all_named}
 use Rattle.jc_link.proofs.NamingLaws.{then_some}
+use Rattle.jc_base.proofs.Lists.{slice_get-take}
 
 -- ---- the first of a list that passes a test
 
@@ -65,12 +66,6 @@ first-found t xs j h =
     let r = first-found-from t 0 xs j (sym (position_from-zero t xs) ∙ h) in
     let same : r.0 ≡ j = omega (arith, r.1) in
     subst (IsFirstFound t xs) same r.2
-
-taken-there : {X : Type 0} (xs : List X) (k i : ℕ) → i < k → slice_get (take k xs) i ≡ slice_get xs i
-taken-there xs zero i lt = absurd (omega (arith, lt))
-taken-there [] (suc k) i lt = refl
-taken-there (x ∷ xs) (suc k) zero lt = refl
-taken-there (x ∷ xs) (suc k) (suc i) lt = taken-there xs k i (omega (arith, lt))
 
 -- ---- conditions
 
@@ -115,9 +110,9 @@ module _ (ps : List PackageRecord) where
       let lt : j < k = omega (arith, within, length-take k ps) in
       record {
         earlier = lt;
-        met = record { found = f.found; there = sym (taken-there ps k j lt) ∙ f.there; meets = asked-for asked f.found f.passes };
+        met = record { found = f.found; there = sym (slice_get-take k j ps lt) ∙ f.there; meets = asked-for asked f.found f.passes };
         first = λ i less other.
-            let at = taken-there ps k i (omega (arith, less, lt)) ∙ other.there in
+            let at = slice_get-take k i ps (omega (arith, less, lt)) ∙ other.there in
             false≢true (sym (f.before i other.found less at) ∙ meets-asked asked other.found other.meets);
       }
 

@@ -52,10 +52,6 @@ only-one [] x h = absurd cc
 only-one (y ∷ []) x h = ap (λ z. z ∷ []) (same_Some y x h)
 only-one (y ∷ z ∷ zs) x h = absurd cc
 
-some-there : {X : Type 0} (o : Option X) → is_some o ≡ true → (x : X) × (o ≡ Some x)
-some-there None h = absurd cc
-some-there (Some x) h = (x, refl)
-
 -- ---- places
 
 module _ (ps : List PackageRecord) (exported : ℕ → ℕ → ℕ → Option ℕ) (k : ℕ) (place : RecordPlace) where

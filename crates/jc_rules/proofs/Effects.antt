@@ -289,10 +289,6 @@ module _ (t : ClassTable) (f : Frame) where
   number-known widths.Short = (tt, tt)
   number-known widths.Int = tt
 
-  length-number : (w : Width) → length (in_stack_order (number_given w)) ≡ size w
-  length-number widths.Short = refl
-  length-number widths.Int = refl
-
   value-known : (ty : Ty) → IsKnown t ty × IsValue ty → CellsKnown t (value_given ty)
   value-known IntHigh k = tt
   value-known Bottom k = k
