@@ -1,6 +1,6 @@
 -- Writes of fields of `this`: where register 0 is no longer the home of local 0, the object is loaded and put under the value first.
 use Rattle.std.proofs.Common.{◌≡◌, ℕ, suc, ◌+◌, ◌-◌, ◌<◌, ◌≤◌, ◌==◌, Bool, true, false, if◌then◌else◌, List, []}
-use Rattle.std.proofs.Common.{◌∷◌, ◌++◌, length, map, refl, sym, ap, ◌∙◌, subst, arith}
+use Rattle.std.proofs.Common.{◌∷◌, length, map, refl, sym, ap, ◌∙◌, subst, arith}
 use Rattle.std.specs.Prelude.{None, Ok, IfSome, slice_get, drop}
 use Rattle.jc_base.specs.Linked.{IsMethod}
 use Rattle.jc_base.proofs.Lists.{All-slice_get}
@@ -52,7 +52,7 @@ use Rattle.law_alike.proofs.Settling.{unless-none}
 use Rattle.law_laid.specs.Apart.{apart_from_code}
 use Rattle.law_laid.proofs.SameBut.{operations-are-kept}
 use Rattle.xf_homes.specs.Source.{Source}
-use Rattle.xf_homes.specs.Plan.{needed, register}
+use Rattle.xf_homes.specs.Plan.{needed}
 use Rattle.xf_emission.specs.Group.{body, field_written, itself, stays, swap_words}
 use Rattle.xf_emission.specs.Move.{load, with_byte}
 use Rattle.xf_emission.specs.Mnemonics.{from_write, swap_x}
