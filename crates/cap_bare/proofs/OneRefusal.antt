@@ -61,9 +61,6 @@ module _ (code : List ℕ) (bare : Bare) where
     lands : LandsEmpty code i stack → (nat_lt 0 depth && is_target code i.place) ≡ false
     lands h = not-target depth (is_target code i.place) (λ t. shorts-none depth (sym is ∙ h (target-from code i.place t)))
 
-    taken_after : ℕ
-    taken_after = depth - cells_taken (instruction_of i.insn) + cells_given (instruction_of i.insn)
-
     rule-from : (after : List Kind) → Applies bare (instruction_of i.insn) registers stack after
         → (applied bare (instruction_of i.insn) depth ≡ Ok (depth - cells_taken (instruction_of i.insn) + cells_given (instruction_of i.insn)))
         × (after ≡ shorts (depth - cells_taken (instruction_of i.insn) + cells_given (instruction_of i.insn)))

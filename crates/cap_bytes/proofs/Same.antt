@@ -13,7 +13,7 @@ pub same_part : (low high a b : ℕ) (bytes out : List ℕ) → AreSame low high
 same_part low high a b bytes out s l h = record { each = λ k m n. s.each k (omega arith) (omega arith) }
 
 -- a number is read from its bytes alone
-big_same : (n i : ℕ) (xs ys : List ℕ) → ((k : ℕ) → k < n → slice_index xs (i + k) ≡ slice_index ys (i + k))
+pub big_same : (n i : ℕ) (xs ys : List ℕ) → ((k : ℕ) → k < n → slice_index xs (i + k) ≡ slice_index ys (i + k))
     → big_from i n xs ≡ big_from i n ys
 big_same zero i xs ys same = refl
 big_same (suc n) i xs ys same =

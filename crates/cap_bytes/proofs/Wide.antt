@@ -41,7 +41,7 @@ wide_then v w g next p q = record {
       omega (arith, a, b);
 }
 
-reaches : (w : ℕ) (bytes : List ℕ) (at n : ℕ) (b : Bool) → leb (at + w) (length bytes) ≡ b → cond b (Some (big_number w (drop at bytes))) None
+pub reaches : (w : ℕ) (bytes : List ℕ) (at n : ℕ) (b : Bool) → leb (at + w) (length bytes) ≡ b → cond b (Some (big_number w (drop at bytes))) None
     ≡ Some n → at + w ≤ length bytes
 reaches w bytes at n true e h = leb-true _ _ e
 reaches w bytes at n false e h = absurd cc

@@ -1,12 +1,11 @@
 -- Records with distinct keys as a map.
-use Rattle.std.proofs.Common.{◌≡◌, ℕ, suc, ◌+◌, ◌<◌, List, [], ◌∷◌, ◌++◌, Bool, true, false, cond, ◌&&◌, nat_lt, nat_le, length}
+use Rattle.std.proofs.Common.{◌≡◌, ℕ, suc, ◌+◌, List, [], ◌∷◌, ◌++◌, Bool, true, false, cond, ◌&&◌, nat_lt, nat_le, length}
 use Rattle.std.proofs.Common.{Option, Some, None, option_map, is_some, sum_by, find, position, refl, ap, sym, subst, ◌∙◌, arith, length-append}
 use Rattle.std.proofs.lemmas.List.Sums.{sum_by-cons, sum_by_push}
 use Rattle.std.proofs.lemmas.Slice.Eq.{bytes_eq-Decides}
 use Rattle.std.proofs.lemmas.Iterator.Adapters.{position_from-zero}
 use Rattle.std.proofs.lemmas.Bool.Decides.{same_from_decides}
 use Rattle.std.specs.List.{position_from}
-use Rattle.std.specs.Option.{ForSome}
 use Rattle.std.specs.Str.{bytes_eq}
 use Rattle.std.specs.declared.cmp.Ordering.{Ordering}
 use Rattle.std.specs.declared.cmp.Ordering.TheVariants.{Less, Equal, Greater}
@@ -83,17 +82,6 @@ from_zero (Some n) = ap (λ (k : ℕ). Some k) (omega arith)
 
 pub position_is : (t : Held → Bool) (rs : List Held) → position t rs ≡ place t rs
 position_is t rs = position_from-zero t rs ∙ placed_from t 0 rs ∙ from_zero (place t rs)
-
-pub place_within : (t : Held → Bool) (rs : List Held) → ForSome (place t rs) (λ n. n < length rs)
-place_within t [] n e = cc
-place_within t (r ∷ rs) n e =
-    elim (t r) as (λ b. cond b (Some 0) (option_map suc (place t rs)) ≡ Some n → n < suc (length rs)) [
-      | true ↦ λ e. let z : 0 ≡ n = cc in omega arith
-      | false ↦ λ e. elim (place t rs) as (λ o. ForSome o (λ m. m < length rs) → option_map suc o ≡ Some n → n < suc (length rs)) [
-        | None ↦ λ _ e. cc
-        | Some m ↦ λ h e. let z : suc m ≡ n = cc in omega (arith, h m refl)
-      ] (place_within t rs) e
-    ] e
 
 without_place : (k : List ℕ) (rs : List Held) → without (place (has_key k) rs) rs ≡ dropped k rs
 without_place k [] = refl
@@ -214,9 +202,6 @@ held_is (r ∷ rs) apart =
 -- ---- a part put in the place of another, or after all
 pub rest_is : (k : List ℕ) (rs : List Held) → without (position (has_key k) rs) rs ≡ dropped k rs
 rest_is k rs = ap (λ o. without o rs) (position_is (has_key k) rs) ∙ without_place k rs
-
-pub position_within : (t : Held → Bool) (rs : List Held) → ForSome (position t rs) (λ n. n < length rs)
-position_within t rs = subst (λ o. ForSome o (λ n. n < length rs)) (sym (position_is t rs)) (place_within t rs)
 
 pub distinct_put : (k v : List ℕ) (rs : List Held) → AreDistinct rs → AreDistinct (without (position (has_key k) rs) rs ++ (k, v) ∷ [])
 distinct_put k v rs apart =

@@ -11,6 +11,7 @@ use Rattle.std.proofs.lemmas.Str.{IsUtf8-from_ascii}
 use Rattle.std.proofs.lemmas.List.{take_more, drop_more, take_all, take-append-drop}
 use Rattle.cap_listing.specs.Words.{HasNone, IsCut}
 use Rattle.cap_listing.proofs.Words.{IsDigits, decimal-digits, first-cut, none-cut}
+use Rattle.std.proofs.lemmas.Str.Ascii.{IsAscii-cons}
 
 pub none-more : (c : ℕ) (xs : List ℕ) (b : ℕ) → HasNone c xs → b ≢ c → HasNone c (xs ++ b ∷ [])
 none-more c [] b h k = (k, search rules)
@@ -23,14 +24,10 @@ digits-ascii [] h i = omega arith
 digits-ascii (b ∷ w) h zero = omega (arith, h.0.1)
 digits-ascii (b ∷ w) h (suc i) = digits-ascii w h.1 i
 
-ascii-more : (b : ℕ) (w : List ℕ) → b < 128 → IsAscii w → IsAscii (b ∷ w)
-ascii-more b w h k zero = h
-ascii-more b w h k (suc i) = k i
-
 signed-ascii : (z : ℤ) → FitsSigned w32 z → IsAscii (signed_decimal z)
 signed-ascii (pos n) h = digits-ascii (decimal n) (decimal-digits n (omega arith))
 signed-ascii (negsuc n) h =
-    ascii-more 45 (decimal (suc n)) (omega arith) (digits-ascii (decimal (suc n)) (decimal-digits (suc n) (omega arith)))
+    IsAscii-cons 45 (decimal (suc n)) (omega arith) (digits-ascii (decimal (suc n)) (decimal-digits (suc n) (omega arith)))
 
 pub decimal-text : (n : ℕ) (word : List ℕ) → n < 2 ^ 16 → word ≡ decimal n → IsUtf8 word
 decimal-text n word h e = subst IsUtf8 (sym e) (IsUtf8-from_ascii (decimal n) (digits-ascii (decimal n) (decimal-digits n (omega (arith, h)))))

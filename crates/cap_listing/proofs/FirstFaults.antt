@@ -1,26 +1,12 @@
 -- The first fault is found in one pass over the methods.
-use Rattle.std.proofs.Common.{◌≡◌, ◌≢◌, ◌<◌, ◌≤◌, ◌+◌, ℕ, Bool, true, false, cond, min, List, [], ◌∷◌, ◌++◌, length, drop, get_or}
-use Rattle.std.proofs.Common.{Result, Ok, Err, refl, sym, ap, subst, ◌∙◌, arith}
+use Rattle.std.proofs.Common.{◌≡◌, ◌≢◌, ◌<◌, ◌≤◌, ◌+◌, ℕ, cond, min, List, [], ◌∷◌, length, drop, get_or}
+use Rattle.std.proofs.Common.{Err, refl, sym, ap, subst, ◌∙◌, arith}
 use Rattle.std.proofs.lemmas.List.{drop_more, drop_all, length-drop}
 use Rattle.jc_decode.specs.declared.symbols.LaidHandler.{LaidHandler}
 use Rattle.cap_listing.specs.declared.method.ListedMethod.{ListedMethod}
 use Rattle.cap_listing.specs.declared.fault.AsmFault.{AsmFault}
-use Rattle.cap_listing.specs.declared.fault.AsmFault.TheVariants.{OtherMethod, HandlerRange}
-use Rattle.cap_listing.specs.declared.condition.Condition.{Condition}
-use Rattle.cap_listing.specs.Placing.{is_same, lies_in, other_faults, range_faults, own_faults, faults_from, handler_total, first_refused}
-
--- ---- faults one list after the other
-
-refused-not : (r : Result (Unit {0}) AsmFault) (f : AsmFault) → r ≡ Err f → r ≡ Ok (tt {0}) → ⊥
-refused-not r f e g = absurd (cc)
-
-pub refused-after : (xs ys : List AsmFault) → first_refused xs ≡ Ok (tt {0}) → first_refused (xs ++ ys) ≡ first_refused ys
-refused-after [] ys e = refl
-refused-after (x ∷ xs) ys e = absurd (refused-not (first_refused (x ∷ xs)) x refl e)
-
-pub refused-before : (xs ys : List AsmFault) (f : AsmFault) → first_refused xs ≡ Err f → first_refused (xs ++ ys) ≡ Err f
-refused-before [] ys f e = absurd (refused-not (first_refused []) f e refl)
-refused-before (x ∷ xs) ys f e = e
+use Rattle.cap_listing.specs.declared.fault.AsmFault.TheVariants.{OtherMethod}
+use Rattle.cap_listing.specs.Placing.{is_same, other_faults, range_faults, handler_total, first_refused}
 
 -- ---- methods that are not the package's own
 
@@ -33,12 +19,6 @@ module _ (n : ℕ) (ms owns : List ListedMethod) (m own : ListedMethod) (h : n <
   here =
       ap (λ (xs : List ListedMethod). other_faults n xs (drop n owns)) (drop_more ms n m h ∙ ap (λ (x : ListedMethod). x ∷ drop (n + 1) ms) (sym is))
       ∙ ap (other_faults n (m ∷ drop (n + 1) ms)) (drop_more owns n own k ∙ ap (λ (x : ListedMethod). x ∷ drop (n + 1) owns) (sym it))
-
-  pub same-passed : is_same m own ≡ true → first_refused (other_faults n (drop n ms) (drop n owns)) ≡ first_refused later
-  same-passed e = ap first_refused (here ∙ ap (λ (b : Bool). cond b later (OtherMethod n ∷ later)) e)
-
-  pub other-refused : is_same m own ≡ false → first_refused (other_faults n (drop n ms) (drop n owns)) ≡ Err (OtherMethod n)
-  other-refused e = ap first_refused (here ∙ ap (λ (b : Bool). cond b later (OtherMethod n ∷ later)) e)
 
 one-missing : (n : ℕ) (xs ys : List ListedMethod) → length xs ≢ length ys → min (length xs) (length ys) ≡ 0
     → first_refused (other_faults n xs ys) ≡ Err (OtherMethod n)
@@ -59,30 +39,6 @@ missing-refused n j ms owns h same apart =
 module _ (n size k : ℕ) (hs : List LaidHandler) (h : LaidHandler) (lt : k < length hs) (is : h ≡ get_or hs k h) where
   abbrev rest : List AsmFault
   rest = range_faults n size (k + 1) (drop (k + 1) hs)
-
-  handler-here : range_faults n size k (drop k hs) ≡ cond (lies_in h size) rest (HandlerRange n k ∷ rest)
-  handler-here =
-      ap (range_faults n size k) (drop_more hs k h lt ∙ ap (λ (x : LaidHandler). x ∷ drop (k + 1) hs) (sym is))
-
-  pub handler-passed : lies_in h size ≡ true → first_refused (range_faults n size k (drop k hs)) ≡ first_refused rest
-  handler-passed e = ap first_refused (handler-here ∙ ap (λ (b : Bool). cond b rest (HandlerRange n k ∷ rest)) e)
-
-  pub handler-refused : lies_in h size ≡ false → first_refused (range_faults n size k (drop k hs)) ≡ Err (HandlerRange n k)
-  handler-refused e = ap first_refused (handler-here ∙ ap (λ (b : Bool). cond b rest (HandlerRange n k ∷ rest)) e)
-
--- ---- one method after the other
-
-module _ (c : Condition) (n : ℕ) (ms : List ListedMethod) (m : ListedMethod) (lt : n < length ms) (is : m ≡ get_or ms n m) where
-  method-here : faults_from c n (drop n ms) ≡ own_faults c n m ++ faults_from c (n + 1) (drop (n + 1) ms)
-  method-here =
-      ap (faults_from c n) (drop_more ms n m lt ∙ ap (λ (x : ListedMethod). x ∷ drop (n + 1) ms) (sym is))
-
-  pub method-passed : first_refused (own_faults c n m) ≡ Ok (tt {0})
-      → first_refused (faults_from c n (drop n ms)) ≡ first_refused (faults_from c (n + 1) (drop (n + 1) ms))
-  method-passed e = ap first_refused method-here ∙ refused-after (own_faults c n m) (faults_from c (n + 1) (drop (n + 1) ms)) e
-
-  pub method-refused : (f : AsmFault) → first_refused (own_faults c n m) ≡ Err f → first_refused (faults_from c n (drop n ms)) ≡ Err f
-  method-refused f e = ap first_refused method-here ∙ refused-before (own_faults c n m) (faults_from c (n + 1) (drop (n + 1) ms)) f e
 
 -- ---- the sum of the handlers, which stands still at the greatest of 64 bits
 

@@ -1,5 +1,5 @@
 -- An operand's number is kept where the operand may have it.
-use Rattle.std.proofs.Common.{◌≡◌, ◌+◌, true, List, [], ◌++◌, refl, sym, ap, ◌∙◌}
+use Rattle.std.proofs.Common.{◌≡◌, ◌+◌, true, List, ◌++◌, refl, sym, ap, ◌∙◌}
 use Rattle.std.proofs.Common.{arith}
 use Rattle.std.specs.Prelude.{ℤ, pos, negsuc, int_le}
 use Rattle.std.proofs.lemmas.Bool.{le-leb}

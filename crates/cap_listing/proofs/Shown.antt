@@ -23,31 +23,11 @@ use Rattle.jc_decode.proofs.Decoded.{Begins-decoded}
 use Rattle.jc_decode.proofs.Ranges.{FitsOperand-read, FitsLayout-decoded, offset-decoded}
 use Rattle.jc_decode.proofs.Tables.{cases-by}
 use Rattle.cap_listing.specs.Numbers.{shown_operand, shown_first, shown_cases, numbers_by, numbers_of, AreShown}
+use Rattle.jc_decode.proofs.KeySearches.{fits-wide}
 
 shown-append : (ys zs : List ℤ) → AreShown ys → AreShown zs → AreShown (ys ++ zs)
 shown-append [] zs h k = k
 shown-append (y ∷ ys) zs h k = (h.0, shown-append ys zs h.1 k)
-
--- an operand fits
-operand-fits : (o : Operand) (v : ℤ) → FitsOperand o v → FitsSigned w32 v
-operand-fits Absent v h = subst (FitsSigned w32) (sym h) (omega arith)
-operand-fits S1 (pos n) h = omega arith
-operand-fits S1 (negsuc n) h = omega arith
-operand-fits S2 (pos n) h = omega arith
-operand-fits S2 (negsuc n) h = omega arith
-operand-fits S4 v h = h
-operand-fits U1 (pos n) h = omega arith
-operand-fits U1 (negsuc n) h = absurd h
-operand-fits U2 (pos n) h = omega arith
-operand-fits U2 (negsuc n) h = absurd h
-operand-fits DupWords (pos n) h = omega arith
-operand-fits DupWords (negsuc n) h = absurd h
-operand-fits SwapWords (pos n) h = omega arith
-operand-fits SwapWords (negsuc n) h = absurd h
-operand-fits ArrayType (pos n) h = omega arith
-operand-fits ArrayType (negsuc n) h = absurd h
-operand-fits TestedType (pos n) h = omega arith
-operand-fits TestedType (negsuc n) h = absurd h
 
 -- and where it is shown
 operand-shown : (o : Operand) (z : ℤ) → FitsSigned w32 z → AreShown (shown_operand o z)
@@ -101,11 +81,7 @@ pairs-shown : (key : Operand) (xs : List ℕ) (place t n a : ℕ) → AreBytes x
     → AreShown (shown_cases (Pairs key) place (map (pair_case xs t key) (range_with_len a n)))
 pairs-shown key xs place t zero a are h = search rules
 pairs-shown key xs place t (suc n) a are h =
-    (operand-fits key _ (read-fits key xs _ are), (target-fits place _ h (read-fits S2 xs _ are), pairs-shown key xs place t n (a + 1) are h))
-
-none-shown : (place : ℕ) (cs : List Case) → AreShown (shown_cases NoCases place cs)
-none-shown place [] = search rules
-none-shown place (c ∷ cs) = none-shown place cs
+    (fits-wide key _ (read-fits key xs _ are), (target-fits place _ h (read-fits S2 xs _ are), pairs-shown key xs place t n (a + 1) are h))
 
 table-shown : (k : Cases) (xs : List ℕ) (place t : ℕ) (i : Insn) → AreBytes xs → place ≤ 65535 → AreShown (shown_cases k place (cases_in k xs t i))
 table-shown NoCases xs place t i are h = search rules
@@ -119,9 +95,9 @@ numbers-shown place code at i h are is =
     let l = b.layout in
     let fits = subst (FitsLayout i) b.is_layout (FitsLayout-decoded code at i are is) in
     let x = operand-shown l.x (shown_first (jumps i.op) place i.x)
-    (first-fits (jumps i.op) place i.x h (operand-fits l.x i.x fits.0) (offset-decoded code at i are is)) in
-    let y = operand-shown l.y i.y (operand-fits l.y i.y fits.1) in
-    let z = operand-shown l.z i.z (operand-fits l.z i.z fits.2) in
+    (first-fits (jumps i.op) place i.x h (fits-wide l.x i.x fits.0) (offset-decoded code at i are is)) in
+    let y = operand-shown l.y i.y (fits-wide l.y i.y fits.1) in
+    let z = operand-shown l.z i.z (fits-wide l.z i.z fits.2) in
     let table = subst (λ (cs : List Case). AreShown (shown_cases l.cases place cs)) (sym (cases-by code at i l l.cases b.is_layout refl))
     (table-shown l.cases code place (at + 1 + total_width l) i are h) in
     subst (λ (r : Result Layout CodeEnd). AreShown (numbers_by r place i (cases code at i))) (sym b.is_layout)

@@ -1,5 +1,5 @@
 -- Words, and lines of them: what is joined is cut into the same words.
-use Rattle.std.proofs.Common.{◌≡◌, ◌<◌, ◌≤◌, ◌≢◌, ◌+◌, ◌^◌, ℕ, zero, suc, Bool, true, false, List, [], ◌∷◌}
+use Rattle.std.proofs.Common.{◌≡◌, ◌<◌, ◌≤◌, ◌+◌, ◌^◌, ℕ, zero, suc, Bool, true, false, List, [], ◌∷◌}
 use Rattle.std.proofs.Common.{◌++◌, length, map, get_or, refl, sym, ap, ◌∙◌, ⊎_elim, ◌/◌, ◌%◌, arith, rules, append_assoc, nat_lt, subst}
 use Rattle.std.proofs.Common.{drop, replicate}
 use Rattle.std.specs.Prelude.{ℤ, pos, negsuc, All, decimal, FitsSigned, ⊤, ◌==◌, ◌&&◌}
@@ -9,7 +9,7 @@ use Rattle.std.proofs.lemmas.List.{append-nil}
 use Rattle.std.proofs.lemmas.List.Elements.{All-cons, All-nil}
 use Rattle.std.proofs.lemmas.Bool.Decides.{eqb_tells}
 use Rattle.std.proofs.lemmas.Fmt.{decimal_by_steps, decimal_nonempty}
-use Rattle.std.proofs.lemmas.Bool.{ltb-true, false≢true}
+use Rattle.std.proofs.lemmas.Bool.{ltb-true, and_parts}
 use Rattle.std.proofs.lemmas.List.FromFn.{get_or-map-range_with_len}
 use Rattle.std.proofs.lemmas.List.{get_or-replicate}
 use Rattle.hex.specs.Hex.{encode_with, encode_lower, lower_digits}
@@ -142,18 +142,14 @@ is_plain_byte b = nat_lt 32 b && nat_lt b 127
 is_plain : List ℕ → Bool
 is_plain w = list_all is_plain_byte w
 
-both : (a b : Bool) → (a && b) ≡ true → (a ≡ true) × (b ≡ true)
-both true b e = (refl, e)
-both false b e = absurd (false≢true e)
-
 plain-byte : (b : ℕ) → is_plain_byte b ≡ true → (32 < b) × (b < 127)
 unfolding is_plain_byte
-plain-byte b e = let p = both (nat_lt 32 b) _ e in (ltb-true 32 b p.0, ltb-true b 127 p.1)
+plain-byte b e = let p = and_parts (nat_lt 32 b) _ e in (ltb-true 32 b p.0, ltb-true b 127 p.1)
 
 is_plain-plain : (w : List ℕ) → is_plain w ≡ true → IsPlain w
 unfolding is_plain
 is_plain-plain [] e = search rules
-is_plain-plain (b ∷ w) e = let p = both (is_plain_byte b) _ e in (plain-byte b p.0, is_plain-plain w p.1)
+is_plain-plain (b ∷ w) e = let p = and_parts (is_plain_byte b) _ e in (plain-byte b p.0, is_plain-plain w p.1)
 
 names_plain : list_all is_plain names ≡ true
 unfolding names is_plain is_plain_byte
@@ -161,8 +157,8 @@ names_plain = refl
 
 plain-at : (ws : List (List ℕ)) → list_all is_plain ws ≡ true → (n : ℕ) → IsPlain (get_or ws n [])
 plain-at [] e n = search rules
-plain-at (w ∷ ws) e zero = is_plain-plain w (both (is_plain w) _ e).0
-plain-at (w ∷ ws) e (suc n) = plain-at ws (both (is_plain w) _ e).1 n
+plain-at (w ∷ ws) e zero = is_plain-plain w (and_parts (is_plain w) _ e).0
+plain-at (w ∷ ws) e (suc n) = plain-at ws (and_parts (is_plain w) _ e).1 n
 
 pub plain-name : (op : ℕ) → IsPlain (name op)
 plain-name op = plain-at names names_plain op

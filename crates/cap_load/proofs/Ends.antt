@@ -1,5 +1,5 @@
 -- What a loader that met no fault answers at the end.
-use Rattle.std.proofs.Common.{◌≡◌, ℕ, ◌+◌, ◌≤◌, List, [], ◌∷◌, ◌++◌, length, Option, None, Result, Ok, Err, refl, sym, ap}
+use Rattle.std.proofs.Common.{◌≡◌, ℕ, ◌+◌, List, [], ◌∷◌, ◌++◌, Option, None, Result, Ok, Err, refl, sym, ap}
 use Rattle.std.proofs.Common.{subst, ◌∙◌, arith}
 use Rattle.std.proofs.lemmas.List.{append-nil}
 use Rattle.std.specs.List.{AllByRecursion, concat}
@@ -13,7 +13,7 @@ use Rattle.cap_load.specs.declared.component.Next.TheVariants.{Tag, High, Low, I
 use Rattle.cap_load.specs.declared.component.Reading.{Reading}
 use Rattle.cap_load.specs.declared.block.Block.{Block}
 use Rattle.cap_load.specs.declared.block.Block.TheVariants.{Left, Ended}
-use Rattle.cap_load.specs.LoadFile.{IsBlock, in_blocks, stream_of, files_of, AreFiles, IsLoadFileWithin}
+use Rattle.cap_load.specs.LoadFile.{IsBlock, in_blocks, stream_of, files_of, IsLoadFileWithin}
 use Rattle.cap_load.specs.Fault.{HasEnded, IsUnfinished, IsFirst, IsRefused}
 use Rattle.cap_load.specs.Loaded.{Loaded, IsNext, IsFront, IsRead, StandsBy, StandsFor}
 use Rattle.cap_load.specs.Finishing.{Finishes, Gives}
@@ -32,20 +32,6 @@ joined_whole bytes contents f = f.joined ∙ ap (λ (x : List ℕ). concat f.blo
 
 stream_whole : (bytes contents : List ℕ) (f : IsFront Ended bytes contents) → bytes ≡ stream_of f.blocks
 stream_whole bytes contents f = f.whole ∙ ap (λ (x : List ℕ). in_blocks f.blocks ++ x) f.left.0
-
-whole_by : (room : ℕ) (bytes contents : List ℕ) (parts : List Lent) → IsFront Ended bytes contents → length contents ≤ room
-    → AreFiles contents parts → IsLoadFileWithin room bytes parts
-whole_by room bytes contents parts f few files =
-    let whole = files.whole in
-    record {
-      loads = record {
-        blocks = f.blocks;
-        each = f.each;
-        whole = stream_whole bytes contents f;
-        files = subst (λ (c : List ℕ). AreFiles c parts) (joined_whole bytes contents f) files;
-      };
-      few = subst (λ (c : List ℕ). length c ≤ room) whole few;
-    }
 
 -- a stream has an ending
 stream_ended : (bytes : List ℕ) (blocks : List (List ℕ)) → AllByRecursion IsBlock blocks → bytes ≡ stream_of blocks → HasEnded bytes

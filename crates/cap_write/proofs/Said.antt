@@ -58,7 +58,7 @@ renewed_if_says old new tag g renew edits x h = if_says old new tag g renew edit
 
 -- ---- sizes
 
-same_info : (tag : ℕ) (file a b : List ℕ) → Stands (component tag) file a → Stands (component tag) file b → a ≡ b
+pub same_info : (tag : ℕ) (file a b : List ℕ) → Stands (component tag) file a → Stands (component tag) file b → a ≡ b
 same_info tag file a b s t =
     let e : reading (file_of tag) (component tag) file ≡ Ok a = reading_where (file_of tag) (component tag) file a s in
     let f : reading (file_of tag) (component tag) file ≡ Ok b = reading_where (file_of tag) (component tag) file b t in

@@ -30,9 +30,10 @@ use Rattle.jc_control.specs.declared.flaw.Flaw.TheVariants as flaws
 use Rattle.card_typing.specs.Refusal.{fault_of, IsFlawKind, IsWrong, wrong_entry, wrong_room, wrong_mark, wrong_rule, wrong_branch, wrong_end, IsRefusedAfter}
 use Rattle.card_typing.specs.Refusal.{refused_at, IsRefusedState, refused_flaw, refused_state}
 use Rattle.card_typing.specs.Laws.{MetIsBelow, RefusalDenies, FlawsAreTold}
-use Rattle.card_typing.proofs.Sites.{site_of, at-site, refuses-at-site}
-use Rattle.card_typing.proofs.Own.{of_world, start-length, start-known}
+use Rattle.jc_rules.proofs.Sites.{site_of, at-site, refuses-at-site}
+use Rattle.card_typing.proofs.Own.{start-length, start-known}
 use Rattle.card_typing.proofs.Flowing.{IsSolid, none-solid, entered-solid, given-solid}
+use Rattle.jc_rules.proofs.Starts.{of_world}
 
 -- what the verifier's laws of rules say
 pub record AreCardRules (w : Linked) : Type 0 where

@@ -23,8 +23,9 @@ use Rattle.jc_rules.specs.FlowLaws.{AreRules}
 use Rattle.card_typing.specs.Place.{IsEntry, IsTarget}
 use Rattle.card_typing.specs.Typing.{frame_at, IsTyped, IsEntered, CardTypingOver, CardTyping}
 use Rattle.card_typing.specs.Laws.{CardIsFlow}
-use Rattle.card_typing.proofs.Sites.{site_of, at-site}
-use Rattle.card_typing.proofs.Own.{of_world, start-length}
+use Rattle.jc_rules.proofs.Sites.{site_of, at-site}
+use Rattle.card_typing.proofs.Own.{start-length}
+use Rattle.jc_rules.proofs.Starts.{of_world}
 
 -- only a branch or switch has targets
 jumps-where : (code : List ℕ) (i : Placed) (z : ℤ) → Contains (targets code i) z → jumps i.insn.op ≡ true

@@ -26,7 +26,7 @@ use Rattle.card_typing.specs.Refusal.{IsWrong, wrong_entry, wrong_room, wrong_ma
 use Rattle.card_typing.specs.Refusal.{IsRefusedAfter, refused_at, IsRefused, refused_flaw, refused_state}
 use Rattle.card_typing.specs.Laws.{MetIsOne, RefusedStateIsOne, PassCountIsOne, RefusalIsOne}
 use Rattle.card_typing.proofs.Below.{fault-kind}
-use Rattle.card_typing.proofs.Sites.{site_of, at-site, refuses-at-site}
+use Rattle.jc_rules.proofs.Sites.{site_of, at-site, refuses-at-site}
 
 -- ---- a walk
 

@@ -19,7 +19,7 @@ use Rattle.jc_rules.specs.declared.rule.Outcome.{Outcome}
 use Rattle.jc_rules.specs.Flow.{CellsBelow, IsNotFresh, start_frame}
 use Rattle.jc_rules.specs.Laws.{RuleRests}
 use Rattle.card_typing.proofs.Fewer.{met-fewer}
-use Rattle.card_typing.proofs.Sites.{site_of, at-site, of-site}
+use Rattle.jc_rules.proofs.Sites.{site_of, at-site, of-site}
 use Rattle.card_typing.specs.Place.{IsTarget, IsEntry, IsFallenInto, fallen_first, fallen_from, CatchesAt}
 use Rattle.card_typing.specs.Typing.{frame_at, GoesOn, IsTyped, IsEntered, CardTypingOver}
 use Rattle.card_typing.specs.Met.{Arrives, arrives_falling, arrives_empty, arrives_caught, arrives_full, IsOpenTo, IsPassed}

@@ -13,8 +13,9 @@ use Rattle.jc_rules.specs.FlowLaws.{AreRules}
 use Rattle.jc_rules.specs.Laws.{RuleRaises}
 use Rattle.card_typing.specs.Met.{Arrives, arrives_falling, arrives_empty, arrives_caught, arrives_full, IsMetAfter, met_start, met_next}
 use Rattle.card_typing.specs.Laws.{IsSoundState, MetIsSound}
-use Rattle.card_typing.proofs.Sites.{site_of, at-site}
-use Rattle.card_typing.proofs.Own.{of_world, start-length, start-known, start-ready}
+use Rattle.jc_rules.proofs.Sites.{site_of, at-site}
+use Rattle.card_typing.proofs.Own.{start-length, start-known, start-ready}
+use Rattle.jc_rules.proofs.Starts.{of_world}
 
 -- a stack that arrives has types of the world where the given one has
 arrives-known : (w : Linked) (m : Method) {b : Bool} {given : List Ty} {q : ℕ} {stack : List Ty} → Arrives w m b given q stack

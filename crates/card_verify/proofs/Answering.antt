@@ -1,5 +1,5 @@
 -- What the verifier answers.
-use Rattle.std.proofs.Common.{◌≡◌, ◌↔◌, ⊎_elim, ℕ, ◌+◌, ◌<◌, ◌≤◌, List, length, IsSomeAnd}
+use Rattle.std.proofs.Common.{◌≡◌, ◌↔◌, ⊎_elim, ℕ, ◌+◌, List, IsSomeAnd}
 use Rattle.std.proofs.Common.{IfErr, OnOk, OnErr, Option, Some, option_map, Result, Ok, Err, slice_get, sym, ◌∙◌, ap, subst, arith}
 use Rattle.std.proofs.lemmas.Bool.{cases_lt}
 use Rattle.std.proofs.lemmas.Option.{same_Some}
@@ -22,7 +22,7 @@ use Rattle.card_typing.specs.Met.{IsMetAfter, met_start}
 use Rattle.card_typing.specs.Refusal.{IsFlawKind, IsRefused, refused_flaw, refused_state}
 use Rattle.card_typing.specs.Laws.{CardIsFlow, RefusalDenies, FlawsAreTold, MetIsBelow}
 use Rattle.card_verify.specs.declared.verifier.Verifier.{Verifier}
-use Rattle.card_verify.specs.Answers.{IsAccepted, IsAcceptedAt, AreAcceptedBefore, AreAccepted, IsRefusedMethod, IsRefusedAt, TellsFlaw}
+use Rattle.card_verify.specs.Answers.{IsAcceptedAt, AreAcceptedBefore, TellsFlaw}
 use Rattle.card_typing.proofs.Quiet.{quiet-is-least}
 use Rattle.card_typing.proofs.Sound.{met-is-sound}
 use Rattle.card_verify.specs.Counted.{AreCountedUpTo}
@@ -104,42 +104,9 @@ module _ (v : Verifier) where
 
 -- ---- the methods of a world
 
-accepted-at : (w : Linked) (n : ℕ) (rec : MethodRec) (regs : List Ty) (r : Result (Unit {0}) CardFault)
-    → OnOk r (IsLeastCardTyping w (method_with w n rec) regs) → OnOk r (HasFlowTyping w (method_with w n rec) Bottom) → OnOk r (IsAccepted w n rec)
-accepted-at w n rec regs (Ok t) least flow = record { card = record { regs = regs; stacks = least.stacks; typing = least.typing }; flow = flow }
-accepted-at w n rec regs (Err fault) least flow = tt
-
-refused-at : (w : Linked) (n : ℕ) (rec : MethodRec) (regs stack : List Ty) (r : Result (Unit {0}) CardFault)
-    → OnErr r (¬ (HasCardTyping w (method_with w n rec)))
-    → IfErr r (λ (fault : CardFault). IsRefused w (method_with w n rec) fault (frame_of regs stack fault.depth))
-    → IfErr r (λ (fault : CardFault). IsRefusedMethod w n rec fault)
-refused-at w n rec regs stack (Ok t) none refused = tt
-refused-at w n rec regs stack (Err fault) none refused = record { none = none; kept = frame_of regs stack fault.depth; refused = refused }
-
 pub on-method : (w : Linked) (n : ℕ) (rec : MethodRec) (P : Method → Type 0) → slice_get w.methods n ≡ Some rec → IsSomeAnd (method_in w n) P
     → P (method_with w n rec)
 on-method w n rec P here h = subst (λ (o : Option Method). IsSomeAnd o P) (ap (option_map (method_with w n)) here) h
-
-module _ (w : Linked) (n : ℕ) (rec : MethodRec) (here : slice_get w.methods n ≡ Some rec) (r : Result (Unit {0}) CardFault) (regs stack : List Ty) where
-  pub accepted-of : IsSomeAnd (method_in w n) (λ m. OnOk r (IsLeastCardTyping w m regs))
-      → IsSomeAnd (method_in w n) (λ m. OnOk r (HasFlowTyping w m Bottom)) → OnOk r (IsAcceptedAt w n)
-  accepted-of least flow =
-      on-ok (IsAccepted w n rec) (IsAcceptedAt w n) r (λ a other is code. subst (IsAccepted w n) (same_Some _ _ (sym here ∙ is)) a)
-      (accepted-at w n rec regs r (on-method w n rec (λ m. OnOk r (IsLeastCardTyping w m regs)) here least)
-      (on-method w n rec (λ m. OnOk r (HasFlowTyping w m Bottom)) here flow))
-
-  pub refused-of : 0 < rec.code_len → IsSomeAnd (method_in w n) (λ m. OnErr r (¬ (HasCardTyping w m)))
-      → IsSomeAnd (method_in w n) (λ m. IfErr r (λ (fault : CardFault). IsRefused w m fault (frame_of regs stack fault.depth)))
-      → IfErr r (λ (fault : CardFault). IsRefusedAt w n fault)
-  refused-of code none refused =
-      by r
-      (refused-at w n rec regs stack r (on-method w n rec (λ m. OnErr r (¬ (HasCardTyping w m))) here none)
-      (on-method w n rec (λ m. IfErr r (λ (fault : CardFault). IsRefused w m fault (frame_of regs stack fault.depth))) here refused))
-    where
-      by : (s : Result (Unit {0}) CardFault) → IfErr s (λ (fault : CardFault). IsRefusedMethod w n rec fault)
-          → IfErr s (λ (fault : CardFault). IsRefusedAt w n fault)
-      by (Ok t) h = tt
-      by (Err fault) h = record { rec = rec; is = here; has_code = code; refused = h }
 
 pub accepted-bare : (w : Linked) (n : ℕ) (rec : MethodRec) → slice_get w.methods n ≡ Some rec → rec.code_len ≡ 0 → IsAcceptedAt w n
 accepted-bare w n rec here none other is code =
@@ -147,6 +114,3 @@ accepted-bare w n rec here none other is code =
 
 pub accepted-more : (w : Linked) (n : ℕ) → AreAcceptedBefore w n → IsAcceptedAt w n → AreAcceptedBefore w (n + 1)
 accepted-more w n before here k lt = ⊎_elim (λ lower. before k lower) (λ le. subst (IsAcceptedAt w) (omega (arith, le, lt)) here) (cases_lt k n)
-
-pub accepted-all : (w : Linked) (n : ℕ) → length w.methods ≤ n → AreAcceptedBefore w n → AreAccepted w
-accepted-all w n le before k lt = before k (omega (arith, lt, le))

@@ -1,5 +1,5 @@
 -- A search by halving in an ascending list.
-use Rattle.std.proofs.Common.{◌≡◌, ℕ, zero, suc, ◌+◌, ◌-◌, ◌*◌, ◌/◌, ◌^◌, ◌<◌, ◌≤◌, ⊎_elim, List, []}
+use Rattle.std.proofs.Common.{◌≡◌, ℕ, zero, suc, ◌+◌, ◌-◌, ◌*◌, ◌/◌, ◌^◌, ◌<◌, ◌≤◌, ⊎_elim, List}
 use Rattle.std.proofs.Common.{length, get_or, Option, Some, None, Contains, slice_get, sym, ap, ◌∙◌, arith}
 use Rattle.std.proofs.Math.Nat.{mul_assoc, suc-mul, pow-succ'}
 use Rattle.std.proofs.Math.Pow.{pow_mono}
@@ -35,16 +35,6 @@ pub record IsNarrowed (index : List ℕ) (place low high taken : ℕ) : Type 0 w
   pub above : (k q : ℕ) → high ≤ k → slice_get index k ≡ Some q → place < q
   pub fewer : (high - low) * 2 ^ taken ≤ length index
   pub seldom : (b : ℕ) → length index < 2 ^ b → taken ≤ b
-
-pub narrowed-first : (index : List ℕ) (place : ℕ) → IsNarrowed index place 0 (length index) 0
-narrowed-first index place = record {
-  order = omega arith;
-  inside = omega arith;
-  below = λ k q lt at. absurd (omega (arith, lt));
-  above = λ k q le at. absurd (omega (arith, le, slice_get_within index k q at));
-  fewer = omega arith;
-  seldom = λ b lt. omega arith;
-}
 
 -- with n entries left and t steps taken, one more step keeps to the number of digits
 digit : (n t len b : ℕ) → 0 < n → n * 2 ^ t ≤ len → len < 2 ^ b → t + 1 ≤ b

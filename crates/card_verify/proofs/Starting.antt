@@ -1,17 +1,13 @@
 -- The registers with which a method starts, one by one.
 use Rattle.std.proofs.Common.{◌≡◌, ℕ, zero, suc, ◌+◌, ◌-◌, ◌<◌, ◌≤◌, ⊎_elim, Bool, true, false, if◌then◌else◌, List, []}
-use Rattle.std.proofs.Common.{◌∷◌, ◌++◌, length, get_or, set, replicate, refl, sym, ◌∙◌, ap, arith, length-append}
+use Rattle.std.proofs.Common.{◌∷◌, ◌++◌, length, get_or, set, replicate, refl, sym, ◌∙◌, ap, arith}
 use Rattle.std.proofs.lemmas.Bool.{cases_eq}
 use Rattle.std.proofs.lemmas.List.{ext_get_or, get_or-set_same, get_or-set_other}
 use Rattle.jc_base.specs.declared.ty.Ty.{Ty}
 use Rattle.jc_base.specs.declared.ty.Ty.TheVariants.{Bottom, Class}
 use Rattle.jc_base.specs.declared.record.MethodRec.{MethodRec}
-use Rattle.std.proofs.lemmas.List.{length-replicate}
-use Rattle.jc_base.specs.Linked.{IsMethod, receiver_words}
-use Rattle.jc_base.specs.World.{Linked, IsWorld}
-use Rattle.jc_base.proofs.Lists.{All-slice_get}
-use Rattle.jc_control.specs.Method.{Method, IsMethodOf}
-use Rattle.jc_rules.specs.Flow.{start_frame, receiver_of}
+use Rattle.jc_base.specs.Linked.{receiver_words}
+use Rattle.jc_rules.specs.Flow.{start_frame}
 
 no-value : (k n : ℕ) → get_or (replicate k Bottom) n Bottom ≡ Bottom
 no-value zero n = refl
@@ -53,15 +49,3 @@ started-all start regs x count all so_far = ext_get_or Bottom regs start count (
 pub receiver-length : (b : Bool) (c : ℕ) → length (if b then [] else Class c ∷ []) ≡ receiver_words b
 receiver-length true c = refl
 receiver-length false c = refl
-
-pub start-length : (w : Linked) (m : Method) → IsWorld w → IsMethodOf w m → length (start_frame m.rec Bottom).regs ≡ m.rec.nargs + m.rec.max_locals
-start-length w m is mo =
-    let method = All-slice_get (IsMethod w.infos w.pools w.classes) w.methods m.number m.rec is.methods mo.rec in
-    length-append (receiver_of m.rec ++ m.rec.sig.args) (replicate m.rec.max_locals Bottom)
-    ∙ omega (
-      arith,
-      length-append (receiver_of m.rec) m.rec.sig.args,
-      length-replicate m.rec.max_locals Bottom,
-      receiver-length m.rec.is_static m.rec.class,
-      method.words,
-    )

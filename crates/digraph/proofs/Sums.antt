@@ -1,10 +1,10 @@
 -- Sums that become known.
 use Rattle.std.proofs.Common.{◌≡◌, ℕ, zero, suc, ◌+◌, ◌<◌, ◌≤◌, ◌⊎◌, inl, inr, false, List, [], ◌∷◌, ◌++◌, max, length, sym, refl, ap, ◌∙◌, subst, arith}
-use Rattle.std.specs.Prelude.{is_some, IfSome, Contains, sum, replicate, Option, Some, None, IsSomeAnd}
+use Rattle.std.specs.Prelude.{is_some, IfSome, Contains, sum, Option, Some, None, IsSomeAnd}
 use Rattle.std.proofs.Math.ListN.{set, length-set}
 use Rattle.std.proofs.lemmas.Bool.{cases_eq, cases_lt}
-use Rattle.std.proofs.lemmas.List.{get_or-replicate, get_or_past, length-replicate, get_or-set_same, get_or-set_other}
-use Rattle.std.proofs.lemmas.Option.{same_Some, none-some}
+use Rattle.std.proofs.lemmas.List.{get_or-set_same, get_or-set_other}
+use Rattle.std.proofs.lemmas.Option.{same_Some}
 use Rattle.std.proofs.lemmas.List.Elements.{Contains-push_cases, Contains-push, Contains-append_left}
 use Rattle.std.proofs.lemmas.List.Sums.{sum_by-cons}
 use Rattle.digraph.specs.Way.{Leads, by_step, by_more, Way, way_ends, way_goes, total, IsGreatest}
@@ -31,12 +31,6 @@ settled-most (Some b ∷ ks) (w ∷ ws) = let more = settled-most ks ws in omega
 
 abbrev nothing : Option ℕ
 nothing = None
-
-none-known : (n v b : ℕ) → known_at (replicate n None) v ≡ Some b → ⊥
-none-known n v b e = elim (cases_lt v n) [
-  | inl inside ↦ none-some b (sym (get_or-replicate n v nothing nothing inside) ∙ e)
-  | inr past ↦ none-some b (sym (get_or_past (replicate n nothing) v nothing (omega (arith, length-replicate n nothing))) ∙ e)
-]
 
 -- ---- one more vertex
 

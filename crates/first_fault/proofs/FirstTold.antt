@@ -4,7 +4,7 @@ use Rattle.std.specs.List.{filter_map}
 use Rattle.std.specs.Option.{option_to_list}
 use Rattle.first_fault.specs.declared.place.Place.{Place}
 use Rattle.first_fault.specs.Least.{least_of, least_from, refused, ◌>>=◌}
-use Rattle.first_fault.specs.First.{IsLeast, IsFirst, AllEmpty, TellsFirst}
+use Rattle.first_fault.specs.First.{IsLeast, IsFirst, AllEmpty}
 use Rattle.first_fault.proofs.LeastFaults.{least_in, least-at_fault, least-both, least-three, least-one, least-found, least-none}
 
 module _ {F : Type 0} (place : F → Place) where
@@ -95,8 +95,3 @@ module _ {F : Type 0} (place : F → Place) where
   none_first [] f empty first = first
   none_first (faults ∷ others) f empty (inl l) = subst (λ fs. IsLeast place fs f → ⊥) (sym empty.0) (λ k. k) l
   none_first (faults ∷ others) f empty (inr h) = none_first others f empty.1 h.1
-
-  -- an answer of the first list tells the first fault
-  pub told-first : (r : Result (Unit {0}) F) (lists : List (List F)) → IsTold r lists → TellsFirst place lists r
-  told-first (Ok x) lists t = accepted-empty lists (sym t.same)
-  told-first (Err f) lists t = refused-first lists f (sym t.same)

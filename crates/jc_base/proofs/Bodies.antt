@@ -27,9 +27,6 @@ module _ (t : ClassTable) (methods : List MethodRec) (c : ℕ) where
     pub met : (home : ℕ) → get_or seen home false ≡ true → All (HasBody methods) (visible_in t home c)
     pub rest : (home : ℕ) → get_or seen home false ≡ false → nearest_of t home c ≡ nearest_of t home at
 
-  pub Climbs-start : (seen : List Bool) → ((home : ℕ) → get_or seen home false ≡ false) → Climbs seen c
-  Climbs-start seen none = record { met = λ home h. absurd (true≢false (sym h ∙ none home)); rest = λ home h. refl }
-
   pub nearest-here : (at : ℕ) (cs : List ℕ) → chain t at ≡ at ∷ cs → nearest_of t (package_of t at) at ≡ Some at
   unfolding nearest_of
   nearest-here at cs e = rw (e, same (package_of t at)) refl
@@ -153,5 +150,3 @@ linked_by p q t methods c (Some r) le h =
 
 pub linked_more : (p q : ℕ) (t : ClassTable) (methods : List MethodRec) → p ≤ q → AreLinkedClasses p t methods → AreLinkedClasses q t methods
 linked_more p q t methods le h c = linked_by p q t methods c (slice_get t.records c) le (h c)
-
--- ---- entries of dispatch lists are numbers of methods

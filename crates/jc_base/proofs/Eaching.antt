@@ -1,5 +1,5 @@
 -- What holds of each element, and of one among them, by recursion and by position.
-use Rattle.std.proofs.Common.{inl, inr, List, [], ◌∷◌, refl, subst, arith, Contains, All, ◌++◌, ◌⊎◌}
+use Rattle.std.proofs.Common.{inl, inr, List, [], ◌∷◌, refl, subst, arith, Contains, All, ◌++◌, ◌⊎◌, map}
 use Rattle.std.proofs.lemmas.List.Elements.{All-nil, All-cons, All-head, All-tail, Contains-append_right, Contains-append_cases, Contains-push_cases}
 use Rattle.jc_base.specs.Each.{Each, IsAmong}
 
@@ -48,3 +48,7 @@ IsAmong-append_cases x (y ∷ xs) ys (inr later) = elim (IsAmong-append_cases x 
 pub Each-from_among : {X : Type 0} (P : X → Type 0) (xs : List X) → ((x : X) → IsAmong x xs → P x) → Each P xs
 Each-from_among P [] f = tt
 Each-from_among P (x ∷ xs) f = (f x (inl refl), Each-from_among P xs (λ y among. f y (inr among)))
+
+pub Each-map : {X Y : Type 0} (P : Y → Type 0) (f : X → Y) (xs : List X) → Each (λ x. P (f x)) xs → Each P (map f xs)
+Each-map P f [] a = tt {0}
+Each-map P f (x ∷ xs) a = (a.0, Each-map P f xs a.1)

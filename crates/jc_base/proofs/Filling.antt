@@ -188,13 +188,6 @@ module _ (t : ClassTable) (methods : List MethodRec) where
     pub descent_made : IfSome (parent_of t x) (IsFilled slots)
     descent_made = subst (λ (o : Option ℕ). IfSome o (IsFilled slots)) (sym next_down.1) d.climb.made
 
-    pub descent_next : (next : List (Option VisibleBodies)) → IsFilledOnce t methods slots next x → IsDescent first next c rest
-    descent_next next filled = record {
-      climb = record { above = Some x; leads = next_down.2; made = filled.filled };
-      right = filled.slots;
-      keeps = λ y h. filled.keeps y (d.keeps y h);
-    }
-
   pub descent_last : (first slots : List (Option VisibleBodies)) (c : ℕ) (path : List ℕ) → path ≡ []
       → IsDescent first slots c path → IsFilledOnce t methods first slots c
   descent_last first slots c path e d =

@@ -15,7 +15,6 @@ pub mod Dispatches
 pub mod Bodies
 pub mod CodeLengths
 pub mod Concreteness
-pub mod Widening
 pub mod Filling
 pub mod Instances
 pub mod Objects

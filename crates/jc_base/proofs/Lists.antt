@@ -1,5 +1,5 @@
 -- Reading what holds of the elements of a list at one of them.
-use Rattle.std.proofs.Common.{◌≡◌, ℕ, zero, suc, ◌+◌, ◌-◌, ◌<◌, ◌≤◌, List, [], ◌∷◌, ◌++◌, length, reverse, Option, Some}
+use Rattle.std.proofs.Common.{◌≡◌, ℕ, zero, suc, ◌+◌, ◌-◌, ◌<◌, ◌≤◌, List, [], ◌∷◌, ◌++◌, length, reverse, Option, Some, drop, take}
 use Rattle.std.proofs.Common.{None, sym, ap, subst, arith, refl, set}
 use Rattle.std.specs.Prelude.{All, IfSome, slice_get, sum_by, IsSomeAnd}
 use Rattle.jc_base.specs.declared.ty.Kind.{Kind}
@@ -88,3 +88,20 @@ one_at_least kind = omega arith
 pub statics_fit : (fs : List StaticRec) → length fs ≤ sum_by (λ f. width f.kind) fs
 statics_fit [] = omega arith
 statics_fit (f ∷ fs) = rw sum_by-cons (omega (arith, one_at_least f.kind, statics_fit fs))
+
+-- an element of what is left, or of the front
+pub slice_get-drop : {X : Type 0} (i j : ℕ) (xs : List X) → slice_get (drop i xs) j ≡ slice_get xs (i + j)
+slice_get-drop zero j xs = let e : 0 + j ≡ j = omega arith in rw e refl
+slice_get-drop (suc i) j [] = refl
+slice_get-drop (suc i) j (x ∷ xs) = let e : suc i + j ≡ suc (i + j) = omega arith in rw e (slice_get-drop i j xs)
+
+pub slice_get-take : {X : Type 0} (n j : ℕ) (xs : List X) → j < n → slice_get (take n xs) j ≡ slice_get xs j
+slice_get-take zero j xs h = absurd (omega arith)
+slice_get-take (suc n) j [] h = refl
+slice_get-take (suc n) zero (x ∷ xs) h = refl
+slice_get-take (suc n) (suc j) (x ∷ xs) h = slice_get-take n j xs (omega arith)
+
+pub slice_get-left : {X : Type 0} (xs ys : List X) (n : ℕ) → n < length xs → slice_get (xs ++ ys) n ≡ slice_get xs n
+slice_get-left [] ys n lt = absurd (omega (arith, lt))
+slice_get-left (x ∷ xs) ys zero lt = refl
+slice_get-left (x ∷ xs) ys (suc n) lt = slice_get-left xs ys n (omega (arith, lt))

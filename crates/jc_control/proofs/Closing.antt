@@ -40,10 +40,6 @@ module _ (m : Method) (law : AreListed m.code) (w : IsWellFormed m) where
   next-boundary : (i : Placed) → HasInstruction m.code i → IsBoundary m.code (i.place + i.insn.len)
   next-boundary i there = at-end (i.place + i.insn.len) (next-in (decoded m.code) 0 (listing m.code) i law.lists there)
 
-  -- where the code goes on, an instruction begins after each
-  pub place-after : (i : Placed) → HasInstruction m.code i → i.place + i.insn.len < length m.code → IsPlace m.code (i.place + i.insn.len)
-  place-after i there inside = ⊎_elim (λ end. absurd (omega (arith, end))) (λ place. place) (next-boundary i there)
-
   -- and one begins at place 0
   pub place-first : 0 < length m.code → IsPlace m.code 0
   place-first filled = ⊎_elim (λ end. absurd (omega (arith, end))) (λ place. place) (at-end 0 (first-in (decoded m.code) 0 (listing m.code) law.lists))

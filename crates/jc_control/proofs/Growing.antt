@@ -17,9 +17,6 @@ use Rattle.jc_control.proofs.Marked.{flag-here, flag-kept, flag-only}
 
 -- ---- growth
 
-pub grows-not : (s : Traversal) → Grows s s
-grows-not s = record { reached = λ p h. h; leaders = λ p h. h; fresh = λ p h. inl h; pending = λ p h. h; less = omega arith }
-
 pub grows-on : (a b c : Traversal) → Grows a b → Grows b c → Grows a c
 grows-on a b c g h = record {
   reached = λ p f. h.reached p (g.reached p f);
@@ -179,23 +176,8 @@ closed-stays m old new p reached leaders c = record {
 -- ---- a pending place is taken up
 
 module _ (m : Method) (place : ℕ) (old new : Traversal) (t : TakesUp place old new) where
-  still-pending : (p : ℕ) → IsPending new p → IsPending old p
-  still-pending p h = subst (λ (ps : List ℕ). Contains ps p) (sym t.pending) (Contains-append_left new.pending.items (place ∷ []) p h)
-
   pub taken-pending : IsPending old place
   taken-pending = subst (λ (ps : List ℕ). Contains ps place) (sym t.pending) (Contains-push new.pending.items place)
-
-  pub taken-sound : IsSoundTraversal m old → IsSoundTraversal m new
-  taken-sound s = record {
-    reached_size = ap length t.reached ∙ s.reached_size;
-    leaders_size = ap length t.leaders ∙ s.leaders_size;
-    reached = λ p h. s.reached p (ap (λ (fs : List Bool). flag fs p) (sym t.reached) ∙ h);
-    leaders = λ p h. s.leaders p (ap (λ (fs : List Bool). flag fs p) (sym t.leaders) ∙ h);
-    pending = λ p h. ap (λ (fs : List Bool). flag fs p) t.reached ∙ s.pending p (still-pending p h);
-  }
-
-  pub taken-less : work new < work old
-  taken-less = rw (t.reached, t.pending) (omega (arith, length-append new.pending.items (place ∷ [])))
 
   -- once all that follows it is found
   pub visited-closed : (after : Traversal) → Grows new after → IsClosedAt m after place → IsClosed m old → IsClosed m after

@@ -1,5 +1,5 @@
 -- Elements of lists.
-use Rattle.std.proofs.Common.{◌≡◌, ◌⊎◌, inl, inr, ℕ, zero, suc, Some, List, [], ◌∷◌, refl, ap, ◌∙◌, arith, Contains, None, drop}
+use Rattle.std.proofs.Common.{◌≡◌, ◌⊎◌, inl, inr, ℕ, zero, suc, Some, List, [], ◌∷◌, refl, ap, ◌∙◌, arith, Contains, None, drop, take, ◌++◌}
 use Rattle.std.proofs.Common.{◌+◌}
 use Rattle.std.specs.Prelude.{slice_get}
 use Rattle.std.proofs.lemmas.Option.{slice_get_within, slice_get-get_or, get_or_from_slice_get}
@@ -38,3 +38,10 @@ drop-past [] zero h = refl
 drop-past [] (suc n) h = refl
 drop-past (y ∷ ys) zero h = absurd (cc)
 drop-past (y ∷ ys) (suc n) h = drop-past ys n h
+
+pub next-take : {A : Type 0} (xs : List A) (n : ℕ) (x : A) → slice_get xs n ≡ Some x → take (n + 1) xs ≡ take n xs ++ x ∷ []
+next-take [] n x e = absurd cc
+next-take (y ∷ ys) zero x e = cc
+next-take (y ∷ ys) (suc n) x e =
+    let k : suc n + 1 ≡ suc (n + 1) = omega arith in
+    rw k (ap (λ zs. y ∷ zs) (next-take ys n x e))

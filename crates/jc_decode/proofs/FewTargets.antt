@@ -21,7 +21,7 @@ module _ (code : List ℕ) (at : ℕ) (i : Insn) (d : decoded code at ≡ Ok i) 
   has_table : HasTable code at i
   has_table = λ switch. rw d refl
 
-  cases-few : length (cases code at i) ≤ length code
+  pub cases-few : length (cases code at i) ≤ length code
   cases-few = by_cases b.layout.cases refl
     where
       b : Begins code at i

@@ -2,11 +2,14 @@
 use Rattle.std.proofs.Common.{◌≡◌, ◌∙◌, ◌<◌, ◌≤◌, ◌+◌, ◌-◌, ◌/◌, ◌%◌, ℕ, zero, suc, Bool, true, false, cond, Result, Ok}
 use Rattle.std.proofs.Common.{Err, refl, sym, ap, arith}
 use Rattle.std.specs.Prelude.{ℤ, pos, unsigned_abs, not, ◌&&◌, ◌||◌, ◌==◌, nat_le, map, replicate}
+use Rattle.std.proofs.Common.{subst}
+use Rattle.std.proofs.Common.{rules}
+use Rattle.std.specs.Prelude.{negsuc}
 use Rattle.std.specs.List.{range_with_len}
 use Rattle.std.proofs.lemmas.Bool.{eqb-true, not-true, or_parts, and_parts}
 use Rattle.std.proofs.lemmas.Bool.Decides.{nat_tests}
 use Rattle.jc_decode.specs.declared.layout.Operand.{Operand}
-use Rattle.jc_decode.specs.declared.layout.Operand.TheVariants.{Absent, U1, U2, S1, S2, S4, DupWords, SwapWords, ArrayType, TestedType}
+use Rattle.jc_decode.specs.declared.layout.Operand.TheVariants.{Absent, U1}
 use Rattle.jc_decode.specs.declared.layout.Layout.{Layout}
 use Rattle.jc_decode.specs.declared.insn.Insn.{Insn}
 use Rattle.jc_decode.specs.declared.insn.CodeEnd.{CodeEnd}
@@ -18,35 +21,24 @@ use Rattle.jc_decode.proofs.Passed.{passed-at, or-rest}
 
 abbrev pub is_absent : Operand → Bool
 is_absent Absent = true
-is_absent U1 = false
-is_absent U2 = false
-is_absent S1 = false
-is_absent S2 = false
-is_absent S4 = false
-is_absent DupWords = false
-is_absent SwapWords = false
-is_absent ArrayType = false
-is_absent TestedType = false
+is_absent _ = false
 
-abbrev is_byte : Operand → Bool
+abbrev pub is_byte : Operand → Bool
 is_byte U1 = true
-is_byte Absent = false
-is_byte U2 = false
-is_byte S1 = false
-is_byte S2 = false
-is_byte S4 = false
-is_byte DupWords = false
-is_byte SwapWords = false
-is_byte ArrayType = false
-is_byte TestedType = false
+is_byte _ = false
 
 abbrev has_none : Result Layout CodeEnd → Bool
 has_none (Ok l) = is_absent l.x && (is_absent l.y && is_absent l.z)
 has_none (Err e) = false
 
-abbrev has_byte : Result Layout CodeEnd → Bool
+abbrev pub has_byte : Result Layout CodeEnd → Bool
 has_byte (Ok l) = is_byte l.x && (is_absent l.y && is_absent l.z)
 has_byte (Err e) = false
+
+-- the first operand is a byte
+abbrev pub first_byte : Result Layout CodeEnd → Bool
+first_byte (Ok l) = is_byte l.x
+first_byte (Err e) = false
 
 -- opcode by opcode: a load or store with its register in the opcode has no operand, one with an operand has a byte
 abbrev is_moved : ℕ → Bool
@@ -63,6 +55,14 @@ is_named-all : map is_named (range_with_len 0 256) ≡ replicate 256 true
 unfolding layout_of opcode
 is_named-all = refl
 
+pub absent-one : (o : Operand) → is_absent o ≡ true → o ≡ Absent
+absent-one Absent h = refl
+absent-one _ h = absurd (cc)
+
+pub byte-one : (o : Operand) → is_byte o ≡ true → o ≡ U1
+byte-one U1 h = refl
+byte-one _ h = absurd (cc)
+
 absent-is : (o : Operand) (v : ℤ) → is_absent o ≡ true → Allows o v → v ≡ pos 0
 absent-is x v h a = grind (arith)
 
@@ -71,6 +71,18 @@ absent-allows x h = grind (arith)
 
 byte-is : (o : Operand) (v : ℤ) → is_byte o ≡ true → Allows o v → pos (unsigned_abs v) ≡ v
 byte-is x v h a = grind (arith)
+
+pub byte-allows : (o : Operand) (r : ℕ) → is_byte o ≡ true → r < 256 → Allows o (pos r)
+byte-allows U1 r h lt = (lt, refl)
+byte-allows _ r h lt = absurd (cc)
+
+-- another register in the first operand
+pub other-register : (i : Insn) (r : ℕ) → first_byte (layout_of i.op) ≡ true → r < 256 → IsAllowed i → IsAllowed (record i { x = pos r })
+other-register i r e lt a = by (layout_of i.op) e a
+  where
+    by : (l : Result Layout CodeEnd) → first_byte l ≡ true → AllowsBy i l → AllowsBy (record i { x = pos r }) l
+    by (Ok l) e a = (byte-allows l.x r e lt, a.1, a.2)
+    by (Err f) e a = absurd (cc)
 
 -- the operands of a load or store of a register
 record IsNamed (i : Insn) : Type 0 where

@@ -30,7 +30,7 @@ use Rattle.jc_decode.proofs.Rising.{KeysRise-Begins}
 fits-small : (n : ℕ) → n < 65536 → FitsSigned w32 (pos n)
 fits-small n h = fits_signed_from_abs w32 (pos n) (omega (arith, h))
 
-fits-wide : (o : Operand) (v : ℤ) → FitsOperand o v → FitsSigned w32 v
+pub fits-wide : (o : Operand) (v : ℤ) → FitsOperand o v → FitsSigned w32 v
 fits-wide x v h = grind (arith, fits-small, sfits_widen)
 
 fits-read : (o : Operand) (r : Result ℤ CodeEnd) → ((v : ℤ) → r ≡ Ok v → FitsOperand o v) → FitsSigned w32 (result_unwrap_or r (pos 0))
@@ -55,9 +55,6 @@ pub record IsNarrowed (key_of : ℕ → ℤ) (count : ℕ) (key : ℤ) (low high
   pub inside : high ≤ count
   pub below : (n : ℕ) → n < low → key_of n <ℤ key
   pub above : (n : ℕ) → high ≤ n → n < count → key <ℤ key_of n
-
-pub narrowed-first : (key_of : ℕ → ℤ) (count : ℕ) (key : ℤ) → IsNarrowed key_of count key 0 count
-narrowed-first key_of count key = grind (arith)
 
 module _ (key_of : ℕ → ℤ) (count : ℕ) (up : (n : ℕ) → n + 1 < count → key_of n <ℤ key_of (n + 1)) (key : ℤ) (low high middle : ℕ)
     (so_far : IsNarrowed key_of count key low high) (some : low < high) (half : middle ≡ low + (high - low) / 2) where
@@ -89,10 +86,6 @@ module _ (key_of : ℕ → ℤ) (count : ℕ) (up : (n : ℕ) → n + 1 < count 
         subst (λ (m : ℕ). key_of middle ≤ℤ key_of m) e (rises-on key_of count up (n - middle) middle (rw e lt)) in
         omega (arith, ints, more, more_yet);
   }
-
-pub narrowed-none : (key_of : ℕ → ℤ) (count : ℕ) (key : ℤ) (low high : ℕ) → IsNarrowed key_of count key low high → high ≤ low
-    → (n : ℕ) → n < count → (key_of n <ℤ key) ⊎ (key <ℤ key_of n)
-narrowed-none key_of count key low high so_far over n lt = grind (arith, cases_lt)
 
 -- ---- the first case with a key
 

@@ -43,9 +43,6 @@ ascii_from (b ∷ bs) e = let parts = split (nat_lt b 128) _ e in IsAscii-cons b
 pub IsAscii-table : IsAscii NAMES.now
 IsAscii-table = ascii_from NAMES.now refl
 
-pub length-table : length NAMES.now ≡ 2960
-length-table = refl
-
 narrow_all : map (λ op. nat_le (width op) 16) (range_with_len 0 185) ≡ replicate 185 true
 unfolding names
 narrow_all = refl

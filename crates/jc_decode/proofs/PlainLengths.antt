@@ -1,16 +1,22 @@
 -- The plain size of code and its length.
-use Rattle.std.proofs.Common.{◌≡◌, ◌≤◌, ◌<◌, ◌+◌, ◌-◌, ◌*◌, ℕ, Bool, true, false, cond, Ok, List, [], ◌∷◌, length, ap}
+use Rattle.std.proofs.Common.{◌≡◌, ◌≤◌, ◌<◌, ◌+◌, ◌-◌, ◌*◌, ℕ, Bool, true, false, cond, Ok, List, [], ◌∷◌, length, ap, if◌then◌else◌, Result, Err}
 use Rattle.std.proofs.Common.{◌∙◌, arith}
 use Rattle.jc_decode.specs.declared.insn.Insn.{Insn}
 use Rattle.jc_decode.specs.declared.insn.Placed.{Placed}
 use Rattle.jc_decode.specs.Decoding.{decoded}
-use Rattle.jc_decode.specs.Forms.{is_register_move, length_of, plain_length}
+use Rattle.jc_decode.specs.Forms.{is_register_move, length_of, plain_length, bytes_by}
 use Rattle.jc_decode.specs.Laws.{AreListed}
 use Rattle.jc_decode.specs.Listing.{is_branch, listing, listing_end, end_from, Lists}
 use Rattle.jc_decode.proofs.Decoded.{IsWithin-decoded}
 use Rattle.jc_decode.proofs.Shorter.{length-plain}
 use Rattle.jc_decode.proofs.Sized.{length-decoded}
 use Rattle.jc_decode.specs.CodeSize.{plain_sum, plain_code_size}
+use Rattle.jc_decode.specs.declared.layout.Layout.{Layout}
+use Rattle.jc_decode.specs.declared.layout.Operand.{Operand}
+use Rattle.jc_decode.specs.declared.layout.Operand.TheVariants.{U2, S2, S4}
+use Rattle.jc_decode.specs.declared.insn.CodeEnd.{CodeEnd}
+use Rattle.jc_decode.specs.Layout.{layout_of, operand_width}
+use Rattle.jc_decode.specs.Cases.{is_switch}
 
 plain_least : (code : List ℕ) (at : ℕ) (i : Insn) → decoded code at ≡ Ok i → i.len ≤ plain_length i
 plain_least code at i e = omega (arith, length-plain i, length-decoded code at i e)
@@ -54,3 +60,25 @@ pub plain_is : (code : List ℕ) (sum end : ℕ) → sum ≡ plain_sum (listing 
     → sum + (length code - end) ≡ plain_code_size code
 unfolding plain_code_size
 plain_is code sum end a b = ap (λ n. n + (length code - end)) a ∙ ap (λ n. plain_sum (listing code) + (length code - n)) b
+
+operand-width : (o : Operand) → operand_width o ≤ 4
+operand-width S4 = omega arith
+operand-width U2 = omega arith
+operand-width S2 = omega arith
+operand-width o = omega arith
+
+pub own-length : (i : Insn) → length_of i ≤ i.len + 13
+own-length i = by (is_switch i.op) (layout_of i.op)
+  where
+    by : (b : Bool) (l : Result Layout CodeEnd) → (if b then i.len else bytes_by l) ≤ i.len + 13
+    by true l = omega arith
+    by false (Ok l) = omega (arith, operand-width l.x, operand-width l.y, operand-width l.z)
+    by false (Err e) = omega arith
+
+pub plain-length : (i : Insn) → plain_length i ≤ i.len + 13
+plain-length i = by (is_register_move i.op) (is_branch i.op)
+  where
+    by : (a b : Bool) → (if a then 2 else if b then 3 else length_of i) ≤ i.len + 13
+    by true b = omega arith
+    by false true = omega arith
+    by false false = own-length i

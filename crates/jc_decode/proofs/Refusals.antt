@@ -111,7 +111,7 @@ plain-at op h =
     ∙ ap (λ (bs : List Bool). get_or bs op false) plain-all ∙ get_or-replicate 256 op true false h
 
 -- an opcode that stands in the code is a byte
-op-fits : (xs : List ℕ) (at op : ℕ) → AreBytes xs → number_at 1 at xs ≡ Some op → op < 256
+pub op-fits : (xs : List ℕ) (at op : ℕ) → AreBytes xs → number_at 1 at xs ≡ Some op → op < 256
 op-fits xs at op bytes h = number_of-fits U1 xs at op bytes h
 
 is-unused : (o : Opcode) → is_unused o ≡ true → o ≡ Unused

@@ -1,5 +1,5 @@
 -- The table of a switch that is decoded, and the cases in it.
-use Rattle.std.proofs.Common.{subst, ◌≡◌, ◌≤◌, ◌<◌, ◌+◌, ◌*◌, ◌-◌, ℕ, zero, suc, Bool, true, false, cond, Some, None, Result, Ok}
+use Rattle.std.proofs.Common.{subst, ◌≡◌, ◌≤◌, ◌<◌, ◌+◌, ◌*◌, ◌-◌, ℕ, zero, suc, Bool, true, false, cond, Some, None, Result, Ok, []}
 use Rattle.std.proofs.Common.{Err, List, length, refl, sym, ap, ◌∙◌, arith, rules}
 use Rattle.std.specs.Prelude.{◌-ℤ◌, FitsSigned, ℤ, ◌≤ℤ◌, unsigned_abs, int_lt, map, slice_get, IsTrue}
 use Rattle.std.specs.List.{range_with_len}
@@ -10,12 +10,12 @@ use Rattle.std.proofs.lemmas.List.FromFn.{length-map-range_with_len}
 use Rattle.jc_decode.specs.declared.layout.Operand.{Operand}
 use Rattle.jc_decode.specs.declared.layout.Layout.{Layout}
 use Rattle.jc_decode.specs.declared.layout.Cases.{Cases}
-use Rattle.jc_decode.specs.declared.layout.Cases.TheVariants.{Range, Pairs}
+use Rattle.jc_decode.specs.declared.layout.Cases.TheVariants.{Absent as NoCases, Range, Pairs}
 use Rattle.jc_decode.specs.declared.insn.CodeEnd.{CodeEnd}
 use Rattle.jc_decode.specs.declared.insn.Insn.{Insn}
 use Rattle.jc_decode.specs.Layout.{operand_width, total_width, layout_of}
 use Rattle.jc_decode.specs.Decoding.{decoded, table_end, range_end, range_count, pairs_end, pair_width, bad_operand, within_bytes}
-use Rattle.jc_decode.specs.Cases.{cases, cases_in, range_case, pair_case, is_switch, is_table, has_cases, with_default, HasTable}
+use Rattle.jc_decode.specs.Cases.{cases, cases_in, range_case, pair_case, is_switch, is_table, has_cases, with_default, HasTable, cases_by}
 use Rattle.jc_decode.proofs.Decoded.{Begins-decoded, ok-same, range_end-ok, pairs_end-ok, table_end-ok}
 
 -- the n-th of the numbers below k
@@ -127,3 +127,17 @@ pub case-past-pairs : (xs : List ℕ) (at : ℕ) (i : Insn) (l : Layout) (key : 
     → unsigned_abs i.y ≤ n → None ≡ slice_get (cases xs at i) n
 case-past-pairs xs at i l key n is_layout is_pairs h =
     rw (cases-by xs at i l (Pairs key) is_layout is_pairs) (sym (slice_get-past-range _ (unsigned_abs i.y) n h))
+
+-- what is no switch has no cases
+pub no-cases : (xs : List ℕ) (at : ℕ) (i : Insn) → is_switch i.op ≡ false → cases xs at i ≡ []
+unfolding cases
+no-cases xs at i h = by_layout (layout_of i.op) h
+  where
+    by_cases : (k : Cases) → is_table k ≡ false → (table : ℕ) → cases_in k xs table i ≡ []
+    by_cases NoCases h table = refl
+    by_cases Range h table = absurd (cc)
+    by_cases (Pairs key) h table = absurd (cc)
+
+    by_layout : (r : Result Layout CodeEnd) → has_cases r ≡ false → cases_by r xs at i ≡ []
+    by_layout (Ok l) h = by_cases l.cases h (at + 1 + total_width l)
+    by_layout (Err e) h = refl

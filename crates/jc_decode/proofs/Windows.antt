@@ -4,12 +4,13 @@ use Rattle.std.proofs.Common.{arith}
 use Rattle.std.specs.Prelude.{map}
 use Rattle.std.specs.List.{find, range_with_len}
 use Rattle.std.proofs.lemmas.List.{get_or-drop}
-use Rattle.byteorder.specs.Endian.{big_from, big_number}
+use Rattle.byteorder.specs.Endian.{big_number}
 use Rattle.cap_bytes.specs.Number.{number_at}
 use Rattle.jc_decode.specs.declared.layout.Operand.{Operand}
 use Rattle.jc_decode.specs.declared.layout.Operand.TheVariants.{Absent, U1, U2, S1, S2, S4, DupWords, SwapWords, ArrayType, TestedType}
 use Rattle.jc_decode.specs.Layout.{operand_width}
 use Rattle.jc_decode.specs.Decoding.{operand_number, operand_at}
+use Rattle.cap_bytes.proofs.Same.{big_same}
 
 -- so many bytes from a place of one list are those from a place of another, and both lists reach so far
 pub record Alike (xs : List ℕ) (t : ℕ) (ys : List ℕ) (u m : ℕ) : Type 0 where
@@ -27,21 +28,15 @@ Alike-part xs t ys u m a n w inside = record {
   right = let h = w.right in omega arith;
 }
 
--- a number is read from its bytes alone
-big_from-alike : (n i : ℕ) (xs ys : List ℕ) → ((k : ℕ) → k < n → slice_index xs (i + k) ≡ slice_index ys (i + k))
-    → big_from i n xs ≡ big_from i n ys
-big_from-alike zero i xs ys same = refl
-big_from-alike (suc n) i xs ys same =
-    let z : i + 0 ≡ i = omega arith in
-    let first : slice_index xs i ≡ slice_index ys i = rw z at (same 0 (omega arith)) in
-    let rest = big_from-alike n (suc i) xs ys (λ k h. let e : suc i + k ≡ i + suc k = omega arith in rw e (same (suc k) (omega arith))) in
-    rw (first, rest) refl
-
 pub number_at-reached : (w at : ℕ) (xs : List ℕ) → at + w ≤ length xs → number_at w at xs ≡ Some (big_number w (drop at xs))
 number_at-reached w at xs h = grind arith
 
 pub number_at-alike : (w t u : ℕ) (xs ys : List ℕ) → Alike xs t ys u w → number_at w t xs ≡ number_at w u ys
-number_at-alike w t u xs ys a = grind (arith, big_from-alike, get_or-drop, number_at-reached)
+number_at-alike w t u xs ys a =
+    let same = big_same w 0 (drop t xs) (drop u ys) (λ k h.
+    let z : 0 + k ≡ k = omega arith in
+    rw z (get_or-drop t xs k 0 ∙ a.bytes k h ∙ sym (get_or-drop u ys k 0))) in
+    number_at-reached w t xs a.left ∙ ap Some same ∙ sym (number_at-reached w u ys a.right)
 
 number_of-alike : (o : Operand) (t u : ℕ) (xs ys : List ℕ) → Alike xs t ys u (operand_width o) → operand_number o xs t ≡ operand_number o ys u
 number_of-alike Absent t u xs ys a = refl

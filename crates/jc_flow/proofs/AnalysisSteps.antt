@@ -1,5 +1,5 @@
 -- An analysis from visit to visit, and its end.
-use Rattle.std.proofs.Common.{◌≡◌, ℕ, ◌+◌, ◌<◌, Option, Some, None, IsSome, IfSome, length, refl, subst, sym, arith}
+use Rattle.std.proofs.Common.{◌≡◌, ℕ, ◌+◌, Option, Some, None, IsSome, IfSome, length, refl, subst, sym}
 use Rattle.jc_base.specs.declared.ty.Ty.TheVariants.{Top}
 use Rattle.jc_base.specs.World.{Linked}
 use Rattle.jc_rules.specs.FlowLaws.{AreRules, IsOrderOfCells}
@@ -8,10 +8,10 @@ use Rattle.jc_control.specs.Method.{Method, IsMethodOf}
 use Rattle.jc_control.specs.WellFormed.{IsWellFormed}
 use Rattle.jc_rules.specs.Flow.{At, FrameBelow, start_frame, IsDerived, IsLeastTyping}
 use Rattle.jc_rules.specs.Typing.{state_at}
-use Rattle.jc_flow.specs.Found.{Found, IsPending, NonePending, taken_up}
-use Rattle.jc_flow.specs.Progress.{AreHeld, AreClosed, most_rises, work}
+use Rattle.jc_flow.specs.Found.{Found, NonePending, taken_up}
+use Rattle.jc_flow.specs.Progress.{AreHeld, AreClosed, most_rises}
 use Rattle.jc_flow.proofs.Derived.{derived-fine}
-use Rattle.jc_flow.proofs.Growth.{visited, at-grown, taken-less}
+use Rattle.jc_flow.proofs.Growth.{visited, at-grown}
 use Rattle.jc_flow.proofs.Settled.{settled-least, reached-found, found-reached}
 use Rattle.jc_flow.specs.Infer.{AreReached, HaveRegisters, AreDerived, HaveKnownTypes}
 use Rattle.jc_flow.specs.Visit.{IsVisited}
@@ -24,9 +24,6 @@ module _ (w : Linked) (order : IsOrderOfCells w.classes) (m : Method) (p : ℕ) 
   pub still-started : At (state_at old.states) 0 (FrameBelow w.classes (start_frame m.rec Top))
       → At (state_at new.states) 0 (FrameBelow w.classes (start_frame m.rec Top))
   still-started start = at-grown w.classes order (most_rises w.classes m) (taken_up old p) new (start_frame m.rec Top) v.goes.grown 0 start
-
-  pub still-less : IsPending old p → work w.classes (most_rises w.classes m) new < work w.classes (most_rises w.classes m) old
-  still-less waits = let less = taken-less w.classes order (most_rises w.classes m) old p waits in omega (arith, v.goes.grown.less)
 
 pub least-found : (w : Linked) → AreRules w → (m : Method) → IsMethodOf w m → IsWellFormed m → (found end : Found) → end ≡ found
     → AreHeld w m found → AreClosed w m found → NonePending found

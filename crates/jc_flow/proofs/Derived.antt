@@ -1,33 +1,28 @@
 -- What holds of each derived frame, and that each flow typing is above it.
-use Rattle.std.proofs.Common.{◌≡◌, ℕ, ◌+◌, ◌<◌, Bool, true, false, if◌then◌else◌, [], ◌∷◌, ◌++◌, length, replicate, All, Option}
-use Rattle.std.proofs.Common.{Some, None, IsSomeAnd, refl, ◌∙◌, ap, subst, arith, length-append, length-take}
+use Rattle.std.proofs.Common.{◌≡◌, ℕ, ◌+◌, [], ◌∷◌, length, All, Option}
+use Rattle.std.proofs.Common.{Some, None, IsSomeAnd, refl, ◌∙◌, subst, arith}
 use Rattle.std.specs.List.{Contains}
-use Rattle.std.proofs.lemmas.List.{length-replicate}
-use Rattle.std.proofs.lemmas.List.Elements.{All-append, All-contains, All-nil, All-cons, All-replicate}
-use Rattle.std.proofs.lemmas.Bool.{or_parts}
-use Rattle.jc_base.specs.declared.ty.Ty.{Ty}
+use Rattle.std.proofs.lemmas.List.Elements.{All-contains, All-nil, All-cons}
 use Rattle.jc_base.specs.declared.ty.Ty.TheVariants.{Class, Top}
 use Rattle.jc_base.specs.declared.record.Handler.{Handler}
-use Rattle.jc_base.specs.Class.{IsClass, is_interface}
-use Rattle.jc_base.specs.Cell.{IsDeclared}
 use Rattle.jc_base.specs.Order.{IsKnown}
-use Rattle.jc_base.specs.Linked.{IsMethod, IsHandler, list_at, lacks_code, receiver_words}
+use Rattle.jc_base.specs.Linked.{IsMethod, IsHandler, list_at}
 use Rattle.jc_base.specs.World.{Linked}
 use Rattle.jc_rules.specs.FlowLaws.{AreRules}
 use Rattle.jc_base.proofs.Lists.{All-slice_get}
-use Rattle.jc_base.proofs.CodeLengths.{has_code}
 use Rattle.jc_decode.specs.declared.insn.Placed.{Placed}
 use Rattle.jc_rules.specs.declared.effect.Mode.TheVariants.{Flow}
 use Rattle.jc_rules.specs.Demand.{Frame, AreKnown}
 use Rattle.jc_control.specs.Method.{Method, IsMethodOf}
 use Rattle.jc_control.specs.WellFormed.{HasInstruction}
 use Rattle.jc_control.specs.Control.{IsReached, begins, follows, caught}
-use Rattle.jc_rules.specs.Flow.{IsFit, FrameBelow, At, Merges, FlowSteps, start_frame, caught_frame, receiver_of, IsNotFresh, IsDerived, derived_start}
+use Rattle.jc_rules.specs.Flow.{IsFit, FrameBelow, At, Merges, FlowSteps, start_frame, caught_frame, IsNotFresh, IsDerived, derived_start}
 use Rattle.jc_rules.specs.Flow.{derived_caught, derived_next, derived_joined, FlowTyping, IsFollowed}
 use Rattle.jc_rules.specs.Laws.{IsNotBottom, Keeps, FallsTo}
 use Rattle.jc_rules.proofs.Types.{declared-not_fresh}
-use Rattle.jc_flow.proofs.Steps.{site_of, at-site}
+use Rattle.jc_rules.proofs.Sites.{site_of, at-site}
 use Rattle.jc_flow.proofs.Frames.{frame-trans, join-least, join-length, join-all, full-join}
+use Rattle.jc_rules.proofs.Starts.{own-class, start-all, start-counted}
 
 -- ---- elements
 
@@ -56,15 +51,6 @@ module _ (w : Linked) (is : AreRules w) (m : Method) (mo : IsMethodOf w m) where
   pub handler_of : (h : Handler) → Contains m.rec.handlers h → IsHandler w.classes (list_at w.pools m.rec.package) m.rec.code_len h
   handler_of h c = All-contains (IsHandler w.classes (list_at w.pools m.rec.package) m.rec.code_len) m.rec.handlers h of_world.handlers c
 
-  own_class : IsClass w.classes m.rec.class
-  own_class =
-      let size : length m.code ≡ _ = ap length mo.code ∙ length-take m.rec.code_len _ in
-      let filled : 0 < m.rec.code_len = omega (arith, mo.filled) in
-      record {
-        number = of_world.class;
-        class = (or_parts m.rec.is_abstract (is_interface w.classes m.rec.class) (has_code (lacks_code w.classes m.rec) m.rec.code_len of_world.code filled)).1;
-      }
-
   -- ---- the frame of a derived state
 
   pub record IsFine (f : Frame) : Type 0 where
@@ -73,42 +59,16 @@ module _ (w : Linked) (is : AreRules w) (m : Method) (mo : IsMethodOf w m) where
     pub no_fresh : All IsNotFresh f.regs
     pub no_bottom : All IsNotBottom f.stack
 
-  module _ (P : Ty → Type 0) (class : P (Class m.rec.class)) (declared : (ty : Ty) → IsDeclared w.classes ty → P ty) (top : P Top) where
-    receiver-all : (b : Bool) → All P (if b then [] else Class m.rec.class ∷ [])
-    receiver-all true = All-nil P
-    receiver-all false = All-cons P (Class m.rec.class) [] class (All-nil P)
-
-    start-all : All P (start_frame m.rec Top).regs
-    start-all =
-        All-append P (receiver_of m.rec ++ m.rec.sig.args) (replicate m.rec.max_locals Top)
-        (All-append P (receiver_of m.rec) m.rec.sig.args (receiver-all m.rec.is_static) (λ k d lt. declared _ (of_world.arguments k d lt)))
-        (All-replicate P m.rec.max_locals Top top)
-
-  receiver-length : (b : Bool) → length (if b then [] else Class m.rec.class ∷ []) ≡ receiver_words b
-  receiver-length true = refl
-  receiver-length false = refl
-
-  start-length : length (start_frame m.rec Top).regs ≡ m.rec.nargs + m.rec.max_locals
-  start-length =
-      length-append (receiver_of m.rec ++ m.rec.sig.args) (replicate m.rec.max_locals Top)
-      ∙ omega (
-        arith,
-        length-append (receiver_of m.rec) m.rec.sig.args,
-        length-replicate m.rec.max_locals Top,
-        receiver-length m.rec.is_static,
-        of_world.words,
-      )
-
   pub start-fine : IsFine (start_frame m.rec Top)
   start-fine = record {
     known = record {
-      few = omega (arith, start-length, of_world.registers);
-      regs = start-all (IsKnown w.classes) own_class is.declared tt;
+      few = omega (arith, start-counted w is.world m mo Top, of_world.registers);
+      regs = start-all w is.world m mo Top (IsKnown w.classes) (own-class w is.world m mo) is.declared tt;
       stack = All-nil (IsKnown w.classes);
       object = is.world.chains.objects;
     };
-    count = start-length;
-    no_fresh = start-all IsNotFresh tt (declared-not_fresh w.classes) tt;
+    count = start-counted w is.world m mo Top;
+    no_fresh = start-all w is.world m mo Top IsNotFresh tt (declared-not_fresh w.classes) tt;
     no_bottom = All-nil IsNotBottom;
   }
 

@@ -10,6 +10,7 @@ use Rattle.jc_rules.specs.Demand.{Frame}
 use Rattle.jc_rules.specs.Flow.{CellsBelow, no_cells, more_cells, FrameBelow, CellsJoin, none_joined, more_joined, IsNotFresh, IsNotTop}
 use Rattle.jc_rules.specs.Laws.{IsNotBottom}
 use Rattle.jc_rules.specs.FlowLaws.{IsOrderOfCells}
+use Rattle.jc_rules.proofs.Keeps.{full-below}
 
 -- neither an uninitialised object nor Top
 abbrev pub IsReady : Ty → Type 0
@@ -57,40 +58,8 @@ module _ (t : ClassTable) where
   module _ (are : IsOrderOfTypes t) where
     -- ---- Bottom, Top and uninitialised objects
 
-    under_bottom : (a : Ty) → is_below t a Bottom ≡ true → IsNotBottom a → ⊥
-    unfolding is_below
-    under_bottom Bottom e n = n
-    under_bottom Short e n = absurd (cc)
-    under_bottom IntHigh e n = absurd (cc)
-    under_bottom IntLow e n = absurd (cc)
-    under_bottom Null e n = absurd (cc)
-    under_bottom (Class c) e n = absurd (cc)
-    under_bottom ArrBool e n = absurd (cc)
-    under_bottom ArrByte e n = absurd (cc)
-    under_bottom ArrShort e n = absurd (cc)
-    under_bottom ArrInt e n = absurd (cc)
-    under_bottom (ArrRef c) e n = absurd (cc)
-    under_bottom (Fresh p c) e n = absurd (cc)
-    under_bottom Top e n = absurd (cc)
-
-    -- what is above a type that is not Bottom is not Bottom
-    pub full-rises : (a b : Ty) → Below t a b → IsNotBottom a → IsNotBottom b
-    full-rises a Bottom h n = under_bottom a ((are.decided a Bottom).1 h) n
-    full-rises a Short h n = tt
-    full-rises a IntHigh h n = tt
-    full-rises a IntLow h n = tt
-    full-rises a Null h n = tt
-    full-rises a (Class c) h n = tt
-    full-rises a ArrBool h n = tt
-    full-rises a ArrByte h n = tt
-    full-rises a ArrShort h n = tt
-    full-rises a ArrInt h n = tt
-    full-rises a (ArrRef c) h n = tt
-    full-rises a (Fresh p c) h n = tt
-    full-rises a Top h n = tt
-
     pub full-join : (a b j : Ty) → IsNotBottom a → IsNotBottom b → IsJoin t a b j → IsNotBottom j
-    full-join a b j p q is = full-rises a j is.left p
+    full-join a b j p q is = full-below t are a j is.left p
 
     over_top : (b : Ty) → is_below t Top b ≡ true → IsNotTop b → ⊥
     unfolding is_below

@@ -16,16 +16,7 @@ use Rattle.jc_flow.specs.Progress.{IsHeld, AreHeld, IsClosed, AreClosed, rises_t
 use Rattle.jc_flow.proofs.Frames.{frame-same, frame-trans, join-left, join-right, join-length, join-all}
 use Rattle.jc_flow.proofs.Landing.{state_at-read}
 use Rattle.jc_flow.proofs.Derived.{some_to, some_map}
-
-pub same_or_not : (p q : ℕ) → (q ≡ p) ⊎ (q ≢ p)
-same_or_not zero zero = inl refl
-same_or_not zero (suc q) = inr (λ e. absurd (omega arith))
-same_or_not (suc p) zero = inr (λ e. absurd (omega arith))
-same_or_not (suc p) (suc q) = next (same_or_not p q)
-  where
-    next : (q ≡ p) ⊎ (q ≢ p) → (suc q ≡ suc p) ⊎ (suc q ≢ suc p)
-    next (inl e) = inl (ap suc e)
-    next (inr n) = inr (λ e. n (omega arith))
+use Rattle.jc_base.proofs.Bodies.{dec_eq}
 
 -- ---- the states and flags of a table
 
@@ -56,7 +47,7 @@ pub pending-here : (found : Found) (p : ℕ) (f : Frame) → p < length found.pe
 pending-here found p f lt = get_or-set_same found.pending p true false lt
 
 pub pending-kept : (found : Found) (p q : ℕ) (f : Frame) → IsPending found q → IsPending (with_state found p f) q
-pending-kept found p q f h = elim (same_or_not p q) [
+pending-kept found p q f h = elim (dec_eq q p) [
   | inl e ↦ subst (IsPending (with_state found p f)) (sym e) (pending-here found p f (subst (λ x. x < length found.pending) e (pending-inside found q h)))
   | inr n ↦ get_or-set_other found.pending p q true false n ∙ h
 ]
@@ -100,10 +91,6 @@ module _ (t : ClassTable) (order : IsOrderOfCells t) (most : ℕ) where
       onward p (inl d) (inl e) = inl (e ∙ d)
       onward p (inr k) (inl e) = inr (h.keeps p k)
 
-  one-most : (b : Bool) → one_if b ≤ 1
-  one-most true = omega arith
-  one-most false = omega arith
-
   -- a greater frame is set at a place
   module _ (old : Found) (place : ℕ) (j : Frame) (inside : place < length old.states) (flag : place < length old.pending) where
     set-work : (o : Option Frame) → state_at old.states place ≡ o → rises_of t j < rises_there t most o
@@ -118,12 +105,12 @@ module _ (t : ClassTable) (order : IsOrderOfCells t) (most : ℕ) where
     pub set-grown : (o : Option Frame) → state_at old.states place ≡ o → rises_of t j < rises_there t most o
         → ((g : Frame) → o ≡ Some g → FrameBelow t g j) → Grown t most old (with_state old place j)
     set-grown o e lt below = record {
-      above = λ p f h. elim (same_or_not place p) [
+      above = λ p f h. elim (dec_eq p place) [
         | inl here ↦ subst (λ q. At (state_at (with_state old place j).states) q (FrameBelow t f)) (sym here)
             (IsSomeAnd-from (FrameBelow t f) _ _ (state_at-here old.states place j inside) (below f (sym e ∙ ap (state_at old.states) (sym here) ∙ h)))
         | inr n ↦ IsSomeAnd-from (FrameBelow t f) _ _ (state_at-other old.states place p j n ∙ h) (frame-same t order f)
       ];
-      stays = λ p. elim (same_or_not place p) [
+      stays = λ p. elim (dec_eq p place) [
         | inl here ↦ inr (subst (IsPending (with_state old place j)) (sym here) (pending-here old place j flag))
         | inr n ↦ inl (state_at-other old.states place p j n)
       ];
@@ -160,14 +147,6 @@ module _ (t : ClassTable) (order : IsOrderOfCells t) (most : ℕ) where
       (IsSomeAnd-from (FrameBelow t f) _ _ (state_at-here old.states place j inside)
       (record { regs = join-right t merges.regs; stack = join-right t merges.stack }))
 
-  -- ---- a place is taken
-
-  pub taken-less : (found : Found) (p : ℕ) → IsPending found p → work t most (taken_up found p) < work t most found
-  taken-less found p h =
-      let flags = sum_by-set one_if found.pending p false false (pending-inside found p h) in
-      let there : one_if (get_or found.pending p false) ≡ 1 = ap one_if h in
-      omega arith
-
 -- ---- frames that may stand where they stand
 
 module _ (w : Linked) (order : IsOrderOfCells w.classes) (ready_joins : JoinsStayReady w.classes) (m : Method) where
@@ -185,7 +164,7 @@ module _ (w : Linked) (order : IsOrderOfCells w.classes) (ready_joins : JoinsSta
   set-held old place j inside are_held h = record {
     places = length-set old.states place (Some j) ∙ are_held.places;
     flags = length-set old.pending place true ∙ are_held.flags;
-    held = λ p f e. elim (same_or_not place p) [
+    held = λ p f e. elim (dec_eq p place) [
       | inl here ↦ subst (λ q. IsHeld w m q f) (sym here)
           (subst (IsHeld w m place)
           (one_there (sym (state_at-here old.states place j inside) ∙ ap (state_at (set old.states place (Some j))) (sym here) ∙ e)) h)
@@ -219,9 +198,6 @@ module _ (w : Linked) (order : IsOrderOfCells w.classes) (ready_joins : JoinsSta
     stays = c.stays;
   }
 
-  some-is : {g h : Frame} → ◌≡◌ {A = Option Frame} (Some g) (Some h) → g ≡ h
-  some-is e = cc
-
   module _ (most : ℕ) (old new : Found) (p : ℕ) (grown : Grown w.classes most (taken_up old p) new) (closed : AreClosed w m old) where
     other-closed : (q : ℕ) (g : Frame) → q ≢ p → IsPending old q ⊎ IsClosed w m old q g → IsPending new q ⊎ IsClosed w m new q g
     other-closed q g n (inl k) = inl (grown.keeps q (pending-left old p q n k))
@@ -233,7 +209,7 @@ module _ (w : Linked) (order : IsOrderOfCells w.classes) (ready_joins : JoinsSta
       where
         by : (state_at new.states q ≡ state_at old.states q) ⊎ IsPending new q → IsPending new q ⊎ IsClosed w m new q g
         by (inr k) = inl k
-        by (inl same) = elim (same_or_not p q) [
+        by (inl same) = elim (dec_eq q p) [
           | inl at_p ↦ inr (subst (λ x. IsClosed w m new x g) (sym at_p) (here g (ap (state_at old.states) (sym at_p) ∙ sym same ∙ e)))
           | inr n ↦ other-closed q g n (closed q g (sym same ∙ e))
         ]

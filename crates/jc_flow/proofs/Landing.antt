@@ -1,5 +1,5 @@
 -- A frame comes to a place of the table.
-use Rattle.std.proofs.Common.{◌≡◌, ℕ, zero, suc, ◌<◌, ◌≤◌, Bool, true, List, [], ◌∷◌, length, get_or, set, Option, Some, None}
+use Rattle.std.proofs.Common.{◌≡◌, ℕ, zero, suc, ◌<◌, Bool, true, List, [], ◌∷◌, length, get_or, set, Option, Some, None}
 use Rattle.std.proofs.Common.{IsSomeAnd, IfSome, is_some, refl, sym, ◌∙◌, ap, subst, arith}
 use Rattle.jc_base.specs.Class.{ClassTable}
 use Rattle.jc_rules.specs.Demand.{Frame}
@@ -13,14 +13,6 @@ unfolding state_at
 state_at-read [] p d lt = absurd (omega arith)
 state_at-read (x ∷ xs) zero d lt = refl
 state_at-read (x ∷ xs) (suc p) d lt = state_at-read xs p d (omega arith)
-
--- no state past the table's end
-pub state_at-past : (states : List (Option Frame)) (p : ℕ) → length states ≤ p → state_at states p ≡ None
-unfolding state_at
-state_at-past [] zero le = refl
-state_at-past [] (suc p) le = refl
-state_at-past (x ∷ xs) zero le = absurd (omega arith)
-state_at-past (x ∷ xs) (suc p) le = state_at-past xs p (omega arith)
 
 set-state : (states : List (Option Frame)) (p : ℕ) (g : Frame) → state_at states p ≡ Some g → set states p (Some g) ≡ states
 unfolding state_at

@@ -1,9 +1,8 @@
 -- Where the instruction at the place of a frame leads: what it gives may stand there, or the place fails.
 use Rattle.std.proofs.Common.{◌≡◌, ℕ, ◌+◌, ◌<◌, ◌≤◌, inl, inr, Bool, true, false, List, [], ◌∷◌, length, All, IsTrue, refl}
-use Rattle.std.proofs.Common.{◌∙◌, ap, subst, arith, if◌then◌else◌, map}
-use Rattle.std.specs.Prelude.{ℤ, pos, negsuc, ◌≤ℤ◌, ◌<ℤ◌}
+use Rattle.std.proofs.Common.{◌∙◌, ap, arith, if◌then◌else◌, map}
+use Rattle.std.specs.Prelude.{ℤ, pos, ◌≤ℤ◌, ◌<ℤ◌}
 use Rattle.std.specs.List.{Contains}
-use Rattle.std.proofs.lemmas.Int.{ints}
 use Rattle.std.proofs.lemmas.List.Elements.{All-contains, All-nil, All-cons}
 use Rattle.jc_base.specs.declared.ty.Ty.{Ty}
 use Rattle.jc_base.specs.declared.ty.Ty.TheVariants.{Class}
@@ -18,7 +17,6 @@ use Rattle.jc_ops.specs.declared.fault.RuleFault.TheVariants.{FreshKept, StackMe
 use Rattle.jc_rules.specs.Demand.{Frame}
 use Rattle.jc_control.specs.Method.{Method, IsMethodOf}
 use Rattle.jc_control.specs.WellFormed.{IsWellFormed, HasInstruction, IsPlace, IsBoundary, IsTargetPlace, IsHandlerOf}
-use Rattle.jc_decode.specs.Laws.{AreListed}
 use Rattle.jc_control.specs.Control.{IsSuccessor, falls_through, jumped, IsLeader, Covers}
 use Rattle.jc_rules.specs.Flow.{IsNotFresh, IsNotTop, caught_frame, derived_next, derived_caught}
 use Rattle.jc_rules.specs.Typing.{state_at, Clashes}
@@ -31,6 +29,7 @@ use Rattle.jc_flow.proofs.Growth.{grown-same}
 use Rattle.jc_flow.specs.Fails.{FailsAt, fails_leader, fails_merge, fails_caught, fails_handler, IsFailure}
 use Rattle.jc_flow.specs.Visit.{HasStepped, Goes, broken_at}
 use Rattle.jc_flow.proofs.Steps.{stands-here}
+use Rattle.jc_control.proofs.PlacesWithin.{target-range}
 
 pub frame-is : (regs stack : List Ty) (f : Frame) → regs ≡ f.regs → stack ≡ f.stack → ◌≡◌ {A = Frame} (record { regs = regs; stack = stack }) f
 frame-is regs stack f e h =
@@ -49,13 +48,6 @@ if-jumps false xs t c = absurd (omega (arith, c.1))
 pub targets-jump : (code : List ℕ) (i : Placed) (t : ℤ) → Contains (targets code i) t → IsTrue (jumps i.insn.op)
 unfolding targets
 targets-jump code i t c = if-jumps (jumps i.insn.op) (target i.place i.insn.x ∷ map (λ c. target i.place c.offset) (cases code i.place i.insn)) t c
-
--- a target that is a place is a number that fits in sixteen bits
-target-range : (code : List ℕ) → AreListed code → (t : ℤ) → IsTargetPlace code t → length code ≤ 32767 → (pos 0 ≤ℤ t) × (t <ℤ pos 65536)
-target-range code listed (pos p) h short =
-    let inside : p < length code = subst (λ q. q < length code) h.2 (listed.inside h.0 h.1) in
-    (omega (arith, ints), omega (arith, ints))
-target-range code listed (negsuc n) h short = absurd h
 
 -- where the code goes on after an instruction one stands
 inside-code : (code : List ℕ) → ((i : Placed) → HasInstruction code i → IsBoundary code (i.place + i.insn.len)) → (i : Placed)

@@ -1,6 +1,5 @@
 -- What the instruction at the place of a frame does.
 use Rattle.std.proofs.Common.{◌≡◌, ℕ, ◌+◌, ◌≤◌, List, length, reverse, All, IsTrue, Result, Ok, Err, refl, sym, ◌∙◌, ap, subst}
-use Rattle.std.proofs.lemmas.Option.{same_Some}
 use Rattle.jc_base.specs.declared.ty.Ty.{Ty}
 use Rattle.jc_base.specs.World.{Linked}
 use Rattle.jc_decode.specs.declared.insn.Insn.{Insn}
@@ -10,11 +9,8 @@ use Rattle.jc_decode.specs.Listing.{falls, jumps}
 use Rattle.jc_ops.specs.declared.fault.RuleFault.{RuleFault}
 use Rattle.jc_ops.specs.declared.fault.RuleFault.TheVariants.{FreshKept}
 use Rattle.jc_rules.specs.Demand.{Frame}
-use Rattle.jc_ops.specs.declared.site.Site.{Site}
-use Rattle.jc_rules.specs.declared.effect.Mode.TheVariants.{Flow}
-use Rattle.jc_rules.specs.declared.rule.Outcome.{Outcome}
-use Rattle.jc_rules.specs.Apply.{Applies, Refuses, RuleApplies, RuleRefuses}
-use Rattle.jc_control.specs.Method.{Method, IsMethodOf}
+use Rattle.jc_rules.specs.Apply.{RuleRefuses}
+use Rattle.jc_control.specs.Method.{Method}
 use Rattle.jc_control.specs.WellFormed.{HasInstruction, IsPlace}
 use Rattle.jc_rules.specs.Flow.{IsNotFresh, FlowSteps}
 use Rattle.jc_base.proofs.Lists.{All-turned, All-reverse}
@@ -33,22 +29,6 @@ pub all-to_slice : (P : Ty → Type 0) (slice stack : List Ty) → reverse slice
 all-to_slice P slice stack e all = All-turned P slice (subst (All P) (sym e) all)
 
 -- ---- the rule at the site of a method of the world
-
-abbrev pub site_of : Method → ℕ → Site
-site_of m place = record { method = m.number; place = place }
-
-module _ (w : Linked) (m : Method) (mo : IsMethodOf w m) where
-  pub at-site : {p : ℕ} {i : Insn} {f g : Frame} {o : Outcome} → RuleApplies w m.rec p i Flow f g o → Applies w (site_of m p) i Flow f g o
-  at-site a = record { method = m.rec; is_method = mo.rec; rule = a }
-
-  pub of-site : {p : ℕ} {i : Insn} {f g : Frame} {o : Outcome} → Applies w (site_of m p) i Flow f g o → RuleApplies w m.rec p i Flow f g o
-  of-site {p} {i} {f} {g} {o} a = subst (λ r. RuleApplies w r p i Flow f g o) (same_Some _ _ (sym a.is_method ∙ mo.rec)) a.rule
-
-  pub refuses-at-site : {p : ℕ} {i : Insn} {f : Frame} {fault : RuleFault} → RuleRefuses w m.rec p i f fault → Refuses w (site_of m p) i f fault
-  refuses-at-site r = record { method = m.rec; is_method = mo.rec; rule = r }
-
-  pub refuses-of-site : {p : ℕ} {i : Insn} {f : Frame} {fault : RuleFault} → Refuses w (site_of m p) i f fault → RuleRefuses w m.rec p i f fault
-  refuses-of-site {p} {i} {f} {fault} r = subst (λ rec. RuleRefuses w rec p i f fault) (same_Some _ _ (sym r.is_method ∙ mo.rec)) r.rule
 
 module _ (code : List ℕ) (listed : AreListed code) (p : ℕ) (here : IsPlace code p) where
   pub decoded-here : decoded code p ≡ Ok here.0.insn

@@ -3,11 +3,9 @@ use Rattle.std.proofs.Common.{◌≡◌, ℕ, List, [], Ok, Err, sym, ap, subst,
 use Rattle.std.specs.Prelude.{All}
 use Rattle.std.specs.Option.{option_to_list}
 use Rattle.cap_package.specs.PackageRecord.{PackageRecord}
-use Rattle.jc_base.specs.declared.record.Member.{Member}
 use Rattle.jc_base.specs.declared.record.MethodRec.{MethodRec}
 use Rattle.jc_base.specs.declared.record.StaticRec.{StaticRec}
 use Rattle.jc_base.specs.Class.{ClassTable}
-use Rattle.jc_base.specs.Linked.{IsMember}
 use Rattle.jc_resolve.specs.declared.fault.LinkFault.{LinkFault}
 use Rattle.jc_resolve.specs.declared.fault.LinkEnd.{LinkEnd}
 use Rattle.jc_resolve.specs.Fault.{link_place}
@@ -16,7 +14,7 @@ use Rattle.first_fault.specs.Least.{least_of, refused}
 use Rattle.first_fault.specs.First.{IsLeast, IsFirst, AllEmpty}
 use Rattle.jc_resolve.proofs.ConditionLists.{things-refused, things-none, one-refused, one-none}
 use Rattle.jc_link.specs.Room.{statics_fault, arrays_fault}
-use Rattle.jc_link.specs.Pools.{pools, missing_members}
+use Rattle.jc_link.specs.Pools.{missing_members}
 use Rattle.jc_link.specs.Catches.{catch_fault, handler_places, bad_catches}
 use Rattle.jc_link.specs.Roles.{role_fault, thrown_roles, abstract_roles}
 use Rattle.jc_link.specs.declared.linking.Resolved.{Resolved}
@@ -39,9 +37,6 @@ module _ (ps : List PackageRecord) (roles : List ℕ) (qs : List PackageRecord) 
   -- the static fields have room
   abbrev pub HasStatics : Type 0
   HasStatics = option_to_list (statics_fault ps) ≡ []
-
-  pub statics_first : (f : LinkFault) → Err f ≡ refused (statics_fault qs) → IsFirst link_place (member_conditions ps roles) f
-  statics_first f h = inl (one-refused link_place (statics_fault ps) f (h ∙ ap (λ (xs : List PackageRecord). refused (statics_fault xs)) a.packages))
 
   pub statics_none : (x : Unit {0}) → Ok x ≡ refused (statics_fault qs) → HasStatics
   statics_none x h = one-none link_place (statics_fault ps) x (h ∙ ap (λ (xs : List PackageRecord). refused (statics_fault xs)) a.packages)
@@ -89,22 +84,9 @@ module _ (ps : List PackageRecord) (roles : List ℕ) (qs : List PackageRecord) 
     missing_same : missing_members ps t statics ≡ missing_members ps (table_of ps roles) (statics_of ps roles)
     missing_same = grind (arith)
 
-    pub members_first : (f : LinkFault) → HasStatics → IsLeast link_place (missing_members ps t statics) f
-        → IsFirst link_place (member_conditions ps roles) f
-    members_first f none h = inr (none, inl (subst (λ (fs : List LinkFault). IsLeast link_place fs f) missing_same h))
-
     pub rest_told : (end : LinkEnd) → HasStatics → missing_members ps t statics ≡ [] → TellsFirst {A = Unit {0}} (rest_conditions ps roles)
         (Err end) → TellsFirst {A = Resolved} (member_conditions ps roles) (Err end)
     rest_told x none members h = grind (arith, missing_same)
 
     pub members_empty : HasStatics → missing_members ps t statics ≡ [] → AllEmpty (rest_conditions ps roles) → AllEmpty (member_conditions ps roles)
     members_empty none members rest = (none, (sym missing_same ∙ members, rest))
-
-    -- ---- what is found
-
-    pub pools_same : (found : List (List Member)) → found ≡ pools ps t statics → found ≡ pools ps (table_of ps roles) (statics_of ps roles)
-    pools_same found e = e ∙ ap (λ (u : ClassTable). pools ps u statics) a.table.is ∙ ap (λ (xs : List StaticRec). pools ps (table_of ps roles) xs) s
-
-    pub members_same : (found : List (List Member)) → All (All (IsMember t methods statics)) found
-        → All (All (IsMember (table_of ps roles) (methods_of ps roles) statics)) found
-    members_same found all = grind (arith)

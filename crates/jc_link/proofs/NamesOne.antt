@@ -30,6 +30,7 @@ use Rattle.jc_link.specs.World.{table_of, statics_of, table_conditions, member_c
 use Rattle.jc_link.specs.OneEach.{IsAskedFor, NamesPackage, ImportsNameOne, ReferencesNameOne, NamesOneEach}
 use Rattle.jc_link.proofs.EachNamed.{all_named}
 use Rattle.jc_link.proofs.NamingLaws.{then_some}
+use Rattle.jc_base.proofs.Lists.{slice_get-take}
 
 -- ---- the first of a list that passes a test
 
@@ -63,12 +64,6 @@ first-found-from {X} t k (x ∷ xs) j h = by (t x) refl h (λ e. first-found-fro
 first-found : {X : Type 0} (t : X → Bool) (xs : List X) (j : ℕ) → position t xs ≡ Some j → IsFirstFound t xs j
 first-found t xs j h = grind (arith, first-found-from, position_from-zero)
 
-taken-there : {X : Type 0} (xs : List X) (k i : ℕ) → i < k → slice_get (take k xs) i ≡ slice_get xs i
-taken-there xs zero i lt = absurd (omega (arith, lt))
-taken-there [] (suc k) i lt = refl
-taken-there (x ∷ xs) (suc k) zero lt = refl
-taken-there (x ∷ xs) (suc k) (suc i) lt = taken-there xs k i (omega (arith, lt))
-
 -- ---- conditions
 
 -- what the package of a number names is not at fault
@@ -101,9 +96,9 @@ module _ (ps : List PackageRecord) where
       let lt : j < k = omega (arith, within, length-take k ps) in
       record {
         earlier = lt;
-        met = record { found = f.found; there = sym (taken-there ps k j lt) ∙ f.there; meets = asked-for asked f.found f.passes };
+        met = record { found = f.found; there = sym (slice_get-take k j ps lt) ∙ f.there; meets = asked-for asked f.found f.passes };
         first = λ i less other.
-            let at = taken-there ps k i (omega (arith, less, lt)) ∙ other.there in
+            let at = slice_get-take k i ps (omega (arith, less, lt)) ∙ other.there in
             false≢true (sym (f.before i other.found less at) ∙ meets-asked asked other.found other.meets);
       }
 

@@ -51,9 +51,6 @@ unless_some x o y h = grind (arith)
 only-one : {X : Type 0} (xs : List X) (x : X) → only xs ≡ Some x → xs ≡ x ∷ []
 only-one x x2 h = grind (arith, same_Some)
 
-some-there : {X : Type 0} (o : Option X) → is_some o ≡ true → (x : X) × (o ≡ Some x)
-some-there x h = grind (arith)
-
 -- ---- places
 
 module _ (ps : List PackageRecord) (exported : ℕ → ℕ → ℕ → Option ℕ) (k : ℕ) (place : RecordPlace) where

@@ -57,17 +57,6 @@ module _ (w : Linked) (is : IsWorld w) where
   unfolding visible_of
   visible-inherits c = (lists_at c (slice_get w.classes.records c) (is.classes c)).1
 
-  -- the entries of a class's lists are numbers of methods
-  inside_list : (c : ℕ) (list : List ℕ) → All (λ n. IsSomeAnd (slice_get w.methods n) (IsInherited w.classes c)) list
-      → All (λ n. n < length w.methods) list
-  inside_list c list all k d lt = in_list (get_or list k d) (slice_get w.methods (get_or list k d)) (IsInherited w.classes c) refl (all k d lt)
-
-  pub public-inside : (c : ℕ) (r : ClassRec) → IsLinkedClass (length w.infos) w.classes w.methods c r → All (λ n. n < length w.methods) r.public
-  public-inside c r h = inside_list c r.public h.public.entries
-
-  pub visible-inside : (c : ℕ) (r : ClassRec) → IsLinkedClass (length w.infos) w.classes w.methods c r → All (λ n. n < length w.methods) r.visible
-  visible-inside c r h = inside_list c r.visible h.visible.entries
-
   list-inherits : (c : ℕ) (list : List ℕ) → All (λ n. IsSomeAnd (slice_get w.methods n) (IsInherited w.classes c)) list
       → (k : ℕ) (o : Option ℕ) → slice_get list k ≡ o → IfSome o (λ n. IsSomeAnd (slice_get w.methods n) (IsInherited w.classes c))
   list-inherits c list all k None e = tt

@@ -201,9 +201,6 @@ module _ (t : ClassTable) (f : Frame) where
   number-known : (w : Width) → CellsKnown t (number_given w)
   number-known x = grind (arith)
 
-  length-number : (w : Width) → length (in_stack_order (number_given w)) ≡ size w
-  length-number x = grind (arith)
-
   value-known : (ty : Ty) → IsKnown t ty × IsValue ty → CellsKnown t (value_given ty)
   value-known x k = grind (arith)
 

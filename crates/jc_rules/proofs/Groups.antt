@@ -18,9 +18,6 @@ number-read groups p inside = slice_get-get_or groups p 0 inside
 pub none-told : (cells : List Ty) (spans : List (Option Span)) → TellRegisters cells spans []
 none-told cells spans p q n s u es eu ep eq = absurd cc
 
-pub none-low : AreLow []
-none-low p n e = absurd cc
-
 before-or-last : (xs : List ℕ) (x p m : ℕ) → slice_get (xs ++ x ∷ []) p ≡ Some m
     → ((slice_get xs p ≡ Some m) × (p < length xs)) ⊎ ((p ≡ length xs) × (m ≡ x))
 before-or-last [] x zero m e = inr (refl, cc)

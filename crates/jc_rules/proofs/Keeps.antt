@@ -92,7 +92,7 @@ module _ (t : ClassTable) (are : IsOrderOfTypes t) where
         writes-keeps IsNotFresh tt (stored-not_fresh mode) u.low tt (writes-keeps IsNotFresh tt (stored-not_fresh mode) u.high tt none)
 
 -- a type of which Bottom is no upper bound
-full-below : (t : ClassTable) (are : IsOrderOfTypes t) (a b : Ty) → Below t a b → IsNotBottom a → IsNotBottom b
+pub full-below : (t : ClassTable) (are : IsOrderOfTypes t) (a b : Ty) → Below t a b → IsNotBottom a → IsNotBottom b
 full-below t are a u le n = grind (arith, bottom-least)
 
 module _ (t : ClassTable) (are : IsOrderOfTypes t) where

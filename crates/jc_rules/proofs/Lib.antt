@@ -16,3 +16,5 @@ pub mod Footprints
 pub mod Flowing
 pub mod Wholes
 pub mod Groups
+pub mod Sites
+pub mod Starts

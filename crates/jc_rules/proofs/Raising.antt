@@ -113,10 +113,6 @@ CellsJoin-reverse t (more_joined {a} {b} {j} {xs} {ys} {js} h p) =
 sum_by-reverse : (f : Ty → ℕ) (xs : List Ty) → sum_by f (reverse xs) ≡ sum_by f xs
 sum_by-reverse f xs = sum_by-IsPermutation f xs (reverse xs) (IsPermutation-reverse xs)
 
-pub CellsJoin-length : (t : ClassTable) {xs ys js : List Ty} → CellsJoin t xs ys js → length js ≡ length xs
-CellsJoin-length t none_joined = refl
-CellsJoin-length t (more_joined h p) = ap suc (CellsJoin-length t p)
-
 -- a cell's join is Top
 pub clash_cells : (t : ClassTable) (regs others old stack joined : List Ty) → CellsJoin t old stack joined → ¬ (All IsNotTop joined)
     → Clashes t (record { regs = regs; stack = reverse old }) (record { regs = others; stack = reverse stack })

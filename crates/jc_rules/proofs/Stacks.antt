@@ -134,7 +134,7 @@ cells-copied s t r d m n hm hn g of_t et er =
     let all : reverse (take (d + m) (put_mid at (d + m - at) t r)) ≡ reverse b ++ (reverse c ++ reverse a) = ap reverse now ∙ copied_under a b c in
     cc (all, first_n, past_n, first_m)
 
-map-reverse : (f : Ty → Ty) (xs : List Ty) → map f (reverse xs) ≡ reverse (map f xs)
+pub map-reverse : {X Y : Type 0} (f : X → Y) (xs : List X) → map f (reverse xs) ≡ reverse (map f xs)
 map-reverse f [] = refl
 map-reverse f (x ∷ xs) =
     grind (arith, reverse-append (x ∷ []) xs, map-append f (reverse xs) (x ∷ []), map-reverse f xs, reverse-append (f x ∷ []) (map f xs))

@@ -14,7 +14,7 @@ use Rattle.jc_base.specs.Order.{Below}
 use Rattle.jc_base.specs.Cell.{IsDeclared, IsOfKind, IsNoHalf, IsFirstCell, AreWhole, no_cells, whole_int, one_cell}
 use Rattle.jc_base.specs.Linked.{IsMethod}
 use Rattle.jc_base.specs.World.{Linked, IsWorld}
-use Rattle.jc_base.proofs.Lists.{All-slice_get, All-reverse}
+use Rattle.jc_base.proofs.Lists.{All-slice_get, All-reverse, slice_get-drop}
 use Rattle.jc_ops.specs.declared.want.Want.{Want}
 use Rattle.jc_ops.specs.declared.want.Want.TheVariants.{Value, Storable, ByteArray, AnyArray, Whole, Receiver}
 use Rattle.jc_ops.specs.declared.operation.Sort.{Sort}
@@ -125,18 +125,13 @@ cut-at {s = s} h (suc k) n = cut-after h k (λ p. n (subst (λ j. slice_get s j 
     before : (k : ℕ) → suc k - 1 ≡ k
     before k = omega arith
 
-read-dropped : (s : List Ty) (n k : ℕ) → slice_get (drop n s) k ≡ slice_get s (n + k)
-read-dropped s zero k = let e : 0 + k ≡ k = omega arith in ap (slice_get s) (sym e)
-read-dropped [] (suc n) k = let e : suc n + k ≡ suc (n + k) = omega arith in sym (ap (slice_get []) e)
-read-dropped (x ∷ s) (suc n) k = let e : suc n + k ≡ suc (n + k) = omega arith in read-dropped s n k ∙ sym (ap (slice_get (x ∷ s)) e)
-
 -- a cut of what lies under another
 cut-under : (s : List Ty) (n m : ℕ) → IsPaired (drop n s) → ¬ (Splits s (n + m)) → IsPaired (take m (drop n s))
 cut-under s n zero h apart = paired_empty
 cut-under s n (suc k) h apart =
     (cut-at h (suc k) (λ p. apart (
-      subst (λ o. o ≡ Some IntLow) (read-dropped s n (suc k - 1) ∙ ap (slice_get s) (same_place n k)) p.0,
-      subst (λ o. o ≡ Some IntHigh) (read-dropped s n (suc k)) p.1,
+      subst (λ o. o ≡ Some IntLow) (slice_get-drop n (suc k - 1) s ∙ ap (slice_get s) (same_place n k)) p.0,
+      subst (λ o. o ≡ Some IntHigh) (slice_get-drop n (suc k) s) p.1,
     ))).front
   where
     same_place : (n k : ℕ) → n + (suc k - 1) ≡ n + suc k - 1
@@ -220,12 +215,6 @@ module _ (t : ClassTable) where
       let e : suc n + 2 ≡ suc (n + 2) = omega arith in
       let f : suc n + 1 ≡ suc (n + 1) = omega arith in
       subst (λ j. IsPaired (drop j (x ∷ s))) (sym e) (peel-int s n m (subst (λ j. IsSomeAnd (slice_get (x ∷ s) j) (Meets t (Value IntHigh))) f k) h)
-
-  peel-number : (s : Frame) (width : Width) (n : ℕ) → SatisfiesAll t s (number width n) → IsPaired (drop n s.stack)
-      → IsPaired (drop (n + size width) s.stack)
-  unfolding TakesNoHalf
-  peel-number s widths.Short n all h = peel-one s.stack n (Value Short) ((λ k. k), tt) all.0 h
-  peel-number s widths.Int n all h = peel-int s.stack n all.0 all.1.0 h
 
   -- the type of a value that a frame has is no low half
   value-rest : (f : Frame) (ty : Ty) (rest : List Demand) → IsNotTop ty → ¬ (ty ≡ IntLow) → SatisfiesAll t f (value_wanted ty ++ rest)

@@ -235,10 +235,6 @@ module _ (f : ℕ → ℕ) where
   Stay [] = Unit {0}
   Stay (c ∷ cs) = (renamed_cell f c ≡ c) × Stay cs
 
-  pub stay-map : (cs : List Cell) → Stay cs → map (renamed_cell f) cs ≡ cs
-  stay-map [] h = refl
-  stay-map (c ∷ cs) h = let a = h.0 in let b = stay-map cs h.1 in cc
-
   in-renamed :
       (kind : Kind) (cs : List Cell) (at : ℕ) → map (renamed_cell f) (value_in tagged kind cs at)
       ≡ value_in tagged kind (map (renamed_cell f) cs) at

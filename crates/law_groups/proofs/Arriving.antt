@@ -4,9 +4,7 @@ use Rattle.std.proofs.Common.{◌≡◌, ℕ, suc, ◌+◌, ◌<◌, ◌≤◌, 
 use Rattle.std.proofs.Common.{◌++◌, length, refl, sym, ap, ◌∙◌, subst, arith}
 use Rattle.std.specs.Prelude.{Option, Some, None, Ok, IfSome, IsSomeAnd, is_some, slice_get}
 use Rattle.std.proofs.lemmas.List.{length-map, length-reverse}
-use Rattle.jc_base.specs.declared.ty.Ty.{Ty}
 use Rattle.jc_base.specs.declared.ty.Ty.TheVariants.{Top}
-use Rattle.jc_base.specs.Class.{ClassTable}
 use Rattle.jc_base.specs.Each.{IsAmong}
 use Rattle.jc_base.specs.World.{Linked}
 use Rattle.jc_decode.specs.declared.insn.Placed.{Placed}
@@ -16,6 +14,7 @@ use Rattle.jc_ops.specs.declared.operation.Operation.{Operation}
 use Rattle.jc_ops.specs.Next.{falls_from}
 use Rattle.jc_rules.specs.Demand.{Frame as Types}
 use Rattle.jc_rules.specs.Flow.{CellsBelow, FrameBelow, IsFit, no_cells, more_cells}
+use Rattle.jc_rules.specs.Flow.{At}
 use Rattle.law_sound.proofs.Going.{goes-on}
 use Rattle.vm_store.specs.declared.cell.Cell.{Cell}
 use Rattle.vm_store.specs.Cells.{tagged}
@@ -54,6 +53,7 @@ use Rattle.law_groups.proofs.Following.{Next, next-of, steps-here}
 use Rattle.law_groups.proofs.Moving.{copies-move, count-moves, moves-stand, spill-count, spill-moves}
 use Rattle.law_groups.proofs.Placing.{count-append}
 use Rattle.law_groups.proofs.Standing.{stand-as, stand-at, stand-first, stand-last}
+use Rattle.jc_rules.proofs.CellLists.{cells-length}
 
 -- one run after another
 pub runs-then :
@@ -62,10 +62,6 @@ pub runs-then :
     → Runs tagged w m u o
     → Runs tagged w (n + m) t o
 runs-then w n m t u o first more = continues-on tagged w n m (running t) (running u) o first more
-
-pub same-count : (t : ClassTable) {xs ys : List Ty} → CellsBelow t xs ys → length xs ≡ length ys
-same-count t no_cells = refl
-same-count t (more_cells b r) = ap suc (same-count t r)
 
 module _ {v w : Linked} {s : Source} {place : ℕ → ℕ} (laid : IsLaidIn v w s place) where
   -- ---- where the target stands
@@ -107,7 +103,7 @@ module _ {v w : Linked} {s : Source} {place : ℕ → ℕ} (laid : IsLaidIn v w 
           → length (top z).stack ≤ s.method.rec.max_stack
       by None fit below = absurd fit
       by (Some f) fit below =
-          let one = same-count v.classes below.stack in
+          let one = cells-length v.classes below.stack in
           let two : length (least_types v.classes Top (kinds z) (top z).stack) ≡ length (top z).stack = length-map (top z).stack _ in
           let room = fit.room in
           omega (arith, one, two, room)
@@ -143,7 +139,7 @@ module _ {v w : Linked} {s : Source} {place : ℕ → ℕ} (laid : IsLaidIn v w 
         by (Some f) e some =
             let n = needs s laid.world laid.planned p x f h e among in
             let inside = value-inside n.types h.slot h.ty n.value in
-            let same = same-count s.world.classes n.above in
+            let same = cells-length s.world.classes n.above in
             let count : length f.regs ≡ register_count s.method.rec =
             subst (λ o. IfSome o (λ (g : Types). length g.regs ≡ register_count s.method.rec)) e (laid.planned.registers p) in
             record { has = n.keeps.has; slot = omega (arith, inside, same, count) }

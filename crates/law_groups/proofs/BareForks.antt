@@ -25,6 +25,8 @@ use Rattle.xf_emission.specs.Edge.{cell_copies, copies}
 use Rattle.xf_emission.specs.Group.{body}
 use Rattle.xf_emission.specs.Jump.{branch, has_under, jump_to, lead, leads, operands_slot}
 use Rattle.xf_emission.specs.Jump.{branch_copies, under, way_of}
+use Rattle.xf_emission.specs.Group.{branch_by}
+use Rattle.xf_emission.specs.Jump.{spill_if}
 
 -- ---- the body
 
@@ -67,11 +69,6 @@ under-none s p n e =
     let c : operands_slot s p n ≡ register_count s.method.rec = omega (arith, deep) in
     ap (λ k. filter (λ (h : Home). nat_lt h.slot k) (cells_from (register_count s.method.rec) (stack_of (s.frames p)) 0 (depth s p))) c
     ∙ none-below (register_count s.method.rec) _ (cells-above (register_count s.method.rec) (stack_of (s.frames p)) 0 (depth s p))
-
-pub taken-is :
-    (s : Source) (p : ℕ) (op : Operation) (n q : ℕ) → has_under s p n ≡ false → branch_copies s p op n q ≡ copies s (After p op) q
-unfolding branch_copies
-taken-is s p op n q e = ap (λ hs. cell_copies s hs (stack_homes s q) ++ copies s (After p op) q) (under-none s p n e)
 
 -- ---- the step
 

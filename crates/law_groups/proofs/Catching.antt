@@ -43,12 +43,13 @@ use Rattle.law_groups.specs.Beside.{StandsInGroup}
 use Rattle.law_groups.specs.Laws.{CatchAlike, GroupsCatch, both_catch, none_catches}
 use Rattle.law_groups.proofs.Context.{here-at, method-of, reached-some, target-at}
 use Rattle.law_groups.proofs.Handling.{covers-live, first-before, first-is}
-use Rattle.law_groups.proofs.Placing.{count-append, group-begins, groups-stand-at-steps, place-once, steps-count}
+use Rattle.law_groups.proofs.Placing.{count-append, groups-stand-at-steps, place-once, steps-count}
 use Rattle.law_groups.proofs.Renaming.{places-rise}
 use Rattle.law_groups.proofs.Following.{some-body, steps-here}
 use Rattle.law_groups.proofs.Rising.{groups-rise}
 use Rattle.law_groups.proofs.Standing.{stand-inside}
 use Rattle.law_groups.proofs.Starting.{ending, items-begin}
+use Rattle.law_rewritten_typing.proofs.Ordered.{group-head}
 
 -- ---- how far labels reach
 
@@ -84,7 +85,7 @@ module _ (s : Source) (code : IsCode s) where
       → group_at s i.place + count_of (group s i) ≤ place_of (length s.method.code) (items s)
   group-before-end i stands reached =
       let g = groups-stand s code i stands reached in
-      let b = group-begins s i reached in
+      let b = group-head s i reached in
       let cs = copies s Start 0 in
       let before = cs ++ flat_map (group s) g.earlier in
       let rest = b.0 ++ (flat_map (group s) g.later ++ ending s) in
@@ -109,8 +110,6 @@ module _ (s : Source) (code : IsCode s) where
       let c4 = count-append (group s i) (flat_map (group s) g.later) in
       let c5 = count-append cs (flat_map (group s) g.earlier) in
       omega (arith, at, last, c1, c2, c3, c4, c5)
-
--- ---- tests of two numbers
 
 -- ---- one place, and a step of its group
 

@@ -1,7 +1,7 @@
 -- The group of a conditional branch or a switch with no cells under its operands.
 use Rattle.std.proofs.Common.{◌≡◌, ℕ, ◌+◌, ◌<◌, ◌≤◌, true, false, List, [], ◌∷◌, length, map, refl}
 use Rattle.std.proofs.Common.{sym, ap, ◌∙◌, subst, arith}
-use Rattle.std.specs.Prelude.{ℤ, pos, negsuc, Contains, Option, Some, None, Ok, IsSomeAnd, is_some, slice_get, ⊤}
+use Rattle.std.specs.Prelude.{ℤ, pos, negsuc, Contains, Option, Some, None, Ok, IsSomeAnd, is_some, slice_get}
 use Rattle.std.proofs.lemmas.Bool.{false≢true}
 use Rattle.std.proofs.lemmas.List.{length-map, nil_from_length}
 use Rattle.std.proofs.lemmas.List.Elements.{All-contains}
@@ -64,7 +64,7 @@ use Rattle.law_groups.specs.Comes.{GroupRuns, group_stays}
 use Rattle.law_groups.specs.Body.{AreAfter}
 use Rattle.law_groups.specs.Steps.{ItemsStandFrom}
 use Rattle.law_groups.specs.Moves.{MovesRun}
-use Rattle.law_groups.proofs.Arriving.{falls-arrive, leader-keeps, runs-then, same-count}
+use Rattle.law_groups.proofs.Arriving.{falls-arrive, leader-keeps, runs-then}
 use Rattle.law_groups.proofs.Branching.{IsLeading, leading, ForkComes, fork-steps, fork_falls, fork_leads}
 use Rattle.law_groups.proofs.Context.{method-of, reached-some, some-reached, typing-of}
 use Rattle.law_groups.proofs.Entering.{enters}
@@ -76,6 +76,7 @@ use Rattle.law_groups.proofs.OneGroup.{no-fault, same-method, stays-on, turn-by}
 use Rattle.law_groups.proofs.Placing.{count-append, stubs-stand-at-steps}
 use Rattle.law_groups.proofs.Standing.{stand-as, stand-inside}
 use Rattle.law_groups.proofs.Taking.{led-arrives}
+use Rattle.jc_rules.proofs.CellLists.{cells-length}
 
 -- ---- a branch goes on
 
@@ -228,7 +229,7 @@ module _
       let filled = k.fill in
       let below : FrameBelow v.classes (types_of_frame v.classes Top (kinds y) (top y)) g.0 =
       subst (λ o. IsSomeAnd o (FrameBelow v.classes (types_of_frame v.classes Top (kinds y) (top y)))) g.1 typed.below in
-      let one = same-count v.classes below.stack in
+      let one = cells-length v.classes below.stack in
       let two : length (least_types v.classes Top (kinds y) (top y).stack) ≡ length (top y).stack = length-map (top y).stack _ in
       nil_from_length (top y).stack (omega (arith, zero_cells, filled, one, two))
 

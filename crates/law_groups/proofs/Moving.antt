@@ -94,11 +94,6 @@ moves-stand s n (Branch op l ∷ xs) m st = absurd m
 moves-stand s n (Switch i at ls ∷ xs) m st = absurd m
 moves-stand s n (Label l ∷ xs) m st = absurd m
 
--- of loads and spills as many as homes
-pub loads-count : (s : Source) (hs : List Home) → length (insns (loads s hs)) ≡ length hs
-loads-count s [] = refl
-loads-count s (h ∷ hs) = ap suc (loads-count s hs)
-
 stores-count : (s : Source) (hs : List Home) → length (insns (map (store s) hs)) ≡ length hs
 stores-count s [] = refl
 stores-count s (h ∷ hs) = ap suc (stores-count s hs)

@@ -1,7 +1,7 @@
 -- Where the steps of groups and stubs stand.
 use Rattle.std.proofs.Common.{◌≡◌, ℕ, suc, ◌+◌, ◌≤◌, Bool, true, false, if◌then◌else◌, List, [], ◌∷◌, ◌++◌}
 use Rattle.std.proofs.Common.{length, flat_map, refl, sym, ap, ◌∙◌, subst, arith, append_assoc}
-use Rattle.std.specs.Prelude.{Option, Some, None, Result, Ok, IsErr, is_some, cond, count_by, ◌==◌}
+use Rattle.std.specs.Prelude.{Result, Ok, IsErr, cond, count_by, ◌==◌}
 use Rattle.std.proofs.lemmas.Bool.{eq-eqb}
 use Rattle.std.proofs.lemmas.List.Concat.{flat_map-cons}
 use Rattle.std.proofs.lemmas.List.Sums.{sum_by-cons}
@@ -14,18 +14,16 @@ use Rattle.jc_decode.specs.Decoding.{decoded}
 use Rattle.jc_decode.specs.Listing.{listing, Lists}
 use Rattle.jc_decode.specs.Symbols.{IsOnce, is_label, place_of, steps_in}
 use Rattle.jc_decode.proofs.InstructionLists.{all-are-listed}
-use Rattle.jc_rules.specs.Demand.{Frame}
 use Rattle.xf_homes.specs.Source.{Source}
 use Rattle.xf_emission.specs.Emission.{items}
-use Rattle.xf_homes.specs.Plan.{stack_homes, is_leader, operation}
-use Rattle.xf_emission.specs.Move.{loads}
-use Rattle.xf_emission.specs.Group.{done, group_by, group}
+use Rattle.xf_emission.specs.Group.{group}
 use Rattle.xf_emission.specs.Laws.{of_place}
 use Rattle.xf_emission.proofs.GroupPlaces.{groups-stand}
 use Rattle.xf_emission.proofs.Once.{labels-stand-once}
 use Rattle.xf_emission.proofs.StubPlaces.{handlers-stand, stubs-stand}
 use Rattle.law_groups.specs.Laid.{count_of}
 use Rattle.law_groups.specs.Steps.{ItemsStandFrom, GroupsStandAtSteps, StubsStandAtSteps, HandlersStandAtSteps, GroupsFollow}
+use Rattle.law_rewritten_typing.proofs.Ordered.{group-head}
 
 -- ---- steps of items
 
@@ -81,9 +79,6 @@ handlers-stand-at-steps s n h code listed live =
 
 -- a label is no label of items before it that has it once
 module _ (l : ℕ) where
-  some-counted : (b : Bool) (n : ℕ) → n ≤ (if b then 1 else 0) + n
-  some-counted x n = grind (arith)
-
   counted-after : (before after : List Item) → 1 ≤ count_by (is_label l) (before ++ Label l ∷ after)
   counted-after [] after =
       let e = sum_by-cons (λ i. if is_label l i then 1 else 0) (Label l) after in
@@ -161,16 +156,6 @@ module _ (code : List ℕ) (lists : Lists code 0 (listing code)) where
       placed-is : (a b : Placed) → a.place ≡ b.place → a.insn ≡ b.insn → a ≡ b
       placed-is a b p q = ap (λ n. record { place = n; insn = a.insn }) p ∙ ap (λ n. record { place = b.place; insn = n }) q
 
--- the items of a group begin with its label
-pub group-begins :
-    (s : Source) (i : Placed) → is_some (s.frames i.place) ≡ true → (rest : List Item) × (group s i ≡ Label i.place ∷ rest)
-unfolding group
-group-begins s i reached = by (s.frames i.place) reached
-  where
-    by : (o : Option Frame) → is_some o ≡ true → (rest : List Item) × (group_by s i o ≡ Label i.place ∷ rest)
-    by None e = absurd (cc)
-    by (Some f) e = ((if is_leader s i.place then loads s (stack_homes s i.place) else []) ++ done s i (operation s i), refl)
-
 pub groups-follow : GroupsFollow
 groups-follow s i j code stands reached next also at =
     let g = groups-stand s code i stands reached in
@@ -178,7 +163,7 @@ groups-follow s i j code stands reached next also at =
     lists-after s.method.code 0 g.earlier i g.later (subst (Lists s.method.code 0) g.listed code.lists) in
     let d = (all-are-listed s.method.code).decodes j next in
     let l = starts-later s.method.code code.lists g.later (i.place + i.insn.len) j lists d at in
-    let b = group-begins s j also in
+    let b = group-head s j also in
     let tail : flat_map (group s) g.later ++ g.after
     ≡ Label j.place ∷ (b.0 ++ (flat_map (group s) l.0 ++ g.after)) =
     ap (λ ps. flat_map (group s) ps ++ g.after) l.1

@@ -57,20 +57,16 @@ use Rattle.law_groups.proofs.Standing.{GroupSteps, step-at, stand-as}
 use Rattle.law_groups.proofs.Following.{steps-here, next-place}
 use Rattle.law_groups.proofs.Called.{called}
 use Rattle.law_groups.proofs.Renaming.{renames-one-to-one}
+use Rattle.law_homes.proofs.Beside.{held-as}
 
 -- ---- frames
-
--- what a frame holds rests on its registers alone
-holds-over :
-    (s : Source) (values : List Cell) (g k : Frame Cell) → k.registers ≡ g.registers → (h : Home) → HoldsValue s values g h → HoldsValue s values k h
-holds-over s values g k e h held = grind (arith)
 
 each-over :
     (s : Source) (values : List Cell) (g k : Frame Cell) → k.registers ≡ g.registers → (hs : List Home)
     → Each (HoldsValue s values g) hs
     → Each (HoldsValue s values k) hs
 each-over s values g k e [] held = tt
-each-over s values g k e (h ∷ hs) held = (holds-over s values g k e h held.0, each-over s values g k e hs held.1)
+each-over s values g k e (h ∷ hs) held = (held-as s values g k h e held.0, each-over s values g k e hs held.1)
 
 -- the frames of a state in which a method runs
 pub frames-are : (t : State Cell) → IsRunning t → t.frames ≡ top t ∷ other_frames t.frames

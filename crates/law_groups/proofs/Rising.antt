@@ -18,8 +18,9 @@ use Rattle.xf_emission.proofs.GroupPlaces.{groups-stand}
 use Rattle.xf_emission.proofs.Once.{labels-stand-once}
 use Rattle.law_laid.proofs.Steps.{at-contains}
 use Rattle.law_groups.specs.Laid.{count_of, group_at}
-use Rattle.law_groups.proofs.Placing.{count-append, group-begins, place-once}
+use Rattle.law_groups.proofs.Placing.{count-append, place-once}
 use Rattle.jc_base.proofs.Lists.{slice_get-farther}
+use Rattle.law_rewritten_typing.proofs.Ordered.{group-head}
 
 -- ---- where an instruction stands in a listing
 
@@ -34,11 +35,6 @@ split-at (p ∷ ps) zero i e = let same : p ≡ i = cc in record { before = []; 
 split-at (p ∷ ps) (suc k) i e =
     let rest = split-at ps k i e in
     record { before = p ∷ rest.before; after = rest.after; parts = ap (λ qs. p ∷ qs) rest.parts }
-
-at-before : (before after : List Placed) (k : ℕ) (x : Placed) → slice_get before k ≡ Some x → slice_get (before ++ after) k ≡ Some x
-at-before [] after k x e = absurd (let lt = slice_get_within [] k x e in omega (arith, lt))
-at-before (b ∷ before) after zero x e = e
-at-before (b ∷ before) after (suc k) x e = at-before before after k x e
 
 -- a place in two lists one after the other is in the one or in the other
 pub data InParts (before after : List Placed) (k : ℕ) (x : Placed) : Type 0 where
@@ -82,7 +78,7 @@ module _ (s : Source) (code : IsCode s) where
           → group_at s i.place + count_of (group s i) ≤ group_at s j.place
       after-it n h =
           let l = split-at g.later n j h in
-          let b = group-begins s j also in
+          let b = group-head s j also in
           let before = g.before ++ (group s i ++ flat_map (group s) l.before) in
           let rest = b.0 ++ (flat_map (group s) l.after ++ g.after) in
           let tail : flat_map (group s) g.later ++ g.after ≡ flat_map (group s) l.before ++ (Label j.place ∷ rest) =

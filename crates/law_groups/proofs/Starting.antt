@@ -44,12 +44,14 @@ use Rattle.law_groups.specs.Beside.{AreEqualBut, AreOf, HeldOrWaits, IsTypedAt}
 use Rattle.law_groups.specs.Comes.{ComesToGroup, ComesWithin}
 use Rattle.law_groups.specs.Steps.{StartsStandAtSteps}
 use Rattle.law_groups.specs.Moves.{MovesRun}
-use Rattle.law_groups.proofs.Arriving.{at-step, beside, leader-holds, other-holds, same-count}
+use Rattle.law_groups.proofs.Arriving.{at-step, beside, leader-holds, other-holds}
 use Rattle.law_groups.proofs.Context.{here-at, method-of, reached-some, target-at}
 use Rattle.law_groups.proofs.Going.{group-inside}
 use Rattle.law_groups.proofs.Moving.{copies-move, count-moves, moves-stand}
-use Rattle.law_groups.proofs.Placing.{group-begins, place-once, starts-later, steps-append}
+use Rattle.law_groups.proofs.Placing.{place-once, starts-later, steps-append}
 use Rattle.law_groups.proofs.Plain.{frames-are}
+use Rattle.law_rewritten_typing.proofs.Ordered.{group-head}
+use Rattle.jc_rules.proofs.CellLists.{cells-length}
 
 module _ (s : Source) where
   -- what comes after the groups
@@ -65,7 +67,7 @@ starts-stand s i code stands reached zero_at =
     let cs = copies s Start 0 in
     let ls = all-are-listed s.method.code in
     let l = starts-later s.method.code code.lists (listing s.method.code) 0 i code.lists (ls.decodes i stands) zero_at in
-    let b = group-begins s i reached in
+    let b = group-head s i reached in
     let rest : List Item = b.0 ++ (flat_map (group s) l.0 ++ ending s) in
     let tail : flat_map (group s) (listing s.method.code) ++ ending s ≡ Label i.place ∷ rest =
     ap (λ ps. flat_map (group s) ps ++ ending s) l.1
@@ -140,7 +142,7 @@ module _
             → stack_of o ≡ []
         by None below = absurd below
         by (Some f) below =
-            let one = same-count v.classes below.stack in
+            let one = cells-length v.classes below.stack in
             let two : length (least_types v.classes Top (kinds z) (top z).stack) ≡ length (top z).stack = length-map (top z).stack _ in
             let three = ap length bare in
             ap reverse (nil_from_length f.stack (omega (arith, one, two, three)))

@@ -300,9 +300,6 @@ module _
           locals = same-locals s f.place f (top t) (top t1) refl (subst (λ (p : ℕ). HoldsLocals s p f (top t)) (sym b.here) b.held.locals);
         }
 
-    h0 : ℕ
-    h0 = word_of (nth tagged f.registers 0)
-
     value : List Cell
     value = value_in tagged fd.kind (object_cells z (word_of (nth tagged f.registers 0))) fd.cell
 

@@ -1,5 +1,6 @@
 -- What is known of a state beside a frame of the source: its homes, and the types of the cells that stand in them.
 use Rattle.std.proofs.Common.{◌≡◌, inl, inr, ℕ, zero, suc, ◌+◌, ◌<◌, ◌≤◌, List, [], ◌∷◌, ◌++◌, length, reverse}
+use Rattle.std.proofs.Common.{map}
 use Rattle.std.proofs.Common.{refl, sym, ap, ◌∙◌, subst, arith, length-append}
 use Rattle.std.specs.Prelude.{Option, Some, None, IsSomeAnd, is_some, slice_get}
 use Rattle.std.proofs.lemmas.List.{length-map, map-append}
@@ -35,6 +36,7 @@ use Rattle.law_homes.specs.Moves.{letter_of, CanLoad, OwnRegisters}
 use Rattle.law_homes.specs.Premises.{AreMoveLaws}
 use Rattle.law_homes.proofs.Copies.{homes-own-registers, wide}
 use Rattle.law_homes.proofs.Valued.{asked_types, asked-size, CellsAt, cells-moved, load-asked, load-filled, value-cells}
+use Rattle.jc_base.proofs.Lists.{slice_get-left}
 
 pub some-width : (ty : Ty) → 0 < type_width ty
 some-width ty = grind (arith)
@@ -67,18 +69,21 @@ pub held-as : (s : Source) (values : List Cell) (g k : Frame Cell) (h : Home) �
     → HoldsValue s values k h
 held-as s values g k h e held = grind (arith)
 
-pub get-left : (xs ys : List Cell) (n : ℕ) → n < length xs → slice_get (xs ++ ys) n ≡ slice_get xs n
-get-left [] ys n lt = absurd (omega (arith, lt))
-get-left (x ∷ xs) ys zero lt = refl
-get-left (x ∷ xs) ys (suc n) lt = get-left xs ys n (omega (arith, lt))
-
 -- a local among all slots
 pub held-in-slots : (s : Source) (f g : Frame Cell) (h : Home) → HoldsValue s f.registers g h → HoldsValue s (slots f) g h
-held-in-slots s f g h held = grind (arith, length-append, reverse, get-left)
+held-in-slots s f g h held = record {
+  known = let le = held.known in omega (arith, le, length-append f.registers (reverse f.stack));
+  there = held.there;
+  equal = λ n lt. held.equal n lt ∙ sym (slice_get-left f.registers (reverse f.stack) (h.slot + n) (let le = held.known in omega (arith, le, lt)));
+}
 
 pub held-in-registers : (s : Source) (f g : Frame Cell) (h : Home) → h.slot + type_width h.ty ≤ length f.registers → HoldsValue s (slots f) g h
     → HoldsValue s f.registers g h
-held-in-registers s f g h inside held = grind (arith, get-left, reverse)
+held-in-registers s f g h inside held = record {
+  known = inside;
+  there = held.there;
+  equal = λ n lt. held.equal n lt ∙ slice_get-left f.registers (reverse f.stack) (h.slot + n) (omega (arith, inside, lt));
+}
 
 module _ (v w : Linked) (l : AreMoveLaws v w) (s : Source) (is : s.world ≡ v) (plan : IsPlanned s) where
   pub serve : Serve s.world s.method s.frames s.homes

@@ -29,8 +29,11 @@ use Rattle.law_homes.specs.Moves.{letter_of, InstructionsStandFrom, IsAtStep}
 use Rattle.law_homes.proofs.Beside.{each-among, among-each, own, register-inside, register-small}
 use Rattle.law_homes.proofs.Beside.{cells-valued, held-as, get-left, placed-state}
 use Rattle.law_homes.specs.Premises.{AreMoveLaws}
+use Rattle.law_homes.proofs.Valued.{asked_types, CellsAt}
+use Rattle.law_homes.specs.Premises.{AreLaws}
 use Rattle.law_homes.proofs.Carrying.{same-letter, same-or-reference, ArePairs, no_pairs, more_pairs, cells-run}
 use Rattle.law_homes.proofs.Edging.{home-same}
+use Rattle.jc_base.proofs.Lists.{slice_get-left}
 
 module _ (v w : Linked) (l : AreMoveLaws v w) (place : ℕ → ℕ) (steps : List Step) (s : Source) (is : s.world ≡ v) (plan : IsPlanned s) (q : ℕ)
     (f : Frame Cell) (keeps : KeepsStack s.world s.method s.frames q) where
@@ -125,9 +128,9 @@ starts-hold v serves s f g args a b is plan left right count x = by (value_in_ce
         let inside = value-width (argument_types s.method.rec) x ty (value-is (argument_types s.method.rec) x ty e) in
         let own : register s h ≡ x = ap or_first ((subst HomesServe (sym is) serves s.method s.frames s.homes plan.homes).arguments h e) in
         let first : (n : ℕ) → n < type_width ty → slice_get f.registers (x + n) ≡ slice_get args (x + n) =
-        λ n lt. ap (λ (rs : List Cell). slice_get rs (x + n)) left ∙ get-left args (replicate a Empty) (x + n) (omega (arith, lt, inside, count)) in
+        λ n lt. ap (λ (rs : List Cell). slice_get rs (x + n)) left ∙ slice_get-left args (replicate a Empty) (x + n) (omega (arith, lt, inside, count)) in
         let second : (n : ℕ) → n < type_width ty → slice_get g.registers (x + n) ≡ slice_get args (x + n) =
-        λ n lt. ap (λ (rs : List Cell). slice_get rs (x + n)) right ∙ get-left args (replicate b Empty) (x + n) (omega (arith, lt, inside, count)) in
+        λ n lt. ap (λ (rs : List Cell). slice_get rs (x + n)) right ∙ slice_get-left args (replicate b Empty) (x + n) (omega (arith, lt, inside, count)) in
         record {
           known = omega (arith, inside, count, ap length left, length-append args (replicate a Empty));
           there = omega (arith, own, inside, count, ap length right, length-append args (replicate b Empty));

@@ -37,6 +37,8 @@ use Rattle.law_homes.proofs.Leading.{insns-loads}
 use Rattle.law_homes.proofs.Beside.{each-among, among-each, typed, count-registers, count-stack, stack-fits, cells-valued, register-small}
 use Rattle.law_homes.specs.Premises.{AreMoveLaws}
 use Rattle.law_homes.proofs.Beside.{held-can-load, get-left}
+use Rattle.law_homes.specs.Premises.{AreLaws}
+use Rattle.jc_base.proofs.Lists.{slice_get-left}
 
 -- ---- values that are loaded
 
@@ -107,11 +109,19 @@ slots-to n (k ∷ hs) follow h (inr a) =
 -- a value among cells, and among more of them
 grown : (s : Source) (xs ys : List Cell) (g : Frame Cell) (h : Home) → h.slot + type_width h.ty ≤ length xs → HoldsValue s xs g h
     → HoldsValue s (xs ++ ys) g h
-grown s xs ys g h inside held = grind (arith, length-append, get-left)
+grown s xs ys g h inside held = record {
+  known = omega (arith, inside, length-append xs ys);
+  there = held.there;
+  equal = λ n lt. held.equal n lt ∙ sym (slice_get-left xs ys (h.slot + n) (omega (arith, inside, lt)));
+}
 
 cut-back : (s : Source) (xs ys : List Cell) (g : Frame Cell) (h : Home) → h.slot + type_width h.ty ≤ length xs → HoldsValue s (xs ++ ys) g h
     → HoldsValue s xs g h
-cut-back s xs ys g h inside held = grind (arith, get-left)
+cut-back s xs ys g h inside held = record {
+  known = inside;
+  there = held.there;
+  equal = λ n lt. held.equal n lt ∙ slice_get-left xs ys (h.slot + n) (omega (arith, inside, lt));
+}
 
 among-left : (h : Home) (hs ks : List Home) → IsAmong h hs → IsAmong h (hs ++ ks)
 among-left h [] ks a = absurd a

@@ -15,7 +15,6 @@ use Rattle.jc_ops.specs.declared.operation.Operation.TheVariants as ops
 use Rattle.jc_ops.specs.declared.operation.Sort.{Sort}
 use Rattle.jc_ops.specs.declared.operation.Sort.TheVariants as sorts
 use Rattle.vm_store.specs.declared.cell.Cell.{Cell}
-use Rattle.vm_store.specs.declared.kind.ObjectKind.{ObjectKind}
 use Rattle.vm_store.specs.Cells.{tagged}
 use Rattle.vm_store.specs.State.{State, Frame, Object, first_frame, top, with_place}
 use Rattle.vm_step.specs.Methods.{code_at, max_stack_of}
@@ -49,6 +48,7 @@ use Rattle.law_homes.proofs.Beside.{each-among, among-each, own, register-inside
 use Rattle.law_homes.proofs.Beside.{typed, count-registers, count-stack, stack-fits, placed-state}
 use Rattle.law_homes.specs.Premises.{AreMoveLaws}
 use Rattle.law_homes.proofs.Beside.{cells-valued, held-as}
+use Rattle.jc_base.proofs.Eaching.{IsAmong-append_cases}
 
 -- a store into a home
 abbrev pub store_of : Source → Home → Insn
@@ -73,9 +73,6 @@ module _
 
   abbrev at : ℕ → List Cell → List Cell → State Cell
   at p registers stack = record { frames = frame p registers stack ∷ below; heap = heap; statics = statics }
-
-  abbrev ks_now : List ObjectKind
-  ks_now = map (λ (o : Object Cell). o.kind) heap
 
   store-is :
       (letter : Sort) (slot r p q : ℕ) (registers stack : List Cell)
@@ -138,16 +135,6 @@ module _
     pub others :
         (cells : List Cell) (a : Home) → HasRegister s.homes a → ((k : Home) → IsAmong k ks → a ≡ k → ⊥)
         → HoldsValue s cells (frame 0 registers []) a → HoldsValue s cells (frame 0 after []) a
-
-  depth-piled : (ks : List Home) (stack : List Cell) → length stack ≤ length (piled values ks stack)
-  depth-piled [] stack = omega arith
-  depth-piled (k ∷ ks) stack = by (letter_of k.ty) (depth-piled ks stack)
-    where
-      by : (letter : Sort) → length stack ≤ length (piled values ks stack)
-          → length stack ≤ length (value_in_register letter k.slot values ++ piled values ks stack)
-      by sorts.Reference le = omega (arith, le)
-      by sorts.Short le = omega (arith, le)
-      by sorts.Int le = omega (arith, le)
 
   more-piled : (k : Home) (ks : List Home) (stack : List Cell) → length (piled values ks stack) ≤ length (piled values (k ∷ ks) stack)
   more-piled k ks stack = by (letter_of k.ty)
@@ -223,15 +210,6 @@ among-last h (k ∷ hs) ks (inl (inl e)) = inl e
 among-last h (k ∷ hs) ks (inl (inr a)) = inr (among-last h hs ks (inl a))
 among-last h (k ∷ hs) ks (inr a) = inr (among-last h hs ks (inr a))
 
-among-first : (h : Home) (hs ks : List Home) → IsAmong h (hs ++ ks) → IsAmong h hs ⊎ IsAmong h ks
-among-first h [] ks a = inr a
-among-first h (k ∷ hs) ks (inl e) = inl (inl e)
-among-first h (k ∷ hs) ks (inr a) = by (among-first h hs ks a)
-  where
-    by : IsAmong h hs ⊎ IsAmong h ks → IsAmong h (k ∷ hs) ⊎ IsAmong h ks
-    by (inl b) = inl (inr b)
-    by (inr b) = inr b
-
 pub among-reverse : (h : Home) (hs : List Home) → IsAmong h hs → IsAmong h (reverse hs)
 among-reverse h [] a = absurd a
 among-reverse h (k ∷ hs) (inl e) = subst (IsAmong h) (sym (turned-cons k hs)) (among-last h (reverse hs) (k ∷ []) (inr (inl e)))
@@ -239,7 +217,7 @@ among-reverse h (k ∷ hs) (inr b) = subst (IsAmong h) (sym (turned-cons k hs)) 
 
 pub reverse-among : (h : Home) (hs : List Home) → IsAmong h (reverse hs) → IsAmong h hs
 reverse-among h [] a = a
-reverse-among h (k ∷ hs) a = by (among-first h (reverse hs) (k ∷ []) (subst (IsAmong h) (turned-cons k hs) a)) (reverse-among h hs)
+reverse-among h (k ∷ hs) a = by (IsAmong-append_cases h (reverse hs) (k ∷ []) (subst (IsAmong h) (turned-cons k hs) a)) (reverse-among h hs)
   where
     by : IsAmong h (reverse hs) ⊎ IsAmong h (k ∷ []) → (IsAmong h (reverse hs) → IsAmong h hs) → IsAmong h (k ∷ hs)
     by (inl b) rest = inr (rest b)

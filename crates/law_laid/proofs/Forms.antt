@@ -6,7 +6,6 @@ use Rattle.std.specs.List.{list_all, range_with_len}
 use Rattle.std.proofs.lemmas.Bool.{eqb-true, and_parts}
 use Rattle.std.proofs.lemmas.Bool.Decides.{nat_tests}
 use Rattle.std.proofs.lemmas.List.{get_or-set_other, get_or_past}
-use Rattle.std.proofs.lemmas.List.FromFn.{get_or-map-range_with_len}
 use Rattle.std.proofs.Math.ListN.{get_or-map}
 use Rattle.jc_base.specs.declared.record.Member.{Member}
 use Rattle.jc_base.specs.declared.record.Member.TheVariants.{ClassOf}
@@ -28,6 +27,7 @@ use Rattle.jc_ops.specs.Row.{table, row_at, unused, by_sort, by_width, by_kind, 
 use Rattle.jc_ops.specs.Resolve.{short_of, new_object, resolved, Resolves}
 use Rattle.jc_ops.specs.Sound.{IsSound, OperationsAreSound}
 use Rattle.law_laid.proofs.Operations.{operation_renamed}
+use Rattle.jc_decode.proofs.Passed.{at-op, by-size}
 
 -- ---- opcodes that are no byte
 
@@ -101,19 +101,6 @@ module _ (x y z : ℤ) (len : ℕ) where
       ≡ map (λ op. resolved w m place (insn op) (row_at op)) (range_with_len 0 256)
   unfolding layout_of opcode row_at table by_sort by_width by_kind first_four by_register literals binaries orders_all branching unused
   table-forms w m place = refl
-
-pub at-op : {X : Type 0} (f g : ℕ → X) → map f (range_with_len 0 256) ≡ map g (range_with_len 0 256) → (op : ℕ) → op < 256 → X → f op ≡ g op
-at-op f g e op lt d =
-    sym (get_or-map-range_with_len f 0 256 op op d lt (omega arith))
-    ∙ ap (λ xs. get_or xs op d) e
-    ∙ get_or-map-range_with_len g 0 256 op op d lt (omega arith)
-
-pub by-size : {X : Type 0} (op : ℕ) → (op < 256 → X) → (255 < op → X) → X
-by-size {X = X} op small large = go (nat_le op 255) refl
-  where
-    go : (b : Bool) → nat_le op 255 ≡ b → X
-    go true e = small (grind (arith, nat_tests, e))
-    go false e = large (grind (arith, nat_tests, e))
 
 pub falls-form : (i : Insn) → falls (essence i).op ≡ falls i.op
 falls-form i = by-size i.op

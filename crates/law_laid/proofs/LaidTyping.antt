@@ -1,7 +1,7 @@
 -- Laid code has the card typing of its symbols.
 use Rattle.std.proofs.Common.{◌≡◌, ℕ, suc, ◌+◌, ◌-◌, ◌<◌, ◌≤◌, Bool, true, false, if◌then◌else◌, List, [], length, map, Option}
 use Rattle.std.proofs.Common.{Some, None, IsSomeAnd, IfSome, Ok, slice_get, All, Contains, inl, inr, refl, sym, ◌∙◌, ap, subst, arith}
-use Rattle.std.specs.Prelude.{ℤ, pos, nat_le}
+use Rattle.std.specs.Prelude.{pos, nat_le}
 use Rattle.std.proofs.lemmas.Bool.Decides.{nat_tests}
 use Rattle.std.proofs.lemmas.List.{length-map}
 use Rattle.std.proofs.lemmas.Simd.{map-map}
@@ -335,9 +335,6 @@ module _
         }
 
     -- ---- targets
-
-    leads_to_places : Step → List ℤ
-    leads_to_places s = map (λ t. pos (place t)) s.targets
 
     target-inside : (i : Placed) (x : IsStepOf i) (t : ℕ) → Contains x.step.targets t → t < count
     target-inside i x t c =

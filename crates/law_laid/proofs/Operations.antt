@@ -38,9 +38,7 @@ use Rattle.jc_rules.specs.declared.demand.Demand.{Demand}
 use Rattle.jc_rules.specs.declared.demand.Demand.TheVariants.{Cell, Held}
 use Rattle.jc_rules.specs.declared.effect.Cells.{Cells}
 use Rattle.jc_rules.specs.declared.effect.Cells.TheVariants as given
-use Rattle.jc_rules.specs.declared.effect.Change.{Change}
 use Rattle.jc_rules.specs.declared.effect.Change.TheVariants.{Replace, MakeReady}
-use Rattle.jc_rules.specs.declared.effect.Effect.{Effect}
 use Rattle.jc_rules.specs.declared.effect.Mode.TheVariants.{Flow}
 use Rattle.jc_rules.specs.declared.rule.Outcome.{Outcome}
 use Rattle.jc_rules.specs.Effect.{changed, reg, WritesRegister, WritesCells, StoresInRegisters}
@@ -196,9 +194,6 @@ module _ (f : ℕ → ℕ) where
   ready-with-alike taken cells (Fresh p c) (Receiver d) e = ap (λ x. MakeReady taken (f p) d x) (sym e)
   ready-with-alike taken cells (Fresh p c) _ e = ap (λ x. Replace taken x) (sym e)
   ready-with-alike taken cells _ _ e = ap (λ x. Replace taken x) (sym e)
-
-  on_change : Change → Effect
-  on_change change = record { change = change; store = record { register = 0; cells = given.Nothing } }
 
   call-alike : (args : List Ty) (result : Option Ty) (receiver : Option Want) (g : Frame) → given_renamed f (result_given result) ≡ result_given result
       → call_effect args result receiver (frame_renamed f g) ≡ effect_renamed f (call_effect args result receiver g)

@@ -24,7 +24,7 @@ use Rattle.jc_base.proofs.Climbs.{chain-front, on_chain-class}
 use Rattle.jc_base.proofs.Dispatches.{on_chain-from_Below, are_dispatched, public_read}
 use Rattle.jc_base.proofs.Lists.{All-slice_get, IfSome-is, IsSomeAnd-some}
 use Rattle.jc_base.proofs.Objects.{public-methods_run}
-use Rattle.jc_base.proofs.Subtypes.{Below-from_is_below}
+use Rattle.jc_base.proofs.Subtypes.{below_class}
 use Rattle.jc_base.proofs.Tests.{found-passes, test-from_some}
 use Rattle.jc_base.proofs.Eaching.{Contains-from_IsAmong, IsAmong-append_cases}
 use Rattle.vm_step.specs.Calls.{interfaces_of, serving, served}
@@ -75,10 +75,6 @@ among-mapped g (x ∷ xs) y h = elim (IsAmong-append_cases y (g x) (flat_map g x
 ]
 
 module _ (w : Linked) (world : IsWorld w) where
-  Below-from_on_chain : (c d : ℕ) → is_on_chain w.classes d c ≡ true → Below w.classes (Class c) (Class d)
-  unfolding is_below
-  Below-from_on_chain c d on = Below-from_is_below w.classes world.chains (Class c) (Class d) on
-
   -- a method of a class, with a body, has code
   pub class-code : (r : ℕ) (m : MethodRec) → IsClass w.classes r → Below w.classes (Class r) (Class m.class) → m.is_abstract ≡ false
       → lacks_code w.classes m ≡ false
@@ -182,7 +178,7 @@ module _ (w : Linked) (world : IsWorld w) where
       sym (ap (option_and_then (signature_at w.methods s.record_of.public)) (ap (slice_get e.tokens) at ∙ told)) ∙ serves in
       option_and_then_some (signature_of w.methods) (slice_get s.record_of.public public) o.sig signature
       (λ x first sig.
-      let below : Below t (Class r) (Class a) = Below-from_on_chain r a from.1 in
+      let below : Below t (Class r) (Class a) = below_class w.classes world.chains r a from.1 in
       let runs : RunsPublic t w.methods r public x =
       public-methods_run (length w.infos) t w.methods world.chains world.classes r a public x below
       (ap (λ xs. slice_get xs public) (public_read t a s.record_of s.is_record) ∙ first) in

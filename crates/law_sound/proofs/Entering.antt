@@ -3,7 +3,7 @@ use Rattle.std.proofs.Common.{◌≡◌, ℕ, zero, suc, ◌+◌, ◌-◌, min, 
 use Rattle.std.proofs.Common.{map, reverse, take, drop, replicate, refl, sym, ap, ◌∙◌, subst, arith, length-append}
 use Rattle.std.specs.Prelude.{Some, slice_get}
 use Rattle.std.proofs.lemmas.Bool.{MatchBool-at_false}
-use Rattle.std.proofs.lemmas.List.{map-append, length-map, length-take, length-drop, reverse-append}
+use Rattle.std.proofs.lemmas.List.{map-append, length-map, length-take, length-drop}
 use Rattle.std.proofs.lemmas.List.Elements.{All-nil}
 use Rattle.jc_base.specs.declared.ty.Ty.{Ty}
 use Rattle.jc_base.specs.declared.ty.Ty.TheVariants.{Class}
@@ -33,13 +33,9 @@ use Rattle.law_sound.specs.Soundness.{AreTypings}
 use Rattle.law_sound.proofs.CellTypes.{some-weaker}
 use Rattle.law_sound.proofs.Places.{place-instruction}
 use Rattle.law_sound.proofs.Turns.{frame-trans}
+use Rattle.jc_rules.proofs.Stacks.{map-reverse}
 
 -- ---- lists
-
-map-reverse : {X Y : Type 0} (g : X → Y) (xs : List X) → map g (reverse xs) ≡ reverse (map g xs)
-map-reverse g [] = refl
-map-reverse g (x ∷ xs) =
-    grind (arith, reverse-append (x ∷ []) xs, map-append g (reverse xs) (x ∷ []), map-reverse g xs, reverse-append (g x ∷ []) (map g xs))
 
 map-replicate : {X Y : Type 0} (g : X → Y) (n : ℕ) (x : X) → map g (replicate n x) ≡ replicate n (g x)
 map-replicate g zero x = refl

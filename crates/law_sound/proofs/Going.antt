@@ -1,6 +1,7 @@
 -- An operation falls and jumps as its instruction does, whatever its opcode.
 use Rattle.std.proofs.Common.{◌≡◌, ℕ, ◌≤◌, true, false, inl, inr, length, refl, sym, ap, ◌∙◌, arith}
 use Rattle.std.specs.Prelude.{IsTrue, Ok}
+use Rattle.std.specs.Prelude.{Result}
 use Rattle.std.proofs.lemmas.Bool.Decides.{nat_tests}
 use Rattle.std.proofs.lemmas.Bool.{cases_lt}
 use Rattle.std.proofs.lemmas.List.{get_or_past}
@@ -14,17 +15,15 @@ use Rattle.jc_ops.specs.declared.operation.Constant.TheVariants as constants
 use Rattle.jc_ops.specs.Row.{table, row_at, unused, by_sort, by_width, by_kind}
 use Rattle.jc_ops.specs.Row.{first_four, by_register, literals, binaries, orders_all, branching}
 use Rattle.jc_ops.specs.Resolve.{Resolves}
+use Rattle.jc_ops.specs.Resolve.{resolved}
 use Rattle.jc_ops.specs.Next.{falls_from, jumps_from}
 use Rattle.jc_ops.proofs.Going.{operations-go-alike}
-
-table-length : length table ≡ 256
-unfolding table by_sort by_width by_kind first_four by_register literals binaries orders_all branching unused
-table-length = refl
+use Rattle.jc_ops.proofs.Rows.{length-table}
 
 -- past the table nothing is an instruction
 past-row : (op : ℕ) → 256 ≤ op → row_at op ≡ unused
 unfolding row_at
-past-row op h = get_or_past table op unused (omega (arith, h, table-length))
+past-row op h = get_or_past table op unused (omega (arith, h, length-table))
 
 past-falls : (op : ℕ) → 256 ≤ op → falls op ≡ true
 past-falls op h = grind (arith, nat_tests)

@@ -29,14 +29,6 @@ module _ (t : ClassTable) (are : AreClasses t) where
   seen-by : (c : ℕ) (b : Bool) → is_interface t c ≡ b → (if b then object t else c) ≡ class_in_types t c
   seen-by c b e = ap (λ x. if x then object t else c) (sym e)
 
-  -- the class that stands for a class or an interface of the table is a class
-  seen-class : (c : ℕ) → c < length t.records → IsClass t (class_in_types t c)
-  seen-class c lt = go (is_interface t c) refl
-    where
-      go : (b : Bool) → is_interface t c ≡ b → IsClass t (if b then object t else c)
-      go true e = are.objects
-      go false e = record { number = lt; class = e }
-
   pub seen-itself : (c : ℕ) → IsClass t c → c ≡ class_in_types t c
   seen-itself c is = seen-by c false is.class
 

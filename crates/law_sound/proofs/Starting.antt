@@ -37,7 +37,7 @@ use Rattle.vm_store.specs.State.{Object, State}
 use Rattle.vm_store.specs.Objects.{repeated}
 use Rattle.vm_store.specs.Value.{byte_of_word}
 use Rattle.vm_store.specs.Laws.{CellsHave, IsTypedObject, cell_types}
-use Rattle.vm_store.proofs.NewObjects.{have-both}
+use Rattle.vm_store.proofs.NewObjects.{have-both, cells-kept}
 use Rattle.vm_step.specs.declared.start_fault.StartFault.{StartFault}
 use Rattle.vm_step.specs.Arguments.{Argument, number, null as no_object, bytes}
 use Rattle.vm_step.specs.Objects.{kind_of_type}
@@ -51,7 +51,6 @@ use Rattle.law_sound.specs.Soundness.{AreTypings, StartsAreTyped}
 use Rattle.law_sound.specs.Handed.{nargs_of, StartsHandAll}
 use Rattle.law_sound.proofs.Handles.{kinds_of, kind-type, new-kind, kinds-more}
 use Rattle.law_sound.proofs.References.{null-reference}
-use Rattle.law_sound.proofs.Stores.{have-more}
 use Rattle.law_sound.proofs.Entering.{entered-typed, method-known}
 use Rattle.law_sound.proofs.Finish.{IsTypedStore}
 
@@ -181,7 +180,9 @@ module _ (w : Linked) (world : IsWorld w) where
 
 module _ (w : Linked) where
   object-more : (ks more : List ObjectKind) (os : List (Object Cell)) → All (IsTypedObject w.classes ks) os → All (IsTypedObject w.classes (ks ++ more)) os
-  object-more ks more os h = grind (arith, have-more)
+  object-more ks more os h =
+      All-weaker (IsTypedObject w.classes ks) (IsTypedObject w.classes (ks ++ more))
+      (λ o typed. cells-kept w.classes ks more o.cells (cell_types w.classes o.kind (length o.cells)) typed) os h
 
   store-more : (heap : List (Object Cell)) (statics : List Cell) (bs : List ℕ) → IsTypedStore w heap statics
       → IsTypedStore w (heap ++ record { kind = kinds.Bytes; cells = map (λ b. cells.Short (byte_of_word b)) bs } ∷ []) statics
@@ -194,7 +195,8 @@ module _ (w : Linked) where
         objects = subst (λ ks. All (IsTypedObject w.classes ks) (heap ++ o ∷ [])) same
             (All-append (IsTypedObject w.classes more) heap (o ∷ []) (object-more (kinds_of heap) (kinds.Bytes ∷ []) heap store.objects)
             (All-cons (IsTypedObject w.classes more) o [] (shorts-have w.classes more byte_of_word bs) (All-nil (IsTypedObject w.classes more))));
-        fields = grind (arith, have-more, kinds_of);
+        fields = subst (λ ks. CellsHave w.classes ks statics (static_types w.statics)) same
+            (cells-kept w.classes (kinds_of heap) (kinds.Bytes ∷ []) statics (static_types w.statics) store.fields);
       }
 
   arrays-store : (args : List Argument) (heap : List (Object Cell)) (statics : List Cell) → IsTypedStore w heap statics

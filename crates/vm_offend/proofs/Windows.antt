@@ -51,19 +51,6 @@ module _ (methods : List MethodRec) (ws : List ℕ) (len : length ws ≡ 513) (f
       let cells : drop 258 (set ws 1 place) ≡ drop 258 ws = drop-set-lt 258 ws 1 place (omega arith) in
       cc
 
-  pub placed_fits : (place : ℕ) → FitsWindow methods (set ws 1 place)
-  placed_fits place =
-      let zero_kept : get_or (set ws 1 place) 0 0 ≡ get_or ws 0 0 = get_or-set_other ws 1 0 place 0 (omega arith) in
-      let depth_kept : get_or (set ws 1 place) 2 0 ≡ get_or ws 2 0 = get_or-set_other ws 1 2 place 0 (omega arith) in
-      record {
-        registers = rw zero_kept fits.registers;
-        stack = rw depth_kept fits.stack;
-      }
-
-  -- the words after a push
-  pub pushed_words : ℕ → List ℕ
-  pushed_words cell = set (set ws (258 + get_or ws 2 0) cell) 2 (get_or ws 2 0 + 1)
-
   module _ (cell : ℕ) (room : length (frame_in methods ws).stack < 255) where
     pub below : get_or ws 2 0 < 255
     below = omega (arith, depth_is)
@@ -219,16 +206,6 @@ module _ (methods : List MethodRec) (ws : List ℕ) (len : length ws ≡ 513) (f
         ap (take (get_or ws 2 0)) (drop_at (take 258 ws) rest 258 front) ∙ take_at ys (drop n (drop 258 ws)) (get_or ws 2 0) size in
         cc
 
-    pub restacked_fits : FitsWindow methods (put_mid 258 n ws ys)
-    restacked_fits =
-        let rest = ys ++ drop n (drop 258 ws) in
-        let m : get_or (take 258 ws ++ rest) 0 0 ≡ get_or ws 0 0 = word_before rest 0 (omega arith) in
-        let d : get_or (take 258 ws ++ rest) 2 0 ≡ get_or ws 2 0 = word_before rest 2 (omega arith) in
-        record {
-          registers = rw m fits.registers;
-          stack = rw d fits.stack;
-        }
-
   -- the top cells of the stack, in the order in which they were pushed
   pub last_is :
       (count : ℕ) → count ≤ length (frame_in methods ws).stack
@@ -285,9 +262,6 @@ module _ (methods : List MethodRec) (ws args : List ℕ) (method : ℕ) (len : l
     (written : take (register_count methods method) (drop 3 ws) ≡ take (register_count methods method)
     (args ++ replicate (register_count methods method - length args) 0))
   where
-    begun_words : List ℕ
-    begun_words = set (set (set ws 0 method) 1 0) 2 0
-
     begun_method : get_or (set (set (set ws 0 method) 1 0) 2 0) 0 0 ≡ method
     begun_method =
         get_or-set_other (set (set ws 0 method) 1 0) 2 0 0 0 (omega arith)

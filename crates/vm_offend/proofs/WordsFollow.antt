@@ -33,7 +33,7 @@ use Rattle.vm_step.specs.declared.ending.Ending.{Ending}
 use Rattle.vm_step.specs.declared.ending.Ending.TheVariants.{Plain}
 use Rattle.vm_step.specs.declared.ending.Fault.{Fault}
 use Rattle.vm_step.specs.declared.ending.Fault.TheVariants.{StackFault, JumpFault}
-use Rattle.vm_step.specs.Act.{Act, goes, jumps, makes, gives}
+use Rattle.vm_step.specs.Act.{Act, jumps, gives}
 use Rattle.vm_step.specs.Methods.{of_method, code_at, instruction_at, max_stack_of}
 use Rattle.vm_step.specs.Performed.{act}
 use Rattle.vm_step.specs.Raising.{Outcome, running, ended, ends}

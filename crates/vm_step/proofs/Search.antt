@@ -1,12 +1,11 @@
 -- A search along the interfaces that others extend.
-use Rattle.std.proofs.Common.{◌≡◌, ◌+◌, ◌<◌, ◌≤◌, ◌⊎◌, inl, inr, ℕ, zero, suc, ◌==◌, Bool, true, false, List, [], ◌∷◌}
+use Rattle.std.proofs.Common.{◌≡◌, ◌<◌, ◌≤◌, ◌⊎◌, inl, inr, ℕ, zero, suc, ◌==◌, Bool, true, false, List, [], ◌∷◌}
 use Rattle.std.proofs.Common.{length, map, take, set, get_or, replicate, refl, sym, ap, ◌∙◌, subst, arith}
 use Rattle.std.specs.Prelude.{Some, All, Contains, MatchBool, ◌||◌, if◌then◌else◌, slice_get}
 use Rattle.std.specs.List.{list_any}
 use Rattle.std.proofs.lemmas.Bool.{false≢true, false_from_ne_true, or_left, or_right, or_from}
 use Rattle.std.proofs.Math.ListN.{get_or-map}
 use Rattle.std.proofs.lemmas.List.{length-map, take_all}
-use Rattle.std.proofs.lemmas.List.Folds.{list_any_more}
 use Rattle.jc_base.specs.declared.record.Iface.{Iface}
 use Rattle.jc_base.specs.declared.record.ClassRec.{ClassRec}
 use Rattle.jc_base.specs.declared.record.MethodRec.{MethodRec}
@@ -61,15 +60,6 @@ left-more t sought i searched left here = record {
     | inr more ↦ left.each n more
   ];
 }
-
--- one interface more leads to nothing
-pub none-more :
-    (t : ClassTable) (sought : ℕ) (xs : List Iface) (i : ℕ) (e : Iface)
-    → NoneExtends t sought (take i xs) → i < length xs → e ≡ get_or xs i e → is_or_extends t e.class sought ≡ false
-    → NoneExtends t sought (take (i + 1) xs)
-none-more t sought xs i e so_far lt is here =
-    let p : Iface → Bool = λ x. is_or_extends t x.class sought in
-    record { none = list_any_more p xs i e lt ∙ or_from (list_any p (take i xs)) (p (get_or xs i e)) so_far.none (sym (ap p is) ∙ here) }
 
 pub none-all : (t : ClassTable) (sought : ℕ) (xs : List Iface) (n : ℕ) → NoneExtends t sought (take n xs) → length xs ≤ n → NoneExtends t sought xs
 none-all t sought xs n h enough = subst (NoneExtends t sought) (take_all n xs enough) h
@@ -163,17 +153,6 @@ pub named-is :
 named-is t i sought r class e =
     ap (list_any (λ x. is_or_extends t x sought)) (implemented-is t i r e (record-class t i r class e))
     ∙ any-map (λ x. is_or_extends t x sought) r.implements
-
-pub named-known :
-    (t : ClassTable) (packages : ℕ) (methods : List MethodRec) (i : ℕ) (r : ClassRec) → IsClass t i → slice_get t.records i ≡ Some r
-    → IsLinkedClass packages t methods i r → (k : ℕ) (e : Iface) → k < length r.implements → e ≡ get_or r.implements k e
-    → e.class < length t.records
-named-known t packages methods i r class at linked k e lt is =
-    let all : All (IsImplemented t methods r.public) r.implements =
-    subst (λ b. MatchBool b (All (IsExtended t) r.implements) (All (IsImplemented t methods r.public) r.implements)) (record-class t i r class at)
-    linked.implements in
-    let here : IsImplemented t methods r.public e = subst (IsImplemented t methods r.public) (sym is) (all k e lt) in
-    here.number
 
 pub any-found : (p : Iface → Bool) (xs : List Iface) (k : ℕ) (e : Iface) → k < length xs → e ≡ get_or xs k e → p e ≡ true
     → list_any p xs ≡ true

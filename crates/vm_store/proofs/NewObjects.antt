@@ -41,7 +41,7 @@ module _ (t : ClassTable) where
   type-kept ks more c ty (reference {h = h} {k = k} e b) = reference (slice_get-front ks more h k e) b
   type-kept ks more c ty (fresh {h = h} {c = class} e) = fresh (slice_get-front ks more h (Instance class) e)
 
-  cells-kept : (ks more : List ObjectKind) (cs : List Cell) (types : List Ty) → CellsHave t ks cs types → CellsHave t (ks ++ more) cs types
+  pub cells-kept : (ks more : List ObjectKind) (cs : List Cell) (types : List Ty) → CellsHave t ks cs types → CellsHave t (ks ++ more) cs types
   cells-kept ks more [] [] h = h
   cells-kept ks more [] (ty ∷ types) h = absurd h
   cells-kept ks more (c ∷ cs) [] h = absurd h

@@ -2,6 +2,7 @@
 use Rattle.std.proofs.Common.{◌≡◌, suc, ◌≤◌, ◌⊎◌, inl, inr, List, [], ◌∷◌, ◌++◌, length, refl, sym, ◌∙◌, ap, subst, arith}
 use Rattle.std.specs.Prelude.{⊤}
 use Rattle.jc_base.specs.Each.{IsAmong}
+use Rattle.jc_base.proofs.Eaching.{IsAmong-append_cases}
 
 -- none stands twice
 abbrev pub Distinct : {X : Type 0} → List X → Type 0
@@ -37,18 +38,9 @@ module _ {X : Type 0} where
       let rest = no-longer xs (without ys x a) d.1 (λ z b. still-among ys x z a (inside z (inr b)) (λ e. d.0 (subst (λ y. IsAmong y xs) (sym e) b))) in
       omega (arith, rest, without-length ys x a)
 
-  among-both : (xs ys : List X) (z : X) → IsAmong z (xs ++ ys) → IsAmong z xs ⊎ IsAmong z ys
-  among-both [] ys z a = inr a
-  among-both (x ∷ xs) ys z (inl e) = inl (inl e)
-  among-both (x ∷ xs) ys z (inr a) = by (among-both xs ys z a)
-    where
-      by : IsAmong z xs ⊎ IsAmong z ys → IsAmong z (x ∷ xs) ⊎ IsAmong z ys
-      by (inl b) = inl (inr b)
-      by (inr b) = inr b
-
   pub either-among : (P : X → Type 0) (xs ys : List X) → ((x : X) → IsAmong x xs → P x) → ((x : X) → IsAmong x ys → P x) → (x : X)
       → IsAmong x (xs ++ ys) → P x
-  either-among P xs ys left right x a = by (among-both xs ys x a)
+  either-among P xs ys left right x a = by (IsAmong-append_cases x xs ys a)
     where
       by : IsAmong x xs ⊎ IsAmong x ys → P x
       by (inl b) = left x b
@@ -57,7 +49,7 @@ module _ {X : Type 0} where
   pub distinct-append : (xs ys : List X) → Distinct xs → Distinct ys → ((z : X) → IsAmong z xs → IsAmong z ys → ⊥) → Distinct (xs ++ ys)
   distinct-append [] ys d e apart = e
   distinct-append (x ∷ xs) ys d e apart = (
-    λ a. by (among-both xs ys x a),
+    λ a. by (IsAmong-append_cases x xs ys a),
     distinct-append xs ys d.1 e (λ z b c. apart z (inr b) c),
   )
     where

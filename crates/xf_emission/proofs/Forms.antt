@@ -1,6 +1,6 @@
 -- The form of an instruction by its opcode: what of it is emitted anew keeps to the operands that its opcode allows.
-use Rattle.std.proofs.Common.{◌≡◌, ◌<◌, ◌-◌, ℕ, Bool, true, false, Result, Ok, Err, refl, sym, ap, ◌∙◌, subst}
-use Rattle.std.specs.Prelude.{pos, map, replicate, not, ◌&&◌}
+use Rattle.std.proofs.Common.{◌≡◌, ◌<◌, ◌-◌, ℕ, Bool, true, Result, Ok, Err, refl, sym, ap, ◌∙◌, subst}
+use Rattle.std.specs.Prelude.{map, replicate, not, ◌&&◌}
 use Rattle.std.specs.List.{range_with_len}
 use Rattle.std.proofs.lemmas.Bool.{and_parts}
 use Rattle.jc_base.specs.declared.record.MethodRec.{MethodRec}
@@ -8,8 +8,6 @@ use Rattle.jc_base.specs.World.{Linked}
 use Rattle.jc_decode.specs.declared.insn.Insn.{Insn}
 use Rattle.jc_decode.specs.declared.insn.CodeEnd.{CodeEnd}
 use Rattle.jc_decode.specs.declared.layout.Layout.{Layout}
-use Rattle.jc_decode.specs.declared.layout.Operand.{Operand}
-use Rattle.jc_decode.specs.declared.layout.Operand.TheVariants.{Absent, U1, U2, S1, S2, S4, DupWords, SwapWords, ArrayType, TestedType}
 use Rattle.jc_decode.specs.Layout.{layout_of, opcode}
 use Rattle.jc_decode.specs.Cases.{is_switch}
 use Rattle.jc_decode.specs.Forms.{is_wide_jump, wide}
@@ -21,49 +19,17 @@ use Rattle.jc_ops.specs.Row.{row_at}
 use Rattle.jc_ops.specs.Resolve.{resolved}
 use Rattle.xf_emission.proofs.RowByRow.{Kind, branching_kind, switching, increasing, reading, writing, other_kind, op_kind, kinds, kind_at, kind-of}
 use Rattle.xf_emission.specs.Mnemonics.{from_read, from_write}
+use Rattle.jc_decode.proofs.Formed.{is_absent, is_byte, first_byte, has_byte, absent-one, byte-one}
 
 -- ---- by opcode
-
-abbrev is_u1 : Operand → Bool
-is_u1 U1 = true
-is_u1 Absent = false
-is_u1 U2 = false
-is_u1 S1 = false
-is_u1 S2 = false
-is_u1 S4 = false
-is_u1 DupWords = false
-is_u1 SwapWords = false
-is_u1 ArrayType = false
-is_u1 TestedType = false
-
-abbrev is_absent : Operand → Bool
-is_absent Absent = true
-is_absent U1 = false
-is_absent U2 = false
-is_absent S1 = false
-is_absent S2 = false
-is_absent S4 = false
-is_absent DupWords = false
-is_absent SwapWords = false
-is_absent ArrayType = false
-is_absent TestedType = false
-
--- the first operand is a byte; it is the only one
-abbrev pub first_u1 : Result Layout CodeEnd → Bool
-first_u1 (Ok l) = is_u1 l.x
-first_u1 (Err e) = false
-
-abbrev pub only_u1 : Result Layout CodeEnd → Bool
-only_u1 (Ok l) = is_u1 l.x && (is_absent l.y && is_absent l.z)
-only_u1 (Err e) = false
 
 -- what holds of an opcode whose row has a kind
 abbrev pub suits_kind : ℕ → Kind → Bool
 suits_kind op branching_kind = is_branch op && is_wide_jump (wide op)
 suits_kind op switching = is_switch op
-suits_kind op increasing = first_u1 (layout_of op) && not (jumps op)
-suits_kind op reading = only_u1 (layout_of op) && (only_u1 (layout_of (op - from_read)) && not (jumps (op - from_read)))
-suits_kind op writing = only_u1 (layout_of op) && (only_u1 (layout_of (op - from_write)) && not (jumps (op - from_write)))
+suits_kind op increasing = first_byte (layout_of op) && not (jumps op)
+suits_kind op reading = has_byte (layout_of op) && (has_byte (layout_of (op - from_read)) && not (jumps (op - from_read)))
+suits_kind op writing = has_byte (layout_of op) && (has_byte (layout_of (op - from_write)) && not (jumps (op - from_write)))
 suits_kind op other_kind = true
 
 abbrev suits : ℕ → Bool
@@ -79,64 +45,20 @@ suits-op w m place i op lt e = ap (suits_kind i.op) (kind-of w m place i op lt e
 
 -- ---- operands that are emitted
 
-u1-allows : (o : Operand) (r : ℕ) → is_u1 o ≡ true → r < 256 → Allows o (pos r)
-u1-allows U1 r e lt = (lt, refl)
-u1-allows Absent r e lt = absurd (cc)
-u1-allows U2 r e lt = absurd (cc)
-u1-allows S1 r e lt = absurd (cc)
-u1-allows S2 r e lt = absurd (cc)
-u1-allows S4 r e lt = absurd (cc)
-u1-allows DupWords r e lt = absurd (cc)
-u1-allows SwapWords r e lt = absurd (cc)
-u1-allows ArrayType r e lt = absurd (cc)
-u1-allows TestedType r e lt = absurd (cc)
-
--- another register in the first operand
-pub other-register : (i : Insn) (r : ℕ) → first_u1 (layout_of i.op) ≡ true → r < 256 → IsAllowed i → IsAllowed (record i { x = pos r })
-other-register i r e lt a = by (layout_of i.op) e a
-  where
-    by : (l : Result Layout CodeEnd) → first_u1 l ≡ true → AllowsBy i l → AllowsBy (record i { x = pos r }) l
-    by (Ok l) e a = (u1-allows l.x r e lt, a.1, a.2)
-    by (Err f) e a = absurd (cc)
-
-u1-is : (o : Operand) → is_u1 o ≡ true → o ≡ U1
-u1-is U1 e = refl
-u1-is Absent e = absurd (cc)
-u1-is U2 e = absurd (cc)
-u1-is S1 e = absurd (cc)
-u1-is S2 e = absurd (cc)
-u1-is S4 e = absurd (cc)
-u1-is DupWords e = absurd (cc)
-u1-is SwapWords e = absurd (cc)
-u1-is ArrayType e = absurd (cc)
-u1-is TestedType e = absurd (cc)
-
-absent-is : (o : Operand) → is_absent o ≡ true → o ≡ Absent
-absent-is Absent e = refl
-absent-is U1 e = absurd (cc)
-absent-is U2 e = absurd (cc)
-absent-is S1 e = absurd (cc)
-absent-is S2 e = absurd (cc)
-absent-is S4 e = absurd (cc)
-absent-is DupWords e = absurd (cc)
-absent-is SwapWords e = absurd (cc)
-absent-is ArrayType e = absurd (cc)
-absent-is TestedType e = absurd (cc)
-
 -- another instruction whose only operand is a byte
-pub other-opcode : (i : Insn) (op : ℕ) → only_u1 (layout_of i.op) ≡ true → only_u1 (layout_of op) ≡ true → IsAllowed i
+pub other-opcode : (i : Insn) (op : ℕ) → has_byte (layout_of i.op) ≡ true → has_byte (layout_of op) ≡ true → IsAllowed i
     → IsAllowed (record i { op = op })
 other-opcode i op e f a = by (layout_of i.op) (layout_of op) e f a
   where
-    by : (l k : Result Layout CodeEnd) → only_u1 l ≡ true → only_u1 k ≡ true → AllowsBy i l → AllowsBy (record i { op = op }) k
+    by : (l k : Result Layout CodeEnd) → has_byte l ≡ true → has_byte k ≡ true → AllowsBy i l → AllowsBy (record i { op = op }) k
     by (Ok l) (Ok k) e f a =
-        let el = and_parts (is_u1 l.x) (is_absent l.y && is_absent l.z) e in
+        let el = and_parts (is_byte l.x) (is_absent l.y && is_absent l.z) e in
         let en = and_parts (is_absent l.y) (is_absent l.z) el.1 in
-        let fl = and_parts (is_u1 k.x) (is_absent k.y && is_absent k.z) f in
+        let fl = and_parts (is_byte k.x) (is_absent k.y && is_absent k.z) f in
         let fn = and_parts (is_absent k.y) (is_absent k.z) fl.1 in (
-          subst (λ o. Allows o i.x) (u1-is l.x el.0 ∙ sym (u1-is k.x fl.0)) a.0,
-          subst (λ o. Allows o i.y) (absent-is l.y en.0 ∙ sym (absent-is k.y fn.0)) a.1,
-          subst (λ o. Allows o i.z) (absent-is l.z en.1 ∙ sym (absent-is k.z fn.1)) a.2,
+          subst (λ o. Allows o i.x) (byte-one l.x el.0 ∙ sym (byte-one k.x fl.0)) a.0,
+          subst (λ o. Allows o i.y) (absent-one l.y en.0 ∙ sym (absent-one k.y fn.0)) a.1,
+          subst (λ o. Allows o i.z) (absent-one l.z en.1 ∙ sym (absent-one k.z fn.1)) a.2,
         )
     by (Ok l) (Err g) e f a = absurd (cc)
     by (Err g) k e f a = absurd (cc)

@@ -1,6 +1,6 @@
 -- A rewritten method has a range for each live handler.
 use Rattle.std.proofs.Common.{◌≡◌, ℕ, zero, suc, ◌+◌, ◌-◌, ◌<◌, ◌≤◌, Bool, true, false, if◌then◌else◌, inl, inr, List, []}
-use Rattle.std.proofs.Common.{◌∷◌, ◌++◌, length, All, Contains, Option, IsSome, refl, sym, ◌∙◌, ap, subst, arith, append_assoc}
+use Rattle.std.proofs.Common.{◌∷◌, ◌++◌, length, All, Contains, Option, refl, sym, ◌∙◌, ap, subst, arith, append_assoc}
 use Rattle.std.specs.Prelude.{is_some, nat_lt}
 use Rattle.std.proofs.lemmas.Bool.Decides.{nat_tests}
 use Rattle.std.proofs.lemmas.List.Elements.{All-contains, Contains-append_right}
@@ -52,9 +52,6 @@ is-first frames p (suc n) = by (is_some (frames p)) refl (is-first frames (suc p
         → IsFirst frames p (suc n) (if b then p else first_of frames (suc p) n)
     by true e f = record { from = omega arith; to = omega arith; there = λ lt. e; none = λ r le lt. absurd (omega arith) }
     by false e f = later e (first_of frames (suc p) n) f
-
-is-some : {X : Type 0} (o : Option X) → is_some o ≡ true → IsSome o
-is-some o e = e
 
 module _ (s : Source) (listed : AreListed s.method.code) (has : HasFrames s) where
   found : (p : ℕ) → is_some (s.frames p) ≡ true → IsReached s.method p

@@ -6,26 +6,20 @@ use Rattle.std.specs.Prelude.{ℤ, pos, is_some, nat_lt, nat_le, count_by, cond,
 use Rattle.std.specs.List.{filter}
 use Rattle.std.proofs.lemmas.List.{length-reverse}
 use Rattle.std.proofs.lemmas.List.Sums.{length-filter, sum_by-append, sum_by-cons}
-use Rattle.jc_base.specs.Each.{Each, IsAmong}
+use Rattle.jc_base.specs.Each.{IsAmong}
 use Rattle.jc_base.specs.Laws.{SameTypeDecides}
 use Rattle.jc_base.specs.declared.ty.Kind.{Kind}
 use Rattle.jc_base.specs.declared.ty.Ty.{Ty}
 use Rattle.jc_base.specs.declared.ty.Ty.TheVariants.{Short, IntHigh}
 use Rattle.jc_base.specs.declared.record.Handler.{Handler}
 use Rattle.jc_base.specs.World.{Linked}
-use Rattle.jc_decode.specs.declared.insn.CodeEnd.{CodeEnd}
 use Rattle.jc_decode.specs.declared.insn.Insn.{Insn}
 use Rattle.jc_decode.specs.declared.insn.Placed.{Placed}
-use Rattle.jc_decode.specs.declared.layout.Layout.{Layout}
-use Rattle.jc_decode.specs.declared.layout.Operand.{Operand}
-use Rattle.jc_decode.specs.declared.layout.Operand.TheVariants.{U2, S2, S4}
 use Rattle.jc_decode.specs.declared.symbols.Item.{Item}
 use Rattle.jc_decode.specs.declared.symbols.Item.TheVariants.{Plain, Label}
-use Rattle.jc_decode.specs.Cases.{is_switch}
 use Rattle.jc_decode.specs.Decoding.{decoded}
-use Rattle.jc_decode.specs.Forms.{is_register_move, length_of, bytes_by, plain_length}
-use Rattle.jc_decode.specs.Layout.{operand_width, layout_of}
-use Rattle.jc_decode.specs.Listing.{is_branch, listing, targets, Lists}
+use Rattle.jc_decode.specs.Layout.{operand_width}
+use Rattle.jc_decode.specs.Listing.{listing, targets, Lists}
 use Rattle.jc_decode.specs.Symbols.{plain_bytes, plain_size}
 use Rattle.jc_decode.proofs.Decoded.{IsWithin-decoded}
 use Rattle.jc_ops.specs.Next.{falls_from}
@@ -60,6 +54,8 @@ use Rattle.xf_emission.proofs.Fewer.{Distinct, no-longer, either-among, distinct
 use Rattle.xf_emission.proofs.TwoBytes.{two-bytes}
 use Rattle.xf_emission.proofs.Ways.{ways-few}
 use Rattle.xf_emission.specs.Mnemonics.{from_read, from_write, swap_x, pop, pop2}
+use Rattle.jc_decode.proofs.PlainLengths.{own-length, plain-length}
+use Rattle.jc_base.proofs.Eaching.{Each-at}
 
 -- ---- sizes of lists
 
@@ -77,28 +73,6 @@ if-size true xs ys n h k = h
 if-size false xs ys n h k = k
 
 -- ---- one item
-
-operand-width : (o : Operand) → operand_width o ≤ 4
-operand-width S4 = omega arith
-operand-width U2 = omega arith
-operand-width S2 = omega arith
-operand-width o = omega arith
-
-own-length : (i : Insn) → length_of i ≤ i.len + 13
-own-length i = by (is_switch i.op) (layout_of i.op)
-  where
-    by : (b : Bool) (l : Result Layout CodeEnd) → (if b then i.len else bytes_by l) ≤ i.len + 13
-    by true l = omega arith
-    by false (Ok l) = omega (arith, operand-width l.x, operand-width l.y, operand-width l.z)
-    by false (Err e) = omega arith
-
-plain-length : (i : Insn) → plain_length i ≤ i.len + 13
-plain-length i = by (is_register_move i.op) (is_branch i.op)
-  where
-    by : (a b : Bool) → (if a then 2 else if b then 3 else length_of i) ≤ i.len + 13
-    by true b = omega arith
-    by false true = omega arith
-    by false false = own-length i
 
 load-size : (s : Source) (h : Home) → plain_bytes (load s h) ≡ 2
 load-size s h = by h.ty
@@ -218,15 +192,10 @@ in-homes same n (k ∷ ks) h r e = by (same_home k h) refl e (λ f. in-homes sam
     by true q e rest = inl (homes-equal same k h q)
     by false q e rest = inr (rest e)
 
-each-among : {X : Type 0} (P : X → Type 0) (xs : List X) (x : X) → Each P xs → IsAmong x xs → P x
-each-among P [] x e a = absurd a
-each-among P (y ∷ ys) x e (inl same) = subst P same e.0
-each-among P (y ∷ ys) x e (inr a) = each-among P ys x e.1 a
-
 pub in-order-distinct : (s : Source) (q x : ℕ) (hs : List Home) → AreAskedInOrder s.method s.frames q x hs → Distinct hs
 in-order-distinct s q x [] o = tt
 in-order-distinct s q x (h ∷ hs) o = (
-  λ a. let b = each-among (IsAskedBefore s.method s.frames q x h) hs h o.0 a in absurd (omega (arith, b.2 b.0 b.1)),
+  λ a. let b = Each-at (IsAskedBefore s.method s.frames q x h) h hs o.0 a in absurd (omega (arith, b.2 b.0 b.1)),
   in-order-distinct s q x hs o.1,
 )
 

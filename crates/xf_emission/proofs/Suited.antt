@@ -39,11 +39,12 @@ use Rattle.xf_emission.specs.Group.{itself, loaded, increased, store_to_homes, s
 use Rattle.xf_emission.specs.Group.{fall_by, fallen, entrance, done, group_by, group}
 use Rattle.xf_emission.specs.Emission.{stubs, stubs_at, stubs_by, stubs_done, is_live, catching_stub, catching_stubs, items}
 use Rattle.xf_emission.proofs.RowByRow.{op_kind, branching_kind, switching}
-use Rattle.xf_emission.proofs.Forms.{suits_kind, first_u1, only_u1, other-register, other-opcode}
+use Rattle.xf_emission.proofs.Forms.{suits_kind, other-opcode}
 use Rattle.xf_emission.proofs.Ways.{way-from}
 use Rattle.xf_emission.proofs.Items.{each-if, each-flat, load-suits, store-suits, copy-suits, loads-suit, spill-suits, copies-suit, taken-suits, popped-suits}
 use Rattle.xf_emission.proofs.Items.{swap-suits}
 use Rattle.xf_emission.specs.Mnemonics.{from_read, from_write}
+use Rattle.jc_decode.proofs.Formed.{first_byte, has_byte, other-register}
 
 -- an instruction that is allowed, with its operation, in code whose labels stand once
 pub record IsEmitted (all : List Item) (s : Source) (i : Placed) (op : Operation) : Type 0 where
@@ -65,7 +66,7 @@ module _ (all : List Item) (s : Source) (small : (h : Home) → register s h < 2
     loaded-suits j None = kept-suits j
     loaded-suits j (Some h) = (load-suits s.method.code all s small h, tt)
 
-    increased-suits : jumps_from op ≡ false → first_u1 (layout_of i.insn.op) ≡ true → (h : Option Home)
+    increased-suits : jumps_from op ≡ false → first_byte (layout_of i.insn.op) ≡ true → (h : Option Home)
         → Each (IsItem s.method.code all) (increased s i h)
     increased-suits j u None = kept-suits j
     increased-suits j u (Some h) = ((other-register i.insn (register s h) u (small h) e.allowed, ap not (sym e.alike ∙ j)), tt)
@@ -75,7 +76,7 @@ module _ (all : List Item) (s : Source) (small : (h : Home) → register s h < 2
     stored-suits letter (h ∷ hs) =
         (store-suits s.method.code all s small h, each-flat (IsItem s.method.code all) (copy s h) hs (λ k. copy-suits s.method.code all s small h k))
 
-    read-suits : jumps_from op ≡ false → only_u1 (layout_of i.insn.op) ≡ true → (only_u1 (layout_of (i.insn.op - from_read)) ≡ true)
+    read-suits : jumps_from op ≡ false → has_byte (layout_of i.insn.op) ≡ true → (has_byte (layout_of (i.insn.op - from_read)) ≡ true)
         × (not (jumps (i.insn.op - from_read)) ≡ true) → (h : Option Home)
         → Each (IsItem s.method.code all) (field_read s i h)
     read-suits j u v None = kept-suits j
@@ -83,7 +84,7 @@ module _ (all : List Item) (s : Source) (small : (h : Home) → register s h < 2
         each-if (IsItem s.method.code all) (stays s h) (itself i) _ (kept-suits j)
         (load-suits s.method.code all s small h, ((other-opcode i.insn (i.insn.op - from_read) u v.0 e.allowed, v.1), tt))
 
-    written-suits : jumps_from op ≡ false → only_u1 (layout_of i.insn.op) ≡ true → (only_u1 (layout_of (i.insn.op - from_write)) ≡ true)
+    written-suits : jumps_from op ≡ false → has_byte (layout_of i.insn.op) ≡ true → (has_byte (layout_of (i.insn.op - from_write)) ≡ true)
         × (not (jumps (i.insn.op - from_write)) ≡ true) → (k : Kind) (h : Option Home)
         → Each (IsItem s.method.code all) (field_written s i k h)
     written-suits j u v k None = kept-suits j
@@ -232,16 +233,16 @@ module _ (all : List Item) (s : Source) (small : (h : Home) → register s h < 2
   unfolding body
   body-suits i (ops.Load letter x) e = loaded-suits i (ops.Load letter x) e refl (local s i.place x)
   body-suits i (ops.Increment width x amount) e =
-      increased-suits i (ops.Increment width x amount) e refl (and_parts (first_u1 (layout_of i.insn.op)) (not (jumps i.insn.op)) e.suits).0 (local s i.place x)
+      increased-suits i (ops.Increment width x amount) e refl (and_parts (first_byte (layout_of i.insn.op)) (not (jumps i.insn.op)) e.suits).0 (local s i.place x)
   body-suits i (ops.Store letter x) e = stored-suits i (ops.Store letter x) e letter (needed s (i.place + i.insn.len) x)
   body-suits i (ops.FieldRead f holders.This) e =
-      let is = and_parts (only_u1 (layout_of i.insn.op)) _ e.suits in
-      read-suits i (ops.FieldRead f holders.This) e refl is.0 (and_parts (only_u1 (layout_of (i.insn.op - from_read)))
+      let is = and_parts (has_byte (layout_of i.insn.op)) _ e.suits in
+      read-suits i (ops.FieldRead f holders.This) e refl is.0 (and_parts (has_byte (layout_of (i.insn.op - from_read)))
       (not (jumps (i.insn.op - from_read))) is.1)
       (local s i.place 0)
   body-suits i (ops.FieldWrite f holders.This) e =
-      let is = and_parts (only_u1 (layout_of i.insn.op)) _ e.suits in
-      written-suits i (ops.FieldWrite f holders.This) e refl is.0 (and_parts (only_u1 (layout_of (i.insn.op - from_write)))
+      let is = and_parts (has_byte (layout_of i.insn.op)) _ e.suits in
+      written-suits i (ops.FieldWrite f holders.This) e refl is.0 (and_parts (has_byte (layout_of (i.insn.op - from_write)))
       (not (jumps (i.insn.op - from_write))) is.1)
       f.kind (local s i.place 0)
   body-suits i (ops.Branch branches.Always) e = gone-suits i (ops.Branch branches.Always) e refl

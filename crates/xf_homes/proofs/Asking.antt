@@ -126,7 +126,7 @@ skip-locals frames count (suc n) x homes p hs inside known =
 
 -- ---- what was asked is kept
 
-nat-cases : (x y : ℕ) → x ≤ y → (x ≡ y) ⊎ (suc x ≤ y)
+pub nat-cases : (x y : ℕ) → x ≤ y → (x ≡ y) ⊎ (suc x ≤ y)
 nat-cases zero zero le = inl refl
 nat-cases zero (suc y) le = inr (omega arith)
 nat-cases (suc x) zero le = absurd (omega arith)

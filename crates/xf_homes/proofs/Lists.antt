@@ -1,8 +1,8 @@
 -- Lists of homes that are gone over from the front.
-use Rattle.std.proofs.Common.{◌≡◌, ℕ, suc, ◌+◌, ◌<◌, ◌≤◌, List, [], ◌∷◌, length, take, drop, sum_by, refl, sym, ◌∙◌, ap}
+use Rattle.std.proofs.Common.{◌≡◌, ℕ, suc, ◌+◌, ◌<◌, List, [], ◌∷◌, length, take, drop, sum_by, refl, sym, ◌∙◌, ap}
 use Rattle.std.proofs.Common.{arith, drop-cons}
 use Rattle.std.specs.Prelude.{get_or}
-use Rattle.std.proofs.lemmas.List.{take_more, drop_all}
+use Rattle.std.proofs.lemmas.List.{take_more}
 use Rattle.std.proofs.lemmas.List.Sums.{sum_by-cons, sum_by-append}
 use Rattle.xf_homes.specs.declared.home.Home.{Home}
 use Rattle.xf_homes.specs.Value.{type_width}
@@ -38,6 +38,3 @@ pub begins-next : (homes : List Home) (n r : ℕ) (d : Home) (v : ℕ) → n < l
     → begins_from r (drop n homes) ≡ r ∷ begins_from (r + v) (drop (n + 1) homes)
 begins-next homes n r d v lt e =
     ap (begins_from r) (rest-cons homes n d lt) ∙ ap (λ k. r ∷ begins_from (r + k) (drop (n + 1) homes)) (sym e)
-
-pub begins-past : (homes : List Home) (n r : ℕ) → length homes ≤ n → begins_from r (drop n homes) ≡ []
-begins-past homes n r le = ap (begins_from r) (drop_all n homes le)

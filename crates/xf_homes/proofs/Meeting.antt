@@ -32,6 +32,7 @@ use Rattle.xf_homes.specs.Home.{PairSpot, register_count, IsAsked, asked_here, a
 use Rattle.xf_homes.specs.Walk.{Event, local_of, is_covered, caught_of, caught_events, local_events, locals_events, cells_events, operands_of, is_deeper}
 use Rattle.xf_homes.specs.Walk.{keeps_stack, stack_events, frame_events, place_events, code_events}
 use Rattle.xf_homes.proofs.Events.{Occurs}
+use Rattle.xf_homes.proofs.Asking.{nat-cases}
 
 -- ---- occurrences in parts
 
@@ -165,22 +166,11 @@ module _ (w : Linked) (m : Method) (frames : ℕ → Option Frame) (p : ℕ) (re
       by (inl here) rest = occurs-local m frames p x s h reached w here
       by (inr later) rest = rest later
 
--- a number is the first of a range, or among the rest
-from-or : (x from : ℕ) → from ≤ x → (from ≡ x) ⊎ (suc from ≤ x)
-from-or zero zero le = inl refl
-from-or zero (suc k) le = absurd (omega arith)
-from-or (suc x) zero le = inr (omega arith)
-from-or (suc x) (suc k) le = step (from-or x k (omega arith))
-  where
-    step : (k ≡ x) ⊎ (suc k ≤ x) → (suc k ≡ suc x) ⊎ (suc (suc k) ≤ suc x)
-    step (inl e) = inl (ap suc e)
-    step (inr l) = inr (omega arith)
-
 module _ (frames : ℕ → Option Frame) (handlers : List Handler) (p : ℕ) where
   locals-occurs : (from n x : ℕ) (s : PairSpot) (h : Home) → from ≤ x → x < from + n → Occurs (local_events frames handlers p x) s h
       → Occurs (locals_events frames handlers p from n) s h
   locals-occurs from zero x s h le lt o = absurd (omega arith)
-  locals-occurs from (suc n) x s h le lt o = by (from-or x from le) (λ later. locals-occurs (suc from) n x s h later (omega arith) o)
+  locals-occurs from (suc n) x s h le lt o = by (nat-cases from x le) (λ later. locals-occurs (suc from) n x s h later (omega arith) o)
     where
       by : (from ≡ x) ⊎ (suc from ≤ x) → (suc from ≤ x → Occurs (locals_events frames handlers p (suc from) n) s h)
           → Occurs (locals_events frames handlers p from (suc n)) s h

@@ -1,12 +1,11 @@
 -- Code that is laid for symbols in its shortest bytes has the plain size of these.
 use Rattle.std.proofs.Common.{◌≡◌, ◌<◌, ◌+◌, ℕ, suc, Bool, true, false, cond, pos, ℤ, List, [], ◌∷◌, length, refl, sym, ap, ◌∙◌}
-use Rattle.std.proofs.Common.{get_or, arith, map, All}
-use Rattle.std.specs.Prelude.{not, ◌||◌, nat_le, replicate, if◌then◌else◌}
+use Rattle.std.proofs.Common.{arith, map, All}
+use Rattle.std.specs.Prelude.{not, ◌||◌, replicate, if◌then◌else◌}
 use Rattle.std.specs.List.{range_with_len}
 use Rattle.std.proofs.lemmas.Bool.{not-true}
 use Rattle.std.proofs.lemmas.Bool.Decides.{nat_tests}
 use Rattle.std.proofs.lemmas.List.Elements.{All-head, All-tail}
-use Rattle.std.proofs.lemmas.List.FromFn.{get_or-map-range_with_len}
 use Rattle.std.proofs.lemmas.List.Sums.{sum_by-cons}
 use Rattle.jc_decode.specs.declared.insn.Insn.{Insn}
 use Rattle.jc_decode.specs.declared.insn.Placed.{Placed}
@@ -21,7 +20,7 @@ use Rattle.jc_decode.specs.Layout.{layout_of, opcode}
 use Rattle.jc_decode.specs.Listing.{end_from, is_branch, jumps, listing}
 use Rattle.jc_decode.specs.Standing.{AreSteps}
 use Rattle.jc_decode.specs.Symbols.{Step, IsItem, jump, plain_bytes, plain_size, steps, steps_in}
-use Rattle.jc_decode.proofs.Passed.{passed-at, or-rest}
+use Rattle.jc_decode.proofs.Passed.{passed-at, or-rest, at-op, by-size}
 use Rattle.xf_layout.specs.declared.form.Form.{Form}
 use Rattle.xf_layout.specs.declared.form.Form.TheVariants.{Fixed, Jump, Mark}
 use Rattle.xf_layout.specs.Form.{AreForms, form_bytes, instruction_place}
@@ -33,12 +32,6 @@ use Rattle.xf_layout.proofs.Stood.{IsShifted, instruction-start, shifted-next, s
 -- the plain length of an instruction that is no switch
 plain_by : ℕ → ℕ
 plain_by op = if is_register_move op then 2 else if is_branch op then 3 else bytes_by (layout_of op)
-
-at-op : {X : Type 0} (f g : ℕ → X) → map f (range_with_len 0 256) ≡ map g (range_with_len 0 256) → (op : ℕ) → op < 256 → X → f op ≡ g op
-at-op f g e op lt d =
-    sym (get_or-map-range_with_len f 0 256 op op d lt (omega arith))
-    ∙ ap (λ xs. get_or xs op d) e
-    ∙ get_or-map-range_with_len g 0 256 op op d lt (omega arith)
 
 module _ (x y z : ℤ) (len : ℕ) where
   abbrev insn : ℕ → Insn
@@ -59,13 +52,6 @@ past-essence i lt = by (jumps i.op)
     by : (b : Bool) → (cond b (record i { op = wide i.op; x = pos 0; len = 0 }) (record (with_operand i) { len = 0 })).op ≡ i.op
     by true = grind (arith, nat_tests, lt)
     by false = grind (arith, nat_tests, lt)
-
-by-size : {X : Type 0} (op : ℕ) → (op < 256 → X) → (255 < op → X) → X
-by-size {X = X} op small large = go (nat_le op 255) refl
-  where
-    go : (b : Bool) → nat_le op 255 ≡ b → X
-    go true e = small (grind (arith, nat_tests, e))
-    go false e = large (grind (arith, nat_tests, e))
 
 plain-form : (i : Insn) → plain_by (essence i).op ≡ plain_by i.op
 plain-form i = by-size i.op (λ lt. at-op (λ op. plain_by (essence (insn i.x i.y i.z i.len op)).op) plain_by (table-plain i.x i.y i.z i.len) i.op lt 0)

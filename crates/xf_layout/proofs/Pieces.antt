@@ -1,39 +1,19 @@
 -- The bytes of one item are it wherever they stand at a place.
-use Rattle.std.proofs.Common.{◌≡◌, ◌+◌, ℕ, Bool, true, false, cond, Result, Ok, Err, List, [], ◌∷◌, ◌++◌, length, refl, ap, ◌∙◌}
+use Rattle.std.proofs.Common.{◌≡◌, ◌+◌, ℕ, Bool, true, false, cond, List, [], ◌∷◌, ◌++◌, length, refl, ap, ◌∙◌}
 use Rattle.std.proofs.Common.{subst, arith, map}
 use Rattle.std.specs.Prelude.{ℤ, pos, ◌+ℤ◌, ◌-ℤ◌}
 use Rattle.std.proofs.lemmas.Int.{ints}
 use Rattle.std.proofs.lemmas.Bool.{or_parts, or_right}
 use Rattle.jc_decode.specs.declared.insn.Insn.{Insn}
 use Rattle.jc_decode.specs.declared.insn.Case.{Case}
-use Rattle.jc_decode.specs.declared.insn.CodeEnd.{CodeEnd}
-use Rattle.jc_decode.specs.declared.layout.Layout.{Layout}
-use Rattle.jc_decode.specs.declared.layout.Cases.{Cases}
-use Rattle.jc_decode.specs.declared.layout.Cases.TheVariants.{Absent as NoCases}
-use Rattle.jc_decode.specs.declared.layout.Cases.TheVariants.{Range as RangeCases}
-use Rattle.jc_decode.specs.declared.layout.Cases.TheVariants.{Pairs}
 use Rattle.jc_decode.specs.declared.symbols.Item.TheVariants.{Plain, Branch, Switch}
-use Rattle.jc_decode.specs.Layout.{layout_of, total_width}
-use Rattle.jc_decode.specs.Cases.{cases, cases_by, cases_in, has_cases, is_table, is_switch}
+use Rattle.jc_decode.specs.Cases.{cases, is_switch}
 use Rattle.jc_decode.specs.Encoding.{ReadsBack, sized}
 use Rattle.jc_decode.specs.Listing.{is_branch, jumps, target, targets}
 use Rattle.jc_decode.specs.Forms.{essence, is_load_n, is_store_n}
 use Rattle.jc_decode.specs.Symbols.{jump}
 use Rattle.xf_layout.specs.Laid.{StandsHere, IsPiece, label_targets, led}
-
--- what is no switch has no cases
-pub no-cases : (xs : List ℕ) (at : ℕ) (i : Insn) → is_switch i.op ≡ false → cases xs at i ≡ []
-unfolding cases
-no-cases xs at i h = by_layout (layout_of i.op) h
-  where
-    by_cases : (k : Cases) → is_table k ≡ false → (table : ℕ) → cases_in k xs table i ≡ []
-    by_cases NoCases h table = refl
-    by_cases RangeCases h table = absurd (cc)
-    by_cases (Pairs key) h table = absurd (cc)
-
-    by_layout : (r : Result Layout CodeEnd) → has_cases r ≡ false → cases_by r xs at i ≡ []
-    by_layout (Ok l) h = by_cases l.cases h (at + 1 + total_width l)
-    by_layout (Err e) h = refl
+use Rattle.jc_decode.proofs.Tables.{no-cases}
 
 -- what an instruction is does not rest on its length
 essence-sized : (bytes : List ℕ) (i : Insn) → essence (sized bytes i) ≡ essence i

@@ -1,27 +1,20 @@
 -- Registers that are live where control may come from a node that writes one: how they are put together, edge by edge.
-use Rattle.std.proofs.Common.{◌≡◌, ◌<◌, ◌≤◌, inl, inr, ⊎_elim, ℕ, ◌+◌, List, [], ◌∷◌, ◌++◌, length, take, sym, ap, ◌∙◌, subst}
-use Rattle.std.proofs.Common.{arith, get_or}
+use Rattle.std.proofs.Common.{◌≡◌, ◌<◌, inl, inr, ⊎_elim, ℕ, ◌+◌, List, [], ◌∷◌, ◌++◌, length, take, sym, ap, ◌∙◌, subst}
+use Rattle.std.proofs.Common.{get_or}
 use Rattle.std.specs.Prelude.{slice_get}
-use Rattle.std.proofs.lemmas.List.{take_all, take_more}
+use Rattle.std.proofs.lemmas.List.{take_more}
 use Rattle.std.proofs.lemmas.List.Elements.{Contains-append_left, Contains-push, Contains-push_cases}
 use Rattle.xf_live.specs.declared.graph.Edge.{Edge}
 use Rattle.xf_live.specs.declared.graph.Uses.{Uses}
 use Rattle.xf_live.specs.declared.interference.Interference.{Interference}
 use Rattle.xf_live.specs.declared.set.RegisterSet.{RegisterSet}
-use Rattle.xf_live.specs.Set.{Has, IsEmpty}
+use Rattle.xf_live.specs.Set.{Has}
 use Rattle.xf_live.specs.Live.{set_at}
 use Rattle.xf_live.specs.Flow.{AreLiveIn}
 use Rattle.xf_live.specs.Interference.{ClashIn, InterfereIn, clash_forth, clash_back, live_first, Tells, told_forth, told_back, told_first}
 use Rattle.xf_live.specs.Interference.{AreInterfering, WritesAt, PutsTo, IsAfter, AreAfter}
 
 -- ---- one edge after another
-
-pub after-none : (uses : List Uses) (sets after : List RegisterSet) → length after ≡ 256 → ((n : ℕ) → IsEmpty (set_at after n))
-    → AreAfter uses sets [] after
-after-none uses sets after size empty = record {
-  size = size;
-  has = λ x y lt. (λ h. absurd (empty x y h), λ a. (let none = a.listed.1 in absurd (omega (arith, none))));
-}
 
 module _ (uses : List Uses) (sets : List RegisterSet) where
   is-on : (edges more : List Edge) (x y : ℕ) → IsAfter uses sets edges x y → IsAfter uses sets (edges ++ more) x y
@@ -74,10 +67,6 @@ module _ (uses : List Uses) (sets : List RegisterSet) where
   after-more edges written old new k d lt are writes puts =
       subst (λ (es : List Edge). AreAfter uses sets es new) (sym (take_more edges k d lt))
       (one-more (take k edges) (get_or edges k d) written old new are writes puts)
-
-  pub after-all : (edges : List Edge) (after : List RegisterSet) (k : ℕ) → length edges ≤ k → AreAfter uses sets (take k edges) after
-      → AreAfter uses sets edges after
-  after-all edges after k le are = subst (λ (es : List Edge). AreAfter uses sets es after) (take_all k edges le) are
 
   -- ---- whole
 

@@ -1,8 +1,9 @@
 use Rattle.std.proofs.Common.{◌∙◌, ◌++◌, ◌+◌, ℕ, List, drop, ap, sym, arith}
 use Rattle.jc_decode.specs.Cases.{cases}
 use Rattle.cap_listing.specs.Numbers.{shown, shown_cases}
-use Rattle.cap_listing.proofs.Few.{cases-few, case-shown, none-shown-after, all-shown}
+use Rattle.cap_listing.proofs.Few.{case-shown, none-shown-after, all-shown}
 use Rattle.cap_listing.proofs.numbers.push_cases.Goals as goal
+use Rattle.jc_decode.proofs.FewTargets.{cases-few}
 
 pub cases-preserved : goal.cases-preserved
 cases-preserved c =

@@ -7,12 +7,12 @@ use Rattle.card_verify.specs.Verifier.{method, world_of}
 use Rattle.card_verify.specs.Walk.{IsFinished}
 use Rattle.card_verify.proofs.Answering.{begun-start, least-of, on-ok}
 use Rattle.card_verify.proofs.Passing.{passes-within}
-use Rattle.card_verify.proofs.Starting.{start-length}
+use Rattle.card_typing.proofs.Own.{start-length}
 use Rattle.card_verify.proofs.verifier.Verifier.verify_over.Goals as goal
 
 pub start-requires : goal.start-requires
 start-requires g c =
-    c.requires.slices.registers ∙ sym (start-length c.args.self.now.world.now (method c.args.self.now) c.rule_laws.ensures.world c.requires.method)
+    c.requires.slices.registers ∙ sym (start-length c.args.self.now.world.now c.rule_laws.ensures.world (method c.args.self.now) c.requires.method)
 
 pub settle-requires-clause-verifier : goal.settle-requires-clause-verifier
 settle-requires-clause-verifier g c =

@@ -2,7 +2,8 @@ use Rattle.std.proofs.Common.{sym}
 use Rattle.jc_rules.specs.Flow.{IsNotFresh}
 use Rattle.jc_flow.proofs.Derived.{derived-fine}
 use Rattle.jc_flow.specs.Visit.{analysed}
-use Rattle.jc_flow.proofs.Steps.{of-site, refuses-of-site, all-of_slice, all-to_slice, decodes-always, fail-rule, fail-jump, fall-past}
+use Rattle.jc_rules.proofs.Sites.{of-site, refuses-of-site}
+use Rattle.jc_flow.proofs.Steps.{all-of_slice, all-to_slice, decodes-always, fail-rule, fail-jump, fall-past}
 use Rattle.jc_flow.proofs.analysis.Analysis.step.Goals as goal
 
 pub returns-in-Err-clause-failed : goal.returns-in-Err-clause-failed
