@@ -144,9 +144,6 @@ module _ (s : Source) (l : AreLaws s.world) (plan : IsPlanned s) where
       let k = framed l.objects l.rules ready r asks (s.frames p) (IsFit s.method) (plan.typing.fit p (reached-at p f e)) in
       subst (IsFit s.method) (some-same k.0 f (sym k.1 ∙ e)) k.2
 
-  home-is : (h : Home) (x : ℕ) → h.slot ≡ x → h ≡ record { slot = x; ty = h.ty }
-  home-is h x e = ap (λ (n : ℕ). record { slot = n; ty = h.ty }) e
-
   -- the value of a local in a frame has a home
   local-keeps : (p : ℕ) (f : Frame) (h : Home) → s.frames p ≡ Some f → value_in_cells f.regs h.slot ≡ Some h.ty → KeepsValues s h
   local-keeps p f h e v =

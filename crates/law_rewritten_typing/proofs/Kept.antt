@@ -7,7 +7,6 @@ use Rattle.jc_base.proofs.Lists.{All-slice_get, All-reverse}
 use Rattle.jc_base.specs.Each.{Each}
 use Rattle.jc_base.specs.declared.ty.Ty.{Ty}
 use Rattle.jc_base.specs.declared.ty.Ty.TheVariants.{Bottom, Short, IntHigh, IntLow, Null, Class, ArrBool, ArrByte, ArrShort, ArrInt, ArrRef, Fresh, Top}
-use Rattle.jc_base.specs.declared.ty.Kind.{Kind}
 use Rattle.jc_base.specs.declared.ty.Kind.TheVariants as kinds
 use Rattle.jc_base.specs.declared.record.MethodRec.{MethodRec}
 use Rattle.jc_base.specs.Cell.{IsDeclared}
@@ -24,7 +23,6 @@ use Rattle.jc_ops.specs.declared.operation.Move.TheVariants as moves
 use Rattle.jc_ops.specs.declared.operation.Operation.{Operation}
 use Rattle.jc_ops.specs.declared.operation.Operation.TheVariants as ops
 use Rattle.jc_ops.specs.declared.operation.TypeTest.TheVariants as tests
-use Rattle.jc_ops.specs.declared.operation.Width.{Width}
 use Rattle.jc_ops.specs.declared.operation.Width.TheVariants as widths
 use Rattle.jc_ops.specs.declared.operation.Constant.TheVariants as constants
 use Rattle.jc_ops.specs.Sound.{IsSound, IsChosen, IsReceiverOf, IsNamedType}
@@ -39,11 +37,11 @@ use Rattle.jc_rules.specs.Effect.{changed, in_stack_order, StoresInRegisters}
 use Rattle.jc_rules.specs.Flow.{IsNotFresh}
 use Rattle.jc_rules.specs.FlowLaws.{AreRules}
 use Rattle.jc_rules.specs.Apply.{OperationApplies}
-use Rattle.jc_rules.specs.Rule.{demands, effect, replacing, cell, number, value_given, value_wanted, value_size, cells_wanted, receiver_wanted, return_demands}
-use Rattle.jc_rules.specs.Rule.{result_given, result_at, args_at, array_wanted, seen, element}
+use Rattle.jc_rules.specs.Rule.{demands, effect, replacing, cell, value_given, value_wanted, value_size, cells_wanted, receiver_wanted}
+use Rattle.jc_rules.specs.Rule.{result_given, result_at, args_at, seen, element}
 use Rattle.jc_rules.proofs.Types.{declared-not_fresh}
 use Rattle.law_rewritten_typing.proofs.Moves.{applies-by}
-use Rattle.law_rewritten_typing.proofs.Renames.{named, named_op, same-named, IsSteady, IsSteadyWant, all-named, replaced, value-same, result-same, under-named}
+use Rattle.law_rewritten_typing.proofs.Renames.{named, named_op, same-named, IsSteady, all-named, replaced, value-same, result-same, under-named}
 use Rattle.law_rewritten_typing.proofs.Renames.{exchange-named, cell-named, element-same, element-ready, call-named}
 
 -- names no register to load or store
@@ -68,10 +66,6 @@ module _ (new : ℕ → ℕ) (apart : (a b : ℕ) → new a ≡ new b → a ≡ 
   each-steady [] es a b = b
   each-steady (d ∷ ds) es a b = (a.0, each-steady ds es a.1 b)
 
-  number-steady : (width : Width) (n : ℕ) → Each (IsSteady new apart) (number width n)
-  number-steady widths.Short n = (tt, tt)
-  number-steady widths.Int n = (tt, (tt, tt))
-
   value-steady : (ty : Ty) → IsNotFresh ty → Each (IsSteady new apart) (value_wanted ty)
   value-steady IntHigh h = (tt, (tt, tt))
   value-steady (Fresh p c) h = absurd h
@@ -80,12 +74,6 @@ module _ (new : ℕ → ℕ) (apart : (a b : ℕ) → new a ≡ new b → a ≡ 
   cells-steady : (n : ℕ) (tys : List Ty) → All IsNotFresh tys → Each (IsSteady new apart) (cells_wanted n tys)
   cells-steady n [] h = tt
   cells-steady n (ty ∷ tys) h = (h 0 ty (omega arith), cells-steady (n + 1) tys (λ k d lt. h (suc k) d (omega (arith, lt))))
-
-  array-steady : (k : Kind) → IsSteadyWant new apart (array_wanted w.classes k)
-  array-steady kinds.Ref = tt
-  array-steady kinds.Byte = tt
-  array-steady kinds.Short = tt
-  array-steady kinds.Int = tt
 
   named-type-ready : (ty : Ty) → IsNamedType w.classes ty → IsNotFresh (seen w.classes ty)
   named-type-ready (Class c) h = tt
@@ -126,10 +114,6 @@ module _ (new : ℕ → ℕ) (apart : (a b : ℕ) → new a ≡ new b → a ≡ 
   declared-some : (result : Option Ty) → IfSome result (IsDeclared w.classes) → IfSome result IsNotFresh
   declared-some None h = tt
   declared-some (Some ty) h = declared-not_fresh w.classes ty h
-
-  return-steady : (result : Option Ty) → IfSome result IsNotFresh → Each (IsSteady new apart) (return_demands result)
-  return-steady None h = tt
-  return-steady (Some ty) h = value-steady ty h
 
   -- what goes from the stack and what comes in its place
   by-replacing : (op : Operation) (regs st : List Ty) (n : ℕ) (cells : Cells)

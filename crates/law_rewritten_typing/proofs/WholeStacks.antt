@@ -14,13 +14,13 @@ use Rattle.jc_decode.specs.declared.insn.Placed.{Placed}
 use Rattle.jc_ops.specs.Sound.{IsSound, OperationsAreSound}
 use Rattle.jc_control.specs.Method.{Method, IsMethodOf}
 use Rattle.jc_rules.specs.Demand.{Frame}
-use Rattle.jc_rules.specs.Flow.{CellsBelow, no_cells as no_below, more_cells, CellsJoin, none_joined, more_joined, FlowSteps, start_frame, receiver_of}
+use Rattle.jc_rules.specs.Flow.{CellsBelow, no_cells as no_below, more_cells, FlowSteps, start_frame, receiver_of}
 use Rattle.jc_rules.specs.Flow.{IsNotTop, IsDerived, derived_start, derived_caught, derived_next, derived_joined}
 use Rattle.jc_rules.specs.FlowLaws.{AreRules}
 use Rattle.jc_rules.specs.Laws.{IsNotBottom}
 use Rattle.jc_rules.specs.Whole.{IsWholeStack, OperationKeepsWhole}
 use Rattle.jc_flow.proofs.Derived.{of_world, derived-fine, step-keeps}
-use Rattle.jc_flow.proofs.Frames.{join-all, full-join}
+use Rattle.jc_flow.proofs.Frames.{join-all, full-join, join-left}
 use Rattle.law_rewritten_typing.specs.Whole.{DerivedAreWhole}
 
 -- ---- types above a half of an int, and above what is none
@@ -73,10 +73,6 @@ module _ (t : ClassTable) (types : IsOrderOfTypes t) where
       subst (λ x. AreWhole (x ∷ d ∷ vs)) (sym high) (subst (λ x. AreWhole (IntHigh ∷ x ∷ vs)) (sym low) (whole_int tail))
   whole-above (one_cell {a = u} {types = rest} h is) (more_cells {a = a} {b = b} {xs = xs} {ys = ys} le more) nb nt =
       one_cell (no-half-above u b le (all-first IsNotBottom u rest nb) h) (whole-above is more (all-rest IsNotBottom u rest nb) (all-rest IsNotTop b ys nt))
-
-join-left : (t : ClassTable) {xs ys js : List Ty} → CellsJoin t xs ys js → CellsBelow t xs js
-join-left t none_joined = no_below
-join-left t (more_joined j more) = more_cells j.left (join-left t more)
 
 -- ---- frames
 
