@@ -1,5 +1,5 @@
 -- The exact indexes of methods, one after the other.
-use Rattle.std.proofs.Common.{◌≡◌, ◌≤◌, ◌<◌, ◌+◌, ◌*◌, ℕ, zero, suc, List, [], ◌∷◌, ◌++◌, length, drop, cond, Option, Some}
+use Rattle.std.proofs.Common.{◌≡◌, ◌≤◌, ◌+◌, ◌*◌, ℕ, zero, suc, List, [], ◌∷◌, ◌++◌, length, drop, cond, Option, Some}
 use Rattle.std.proofs.Common.{None, refl, sym, ap, subst, ◌∙◌, arith, append_assoc, length-append}
 use Rattle.std.specs.Prelude.{count_by, is_some}
 use Rattle.std.specs.List.{flat_map}
@@ -83,9 +83,6 @@ few_methods laid entries h = omega (arith, lists_counted laid h.lists h.exact, l
 pub bytes_long : (ns : List ℕ) → length (flat_map (big_bytes 2) ns) ≡ 2 * length ns
 bytes_long [] = refl
 bytes_long (n ∷ ns) = let r = bytes_long ns in omega (arith, length-append (big_bytes 2 n) (flat_map (big_bytes 2) ns))
-
-pub no_info : (laid : List (Option Laid)) (entries : List ℕ) → HasEntries laid entries → 32766 < length entries → IsIndexOf laid None
-no_info laid entries h long = record { lists = h.lists; exact = h.exact; bytes = omega (arith, ap length h.are) }
 
 pub one_info : (laid : List (Option Laid)) (entries : List ℕ) (count : ℕ) (one info : List ℕ) → HasEntries laid entries → length entries ≤ 32766
     → count ≡ count_by is_some laid

@@ -1,6 +1,6 @@
 -- The indexes of methods, one after the other.
-use Rattle.std.proofs.Common.{◌≡◌, ℕ, zero, suc, ◌+◌, ◌<◌, List, [], ◌∷◌, ◌++◌, length, take, drop, get_or, Option}
-use Rattle.std.proofs.Common.{Some, refl, sym, ap, ◌∙◌, arith, append_assoc}
+use Rattle.std.proofs.Common.{◌≡◌, ℕ, suc, ◌+◌, ◌<◌, List, [], ◌∷◌, ◌++◌, length, take, drop, get_or, Option}
+use Rattle.std.proofs.Common.{Some, refl, sym, ap, ◌∙◌, append_assoc}
 use Rattle.std.specs.Prelude.{slice_get, count_by}
 use Rattle.std.proofs.lemmas.Option.{slice_get-get_or}
 use Rattle.cap_bytes.specs.declared.cursor.Cursor.{Cursor}
@@ -11,6 +11,7 @@ use Rattle.cap_package.proofs.Given.{drop_here}
 use Rattle.jc_base.specs.declared.record.MethodRec.{MethodRec}
 use Rattle.cap_index.specs.Component.{index_in, lists_in}
 use Rattle.cap_index.specs.Indexes.{is_coded, lists_after, package_lists, index_after, indexes_after, indexes_of}
+use Rattle.jc_decode.proofs.Elements.{next-take}
 
 pub gives_no_list : (now : Cursor) → Gives (give {X = List (List ℕ)} []) now
 unfolding gives
@@ -30,13 +31,6 @@ unfolding indexes_of
 indexes-each ps ms = after-each (package_lists ps ms) [] ms
 
 -- ---- one after the other
-
-pub next-take : {A : Type 0} (xs : List A) (n : ℕ) (x : A) → slice_get xs n ≡ Some x → take (n + 1) xs ≡ take n xs ++ x ∷ []
-next-take [] n x e = absurd cc
-next-take (y ∷ ys) zero x e = cc
-next-take (y ∷ ys) (suc n) x e =
-    let k : suc n + 1 ≡ suc (n + 1) = omega arith in
-    rw k (ap (λ zs. y ∷ zs) (next-take ys n x e))
 
 pub lists-count : (ms : List MethodRec) (k : ℕ) (ps : List PackageRecord) → length (lists_after ms k ps) ≡ length ps
 lists-count ms k [] = refl

@@ -1,25 +1,17 @@
 -- What is known of the items of a Directory that was read.
-use Rattle.std.proofs.Common.{◌≡◌, ◌<◌, ◌+◌, ℕ, zero, suc, Bool, true, false, cond, List, length, drop, slice_index, Some, None, refl, sym, ap}
+use Rattle.std.proofs.Common.{◌≡◌, ◌<◌, ℕ, zero, suc, Bool, true, false, cond, List, length, drop, Some, None, refl, sym, ap}
 use Rattle.std.proofs.Common.{subst, arith}
 use Rattle.std.specs.Prelude.{IsTrue}
-use Rattle.std.proofs.lemmas.List.{get_or-drop, length-take, length-drop}
-use Rattle.byteorder.specs.Endian.{big_from}
+use Rattle.std.proofs.lemmas.List.{length-take, length-drop}
 use Rattle.cap_bytes.specs.declared.fault.FormKind.TheVariants.{BadValue}
 use Rattle.cap_bytes.specs.declared.format.Format.{Format}
-use Rattle.cap_bytes.specs.Number.{number_at}
 use Rattle.cap_bytes.specs.Grammar.{that, u2, is_aid_length, each, repeat, table}
 use Rattle.cap_bytes.specs.Spelling.{Spells, Stands}
 use Rattle.cap_frame.specs.DirectoryFormat.{Custom, DirectoryItems, ImageSizes, custom_info, is_new_tag, and_that_of, none, size_count, directory_info}
 use Rattle.cap_bytes.specs.Bytes.{AreBytes}
-use Rattle.cap_renewal.proofs.Numbers.{number_value, number_small}
+use Rattle.cap_renewal.proofs.Numbers.{number_small}
 use Rattle.cap_laying.specs.WrittenDirectory.{AreSmall, AreCustoms, MayStand}
-
-byte_small : (at : ℕ) (bytes : List ℕ) (n : ℕ) → AreBytes bytes → number_at 1 at bytes ≡ Some n → n < 256
-byte_small at bytes n are h =
-    let v : n ≡ big_from 0 1 (drop at bytes) = number_value 1 at bytes n h in
-    let a : slice_index (drop at bytes) 0 ≡ slice_index bytes (at + 0) = get_or-drop at bytes 0 0 in
-    let x = are (at + 0) in
-    omega arith
+use Rattle.jc_decode.proofs.Refusals.{op-fits}
 
 passed_is : (test : ℕ → Bool) (n : ℕ) → that test n ≡ None → IsTrue (test n)
 passed_is test n h = by (test n) h
@@ -63,7 +55,7 @@ custom_read bytes are named at c after h =
     let long : length t.0 ≡ a.0 = omega (arith, ap length p.1, p.0, length-take a.0 (drop a.1 bytes), length-drop a.1 bytes) in
     rw t.3.0 (record {
       new = passed_is (is_new_tag named) h.0 h.2.1;
-      tag = byte_small at bytes h.0 are h.2.0;
+      tag = op-fits bytes at h.0 are h.2.0;
       size = number_small h.1 bytes s.0 are s.2.0;
       aid = subst (λ n. IsTrue (is_aid_length n)) (sym long) (passed_is is_aid_length a.0 a.2.1);
     })
@@ -94,15 +86,15 @@ read_may_stand format bytes d are s =
     let q = c.2 in
     let sizes = sizes_read bytes are (size_count format) 0 h.0 h.1 h.2 in
     let customs = customs_read bytes are q.0 none q.1 c.0 c.1 q.3 in
-    let few : length c.0 < 256 = omega (arith, customs.counted, byte_small k.1 bytes q.0 are q.2.0) in
+    let few : length c.0 < 256 = omega (arith, customs.counted, op-fits bytes k.1 q.0 are q.2.0) in
     rw c.3.3.0 (record {
       counted = sizes.counted;
       sizes = sizes.small;
       image_size = subst (λ (x : ImageSizes). x.image_size < 65536) (sym image) (number_small h.1 bytes a.0 are a.2.0);
       array_init_count = subst (λ (x : ImageSizes). x.array_init_count < 65536) (sym image) (number_small a.1 bytes b.0 are b.2.0);
       array_init_size = subst (λ (x : ImageSizes). x.array_init_size < 65536) (sym image) (number_small b.1 bytes e.0 are e.2.0);
-      import_count = byte_small i.1 bytes j.0 are j.2.0;
-      applet_count = byte_small j.1 bytes k.0 are k.2.0;
+      import_count = op-fits bytes i.1 j.0 are j.2.0;
+      applet_count = op-fits bytes j.1 k.0 are k.2.0;
       few = few;
       customs = customs.customs;
     })

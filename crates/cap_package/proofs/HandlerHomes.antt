@@ -32,9 +32,6 @@ after false within e = e
 abbrev is_good : Entry → Bool
 is_good e = (e.met && not e.twice) && not e.stray
 
-same_entry : (a b : Entry) → a.met ≡ b.met → a.twice ≡ b.twice → a.stray ≡ b.stray → a ≡ b
-same_entry a b p q r = λ i. record { met = p i; twice = q i; stray = r i }
-
 here_by : (c : Claimed) (n : ℕ) (claimed within : Bool) →
     entry (cond claimed (record { owned = with_one c.owned n; strays = cond within c.strays (λ o. eqb n o || c.strays o) }) c) n
     ≡ after claimed within (entry c n)

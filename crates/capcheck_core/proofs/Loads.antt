@@ -150,10 +150,6 @@ asked_more tag top parts file le = by (ltb tag 3) refl
 
 -- ---- the parts with one more
 
--- no part of the next tag is loaded yet
-pub next_absent : (before : Folders) (dir : List ℕ) (tag : ℕ) (parts : List Lent) → AreLoaded before dir tag parts → IsNone (held parts tag)
-next_absent before dir tag parts loaded = ap is_some (above_none 0 tag tag parts loaded.rising (omega arith))
-
 split : (tag top : ℕ) → tag < suc top → (tag ≡ top) ⊎ (tag < top)
 split tag top below = eq-or-lt_of_le (omega (arith, below))
 

@@ -16,18 +16,12 @@ use Rattle.capcheck_core.specs.OverFolders.{StopsAtLoad}
 use Rattle.capcheck_core.specs.Outside.{Outside, CardWords, outside}
 use Rattle.capcheck_core.specs.Packages.{ArePartsBy, AreTooMany, FailsPartsBy, HasPackage, LacksPackage, IsFirstWhere}
 use Rattle.capcheck_core.specs.Roles.{AreRolesIn}
-use Rattle.capcheck_core.specs.PackageEnds.{RolesBeside, StopsParts, ReadsPackage, StopsPackage, PackagesStopLeaves, IsStop}
+use Rattle.capcheck_core.specs.PackageEnds.{RolesBeside, ReadsPackage, StopsPackage, PackagesStopLeaves, IsStop}
 use Rattle.capcheck_core.specs.OverLoads.{GivenAfterFirst, RolesAre, StopsOver, AnswersOverRest, GoesOver, StopsLoads, GoesOverAll}
 use Rattle.capcheck_core.specs.World.{Own, OverPackages}
 
 module _ (before after : Folders) (place : Place) where
   -- ---- why one package was not loaded
-
-  pub loading_stops : (number : ℕ) (stop : PackagesStop) → StopsParts before after place number stop → StopsPackage before after place number stop
-  loading_stops number (Malformed n fault) (is, lacks) = (is, inl lacks)
-  loading_stops number Failed fails = fails
-  loading_stops number Memory stops = stops
-  loading_stops number (TooMany count) stops = stops
 
   pub reading_stops : (parts : List Lent) (number : ℕ) (stop : PackagesStop) → ArePartsBy before place parts → ReadsPackage parts number (Err stop)
       → StopsPackage before after place number stop
@@ -37,17 +31,6 @@ module _ (before after : Folders) (place : Place) where
   reading_stops parts number (TooMany count) loaded reads = reads
 
   -- ---- the place among the packages
-
-  pub stops_here : (given : Option (List ℕ)) (number : ℕ) (others : List Place) (stop : PackagesStop) → GivenAfterFirst given number
-      → StopsPackage before after place number stop → StopsOver before after given number (place ∷ others) stop
-  stops_here None number others (Malformed n fault) begun (is, lack) = inl (is ∙ begun, lack)
-  stops_here None number others Failed begun fails = inl fails
-  stops_here None number others Memory begun stops = stops
-  stops_here None number others (TooMany count) begun stops = stops
-  stops_here (Some roles) number others (Malformed n fault) begun stops = inl stops
-  stops_here (Some roles) number others Failed begun fails = inl fails
-  stops_here (Some roles) number others Memory begun stops = stops
-  stops_here (Some roles) number others (TooMany count) begun stops = stops
 
   pub stops_roles : (given : Option (List ℕ)) (number : ℕ) (others : List Place) (stop : PackagesStop) → HasPackage before place
       → RolesBeside before after place.dir given (Err stop) → StopsOver before after given number (place ∷ others) stop
@@ -131,26 +114,6 @@ module _ (own : Own) (before : Folders) (card : CardWords) (place : Place) (othe
   goes_on now after parts p roles result begun loaded stands are same goes =
       one_more now after parts p roles result begun loaded stands are
       (subst (λ f. GoesOver own others (made ++ p ∷ []) (Some roles) (outside f card) after result) same goes)
-
-  -- where a load stops, the parts stand for no package, or there are no roles, the loads stop here
-  pub stops_loading : (now : Folders) (number : ℕ) (stop : PackagesStop) → GivenAfterFirst given (length made) → number ≡ length made
-      → StopsParts before now place number stop → PackagesStopLeaves before now stop
-      → GoesOver own (place ∷ others) made given (outside before card) (outside now card) (Err stop)
-  stops_loading now number stop begun is loads leaves = record {
-    stops = stops_here before now place given (length made) others stop begun
-        (subst (λ n. StopsPackage before now place n stop) is (loading_stops before now place number stop loads));
-    leaves = leaves;
-    card = refl;
-  }
-
-  pub stops_reading : (now : Folders) (number : ℕ) (parts : List Lent) (stop : PackagesStop) → GivenAfterFirst given (length made)
-      → number ≡ length made → now ≡ before
-      → ArePartsBy before place parts → ReadsPackage parts number (Err stop) → GoesOver own (place ∷ others) made given (outside before card)
-      (outside now card) (Err stop)
-  stops_reading now number parts stop begun is same loaded reads =
-      let at : ReadsPackage parts (length made) (Err stop) = subst (λ n. ReadsPackage parts n (Err stop)) is reads in
-      let leaves = reading_leaves before now place parts (length made) stop same loaded at in
-      record { stops = stops_here before now place given (length made) others stop begun leaves.1; leaves = leaves.0; card = refl }
 
   pub stops_at_roles : (now after : Folders) (parts : List Lent) (p : PackageRecord) (stop : PackagesStop) → now ≡ before → ArePartsBy before place parts
       → StandsFor parts p

@@ -1,6 +1,6 @@
 -- The methods with code of the last package, one after the other.
 use Rattle.std.proofs.Common.{count_by, ◌≡◌, ◌⊎◌, ℕ, ◌+◌, ◌<◌, ◌≤◌, Bool, true, false, List, length, take, Option, Some, None}
-use Rattle.std.proofs.Common.{option_map, slice_get, refl, sym, ap, subst, ◌∙◌, inl, inr, arith, true≢false}
+use Rattle.std.proofs.Common.{option_map, slice_get, refl, sym, ap, subst, ◌∙◌, inl, inr, arith}
 use Rattle.std.specs.Prelude.{IsSomeAnd, codes, ◌==◌, nat_lt}
 use Rattle.std.proofs.lemmas.Bool.{eq-eqb, eqb-true, lt-ltb, and_parts}
 use Rattle.std.proofs.lemmas.List.{take_all}
@@ -11,43 +11,21 @@ use Rattle.std.proofs.lemmas.Option.{slice_get_within, get_or_from_slice_get}
 use Rattle.jc_base.specs.declared.ty.Ty.TheVariants.{Top}
 use Rattle.jc_base.specs.declared.record.MethodRec.{MethodRec}
 use Rattle.jc_base.specs.World.{Linked}
-use Rattle.jc_rules.specs.Demand.{Frame}
-use Rattle.jc_control.specs.Method.{Method, IsMethodOf, method_with, method_in}
-use Rattle.jc_rules.specs.Flow.{IsLeastTyping, HasFlowTyping}
-use Rattle.jc_rules.specs.Typing.{state_at}
+use Rattle.jc_control.specs.Method.{Method, IsMethodOf, method_with}
+use Rattle.jc_rules.specs.Flow.{HasFlowTyping}
 use Rattle.jc_flow.specs.declared.end.FlowEnd.{FlowEnd}
 use Rattle.jc_flow.specs.declared.end.FlowEnd.TheVariants.{NoTyping, Code, BadTarget, FallsOff, BadHandler, Memory}
 use Rattle.jc_flow.specs.Infer.{TellsEnd, LacksTyping}
 use Rattle.cap_text.specs.declared.line.MethodNumber.{MethodNumber}
 use Rattle.cap_text.specs.Line.{methods_line, refused_flow_line}
-use Rattle.jc_control.specs.Asked.{IsOfLast}
 use Rattle.law_laid.proofs.Methods.{known}
-use Rattle.xf_last.proofs.Passing.{has-code}
 use Rattle.capcheck_core.specs.Typed.{is_of_last, AreTypedBelow, count_of_last, numbers_of_method, TellsTyped, TellsUntyped}
 use Rattle.capcheck_core.specs.CheckEnds.{IsTypedMethod, FailsMethod}
-
--- ---- a method by its number
-
-pub typed_at : (w : Linked) (n : ℕ) (t : List (Option Frame)) → IsSomeAnd (method_in w n) (λ m. IsLeastTyping w m Top (state_at t)) → IsTypedMethod w n
-typed_at w n t least = λ m of_last e.
-    let l = known w n (λ m. IsLeastTyping w m Top (state_at t)) least m of_last.method e in
-    record { frames = state_at t; typing = l.typing }
 
 -- ---- the test of the last package
 
 passes : (packages : ℕ) (rec : MethodRec) → rec.package + 1 ≡ packages → 0 < rec.code_len → is_of_last packages rec ≡ true
 passes packages rec last code = let a = eq-eqb (rec.package + 1) packages last in let b = lt-ltb 0 rec.code_len code in rw (a, b) refl
-
-of_last_passes : (w : Linked) (m : Method) → IsOfLast w m → is_of_last (length w.infos) m.rec ≡ true
-of_last_passes w m is =
-    passes (length w.infos) m.rec is.last (has-code w m is.method)
-
--- a method that fails the test is none of the last package with code
-pub none_at : (w : Linked) (n : ℕ) → option_map (is_of_last (length w.infos)) (slice_get w.methods n) ≡ Some false → IsTypedMethod w n
-none_at w n fails = λ m of_last e.
-    let at : slice_get w.methods n ≡ Some m.rec = subst (λ k. slice_get w.methods k ≡ Some m.rec) e of_last.method.rec in
-    let test : Some (is_of_last (length w.infos) m.rec) ≡ Some false = sym (ap (option_map (is_of_last (length w.infos))) at) ∙ fails in
-    absurd (true≢false (sym (of_last_passes w m of_last) ∙ (cc)))
 
 failed : (w : Linked) (n : ℕ) (end : FlowEnd) (o : Option MethodRec) → slice_get w.methods n ≡ o → option_map (is_of_last (length w.infos)) o
     ≡ Some true
@@ -76,9 +54,6 @@ split m n below = eq-or-lt_of_le (omega (arith, below))
 pub one_more : (w : Linked) (n : ℕ) → AreTypedBelow w n → IsTypedMethod w n → AreTypedBelow w (n + 1)
 one_more w n typed at = λ m of_last below.
     elim (split m.number n below) [ inl e ↦ at m of_last e | inr less ↦ typed m of_last less ]
-
-pub none_below : (w : Linked) → AreTypedBelow w 0
-none_below w = λ m of_last below. absurd (omega (arith, below))
 
 -- ---- the count of them
 

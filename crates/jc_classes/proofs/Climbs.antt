@@ -1,9 +1,9 @@
 -- The chain of a class as it is climbed.
 use Rattle.std.proofs.Common.{◌≡◌, ℕ, true, append_assoc, List, [], ◌∷◌, ◌++◌, Option, Some, None, refl, ◌∙◌, arith}
 use Rattle.std.specs.Prelude.{slice_get}
+use Rattle.std.proofs.Common.{sym, ap}
 use Rattle.jc_base.specs.Class.{list_of}
-use Rattle.jc_classes.specs.declared.lineage_type.Line.{Line}
-use Rattle.jc_classes.specs.Outline.{LineTable, AreLines, chain, parent_of, parent_in_line, is_interface, is_interface_line}
+use Rattle.jc_classes.specs.Outline.{LineTable, AreLines, chain, parent_of}
 use Rattle.jc_classes.proofs.Bare.{next_on_chain, parent_of-class, chain-alone, chain-front}
 
 chain_by : (t : LineTable) (c : ℕ) (above : Option ℕ) → AreLines t → parent_of t c ≡ above → chain t c ≡ c ∷ list_of (chain t) above
@@ -41,14 +41,6 @@ chain_from t are (y ∷ xs) c x rest e =
 pub climbed_whole : (t : LineTable) (above : Option ℕ) (c : ℕ) → list_of (chain t) above ≡ chain t c → above ≡ Some c
 climbed_whole t None c e = grind (arith, chain-front t c)
 climbed_whole t (Some a) c e = grind (arith, chain-front t a, chain-front t c, head_same)
-
-no_parent_by : (o : Option Line) → is_interface_line o ≡ true → parent_in_line o ≡ None
-no_parent_by x e = grind (arith)
-
--- an interface has no superclass
-pub no_parent : (t : LineTable) (c : ℕ) → is_interface t c ≡ true → parent_of t c ≡ None
-unfolding parent_of is_interface
-no_parent t c e = no_parent_by (slice_get t.lines c) e
 
 -- one class further up
 pub climbed_more : (t : LineTable) (c a : ℕ) (path : List ℕ) (above next : Option ℕ) → above ≡ Some a

@@ -16,13 +16,12 @@ use Rattle.jc_base.specs.declared.record.Iface.{Iface}
 use Rattle.jc_base.specs.declared.record.MethodRec.{MethodRec}
 use Rattle.jc_base.specs.declared.record.ClassRec.{ClassRec}
 use Rattle.jc_base.specs.Class.{ClassTable, IsClass, AreClasses, list_of, parent_of}
-use Rattle.jc_base.specs.Order.{Below, is_on_chain, is_below}
 use Rattle.jc_base.specs.Cell.{IsDeclared}
 use Rattle.jc_base.specs.Dispatch.{of_record, package_of, public_of, visible_of, cell_count, signature_at}
 use Rattle.jc_base.specs.Linked.{IsInherited, IsDispatch, IsExtended, IsImplemented, AreInterfaces}
 use Rattle.jc_base.specs.Linked.{IsLinkedClass, AreLinkedClasses, visible_from, cells_above}
 use Rattle.jc_classes.proofs.Bare.{next_on_chain, parent_of-class}
-use Rattle.jc_base.proofs.Subtypes.{Below-from_is_below}
+use Rattle.jc_base.proofs.Subtypes.{below_class}
 use Rattle.jc_base.proofs.Lists.{All-slice_get, IfSome-is}
 use Rattle.jc_resolve.specs.declared.fault.LinkEnd.{LinkEnd}
 use Rattle.jc_resolve.specs.declared.named.NamedClass.{NamedClass}
@@ -54,13 +53,17 @@ use Rattle.jc_classes.proofs.FaultlessTables.{public_agrees, visible_agrees, All
 
 -- ---- methods in dispatch lists
 
-below_by : (u : ClassTable) → AreClasses u → (d c : ℕ) → is_on_chain u d c ≡ true → Below u (Class c) (Class d)
-unfolding is_below
-below_by u are d c on = Below-from_is_below u are (Class c) (Class d) on
-
 inherited_by : (t : LineTable) (u : ClassTable) → AreAlike t u → AreClasses u → (c : ℕ) (o : Option MethodRec) → may_stand t c o ≡ true
     → IsSomeAnd o (IsInherited u c)
-inherited_by t u alike are c w e = grind (arith, false≢true, and_parts, below_by, on_chain-alike, not-true)
+inherited_by t u alike are c None e = absurd (false≢true e)
+inherited_by t u alike are c (Some m) e =
+    let both = and_parts (on_line_chain t m.class c) (not m.is_static && not m.is_init) e in
+    let flags = and_parts (not m.is_static) (not m.is_init) both.1 in
+    record {
+      class = below_class u are c m.class (on_chain-alike t u alike m.class c ∙ both.0);
+      dynamic = not-true m.is_static flags.0;
+      no_constructor = not-true m.is_init flags.1;
+    }
 
 dispatch_built : (t : LineTable) (u : ClassTable) → AreAlike t u → AreClasses u
     → (methods : List MethodRec) (c : ℕ) (own inherited : List (Option ℕ)) (from : List ℕ) → AllStand t c methods own → IsListed inherited

@@ -6,7 +6,7 @@ use Rattle.std.proofs.lemmas.Bool.{leb-true}
 use Rattle.std.proofs.lemmas.List.Elements.{All-head, All-tail}
 use Rattle.std.proofs.lemmas.Option.{slice_get-map}
 use Rattle.jc_base.specs.Each.{Each}
-use Rattle.jc_base.proofs.Eaching.{Each-append, Each-weaker}
+use Rattle.jc_base.proofs.Eaching.{Each-append, Each-weaker, Each-map}
 use Rattle.cap_bytes.specs.Grammar.{at_most, when, give, ◌>>=◌}
 use Rattle.cap_bytes.specs.declared.format.Format.{Format}
 use Rattle.cap_bytes.specs.Spelling.{Spells, Stands}
@@ -16,6 +16,7 @@ use Rattle.jc_resolve.specs.declared.place.RecordPlace.{RecordPlace}
 use Rattle.jc_resolve.specs.Named.{IsAgreed}
 use Rattle.jc_resolve.specs.Numbering.{NumberedClass, numbered_class, numbered_classes_of, classes_after, place_of_class, class_places}
 use Rattle.jc_resolve.proofs.Pairwise.{each-map, Pairwise, pairwise-append, one-place}
+use Rattle.jc_resolve.specs.Numbering.{numbered_classes}
 use Rattle.jc_resolve.proofs.Repeats.{goes_on}
 
 -- ---- one component
@@ -117,7 +118,7 @@ homes_from k (p ∷ ps) =
 in_package : (k : ℕ) (p : PackageRecord) (cs : List Class) → Pairwise IsLower cs → Pairwise IsBefore (map (numbered_class k p) cs)
 in_package k p [] h = tt {0}
 in_package k p (c ∷ cs) h = (
-  each-map (IsBefore (numbered_class k p c)) (numbered_class k p) cs
+  Each-map (IsBefore (numbered_class k p c)) (numbered_class k p) cs
       (Each-weaker (IsLower c) (λ d. IsBefore (numbered_class k p c) (numbered_class k p d)) (λ d lt. inr (refl, lt)) cs h.0),
   in_package k p cs h.1,
 )

@@ -1,5 +1,5 @@
 -- Lists in which each thing is so related to all after it.
-use Rattle.std.proofs.Common.{◌≡◌, ℕ, zero, suc, ◌<◌, Bool, true, false, ltb, List, [], ◌∷◌, ◌++◌, map, Some, refl, subst, arith}
+use Rattle.std.proofs.Common.{◌≡◌, ℕ, zero, suc, ◌<◌, Bool, true, false, ltb, List, [], ◌∷◌, ◌++◌, Some, refl, subst, arith}
 use Rattle.std.specs.Prelude.{slice_get}
 use Rattle.std.proofs.lemmas.Bool.{ltb-true, ltb-false}
 use Rattle.jc_base.specs.Each.{Each}
@@ -8,10 +8,6 @@ use Rattle.jc_base.proofs.Eaching.{Each-append}
 pub each-split : {X : Type 0} (P : X → Type 0) (xs ys : List X) → Each P (xs ++ ys) → Each P xs × Each P ys
 each-split P [] ys a = (tt {0}, a)
 each-split P (x ∷ xs) ys a = let r = each-split P xs ys a.1 in ((a.0, r.0), r.1)
-
-pub each-map : {X Y : Type 0} (P : Y → Type 0) (f : X → Y) (xs : List X) → Each (λ x. P (f x)) xs → Each P (map f xs)
-each-map P f [] a = tt {0}
-each-map P f (x ∷ xs) a = (a.0, each-map P f xs a.1)
 
 pub each-at : {X : Type 0} (P : X → Type 0) (xs : List X) (i : ℕ) (x : X) → Each P xs → slice_get xs i ≡ Some x → P x
 each-at P [] i x a e = absurd cc

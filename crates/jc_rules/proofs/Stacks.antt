@@ -12,7 +12,7 @@ use Rattle.jc_base.specs.declared.ty.Ty.{Ty}
 use Rattle.jc_rules.specs.Stack.{cells}
 
 module _ {X : Type 0} where
-  take_first : (k : ℕ) (xs ys : List X) → length xs ≡ k → take k (xs ++ ys) ≡ xs
+  pub take_first : (k : ℕ) (xs ys : List X) → length xs ≡ k → take k (xs ++ ys) ≡ xs
   take_first k xs ys e = subst (λ n. take n (xs ++ ys) ≡ xs) e (take-append_seam xs ys)
 
   drop_first : (k : ℕ) (xs ys : List X) → length xs ≡ k → drop k (xs ++ ys) ≡ ys

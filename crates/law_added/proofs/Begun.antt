@@ -1,7 +1,7 @@
 -- What the rules of instructions read of a world is the same when packages are added to it.
 use Rattle.std.proofs.Common.{◌≡◌, ◌<◌, ◌≤◌, ◌+◌, ◌==◌, ◌&&◌, ℕ, zero, suc, Bool, true, false, not, if◌then◌else◌, List, [], ◌∷◌, ◌++◌}
 use Rattle.std.proofs.Common.{length}
-use Rattle.std.proofs.Common.{slice_index, find, Option, Some, None, IfSome, slice_get, refl, sym, ◌∙◌, ap, subst, arith, All, cond}
+use Rattle.std.proofs.Common.{find, Option, Some, None, IfSome, slice_get, refl, sym, ◌∙◌, ap, subst, arith, All, cond}
 use Rattle.std.proofs.Common.{length-append, append-nil}
 use Rattle.std.specs.Prelude.{nat_lt, filter}
 use Rattle.std.specs.List.{list_all, range_with_len}
@@ -10,16 +10,18 @@ use Rattle.std.proofs.lemmas.Option.{slice_get_past}
 use Rattle.jc_base.specs.declared.record.Member.{Member}
 use Rattle.jc_base.specs.declared.record.Member.TheVariants.{ClassOf}
 use Rattle.jc_base.specs.declared.record.MethodRec.{MethodRec}
-use Rattle.jc_base.specs.Class.{AreClasses, is_interface, is_interface_record, object, throwable, chain, list_of, class_in_types}
+use Rattle.jc_base.specs.Class.{AreClasses, is_interface, is_interface_record, object, chain, list_of, class_in_types}
 use Rattle.jc_base.specs.Dispatch.{package_of, public_of, visible_of, entry_at, nearest_of, visible_in, has_body_in, has_body}
 use Rattle.jc_base.specs.Dispatch.{all_have_bodies}
 use Rattle.jc_base.specs.Dispatch.{is_concrete}
 use Rattle.jc_base.specs.Linked.{lacks_code}
 use Rattle.jc_base.specs.World.{Linked, member_at}
 use Rattle.jc_ops.specs.Resolve.{passes_test, is_described, described}
-use Rattle.law_added.proofs.Lists.{get_front, each_after}
+use Rattle.law_added.proofs.Lists.{each_after}
 use Rattle.law_added.proofs.Members.{found_alike, found_below}
 use Rattle.law_added.proofs.Tables.{IsGrown, object_front, interface_front, package_front, public_front, visible_front, entry_front}
+use Rattle.jc_base.proofs.Lists.{slice_get-left}
+use Rattle.std.proofs.lemmas.List.Elements.{filter-append}
 
 -- the first world is the beginning of the second one, as the rules see it
 pub record IsBegun (v w : Linked) : Type 0 where
@@ -43,7 +45,7 @@ module _ (v w : Linked) (b : IsBegun v w) where
 
   pub method_there : (n : ℕ) (m : MethodRec) → slice_get v.methods n ≡ Some m → slice_get w.methods n ≡ Some m
   method_there n m e =
-      ap (λ ms. slice_get ms n) b.methods ∙ get_front v.methods b.added n (within v.methods n m e) ∙ e
+      ap (λ ms. slice_get ms n) b.methods ∙ slice_get-left v.methods b.added n (within v.methods n m e) ∙ e
     where
       within : (ms : List MethodRec) (n : ℕ) (m : MethodRec) → slice_get ms n ≡ Some m → n < length ms
       within [] n m e = absurd cc
@@ -91,22 +93,10 @@ module _ (v w : Linked) (b : IsBegun v w) where
   pub object_same : object w.classes ≡ object v.classes
   object_same = object_front count v.classes w.classes b.grown
 
-  pub throwable_same : throwable w.classes ≡ throwable v.classes
-  throwable_same = ap (λ rs. slice_index rs 1) b.grown.roles
-
   pub in_types_same : (c : ℕ) → c < count → class_in_types w.classes c ≡ class_in_types v.classes c
   in_types_same c lt = rw (interface_front count v.classes w.classes b.grown c lt, object_same) refl
 
   -- ---- what an interface describes
-
-  filter_both : (p : ℕ → Bool) (xs ys : List ℕ) → filter p (xs ++ ys) ≡ filter p xs ++ filter p ys
-  filter_both p [] ys = refl
-  filter_both p (x ∷ xs) ys = by (p x) (filter_both p xs ys)
-    where
-      by : (c : Bool) → filter p (xs ++ ys) ≡ filter p xs ++ filter p ys
-          → (cond c (x ∷ filter p (xs ++ ys)) (filter p (xs ++ ys))) ≡ (cond c (x ∷ filter p xs) (filter p xs)) ++ filter p ys
-      by true h = ap (λ zs. x ∷ zs) h
-      by false h = h
 
   range_both : (a n k : ℕ) → range_with_len a (n + k) ≡ range_with_len a n ++ range_with_len (a + n) k
   range_both a zero k =
@@ -129,7 +119,7 @@ module _ (v w : Linked) (b : IsBegun v w) where
       ∙ filter_none p (a + 1) k (λ n le. none n (omega (arith, le)))
 
   method_front : (n : ℕ) → n < length v.methods → slice_get w.methods n ≡ slice_get v.methods n
-  method_front n lt = ap (λ ms. slice_get ms n) b.methods ∙ get_front v.methods b.added n lt
+  method_front n lt = ap (λ ms. slice_get ms n) b.methods ∙ slice_get-left v.methods b.added n lt
 
   method_after : (n : ℕ) → length v.methods ≤ n → IfSome (slice_get w.methods n) (λ m. count ≤ m.class)
   method_after n le =
@@ -154,7 +144,7 @@ module _ (v w : Linked) (b : IsBegun v w) where
       let all : length w.methods ≡ n + k = ap length b.methods ∙ length-append v.methods b.added in
       ap (λ j. filter (describes c token w) (range_with_len 0 j)) all
       ∙ ap (filter (describes c token w)) (range_both 0 n k)
-      ∙ filter_both (describes c token w) (range_with_len 0 n) (range_with_len (0 + n) k)
+      ∙ filter-append (describes c token w) (range_with_len 0 n) (range_with_len (0 + n) k)
       ∙ ap (λ xs. xs ++ filter (describes c token w) (range_with_len (0 + n) k))
       (filter_alike (describes c token w) (describes c token v) 0 n
       (λ i le less. ap (passes_test (is_described c token)) (method_front i (omega (arith, less)))))

@@ -18,10 +18,10 @@ use Rattle.jc_link.specs.World.{IsLinked}
 use Rattle.law_sound.specs.Soundness.{AreTypedMethods, TypedCodeIsFaultFree}
 use Rattle.law_added.specs.Added.{HasMore}
 use Rattle.law_added.specs.Checked.{AreCheckedOneByOne, CheckedPackagesNeverFault}
-use Rattle.law_added.proofs.Lists.{get_front}
 use Rattle.law_added.proofs.Numbers.{methods_until, each_mapped}
 use Rattle.law_added.proofs.Worlds.{begun_list, worlds-begin}
 use Rattle.law_added.proofs.Stay.{typings-stay}
+use Rattle.jc_base.proofs.Lists.{slice_get-left}
 
 -- a method of packages is of one of them
 homes_within : (ps : List PackageRecord) (roles : List ℕ) (i : ℕ) → IfSome (slice_get (named_methods ps roles) i) (λ m. m.«package» < length ps)
@@ -54,7 +54,7 @@ method_down v w more m is lt =
   where
     by : (b : Bool) → nat_lt m.number (length v.methods) ≡ b → slice_get v.methods m.number ≡ Some m.rec
     by true e =
-        sym (get_front v.methods (drop (length v.methods) w.methods) m.number (ltb-true m.number (length v.methods) e))
+        sym (slice_get-left v.methods (drop (length v.methods) w.methods) m.number (ltb-true m.number (length v.methods) e))
         ∙ sym (ap (λ ms. slice_get ms m.number) (begun_list v.methods w.methods more.methods)) ∙ is.rec
     by false e =
         let past = subst (λ o. IfSome o (λ x. length v.infos ≤ x.«package»)) is.rec (more.later m.number (grind (arith, nat_tests, e))) in

@@ -26,7 +26,7 @@ use Rattle.jc_classes.proofs.Climbs.{chain_step}
 use Rattle.jc_classes.proofs.Outlines.{parent_known}
 use Rattle.jc_classes.proofs.FaultlessLines.{no_fault}
 use Rattle.jc_classes.proofs.Descent.{are-classes}
-use Rattle.law_added.proofs.Lists.{get_front}
+use Rattle.jc_base.proofs.Lists.{slice_get-left}
 
 -- ---- what is known of named classes
 
@@ -102,7 +102,7 @@ module _ (cs more : List NamedClass) (roles : List ℕ) (are : AreLines (outline
   line_front : (c : ℕ) → c < length cs → slice_get many.lines c ≡ slice_get few.lines c
   line_front c lt =
       ap (λ ls. slice_get ls c) (map-append line_of cs more)
-      ∙ get_front (map line_of cs) (map line_of more) c (subst (λ n. c < n) (sym count) lt)
+      ∙ slice_get-left (map line_of cs) (map line_of more) c (subst (λ n. c < n) (sym count) lt)
 
   parent_front : (c : ℕ) → c < length cs → parent_of many c ≡ parent_of few c
   unfolding parent_of
@@ -158,7 +158,7 @@ module _ (cs more : List NamedClass) (roles : List ℕ) (are : AreLines (outline
   -- ---- dispatch lists and cells
 
   asked : {A : Type 0} (d : A) (f : NamedClass → A) (c : ℕ) → c < length cs → of_class d f (slice_get (cs ++ more) c) ≡ of_class d f (slice_get cs c)
-  asked d f c lt = ap (of_class d f) (get_front cs more c lt)
+  asked d f c lt = ap (of_class d f) (slice_get-left cs more c lt)
 
   public_front : (c : ℕ) → c < length cs → public_entries many (cs ++ more) c ≡ public_entries few cs c
   unfolding public_entries public_table

@@ -1,5 +1,5 @@
 -- What a package names stays the same when packages are added after it.
-use Rattle.std.proofs.Common.{◌≡◌, ◌<◌, ◌+◌, ℕ, List, [], ◌++◌, length, take, slice_get, position}
+use Rattle.std.proofs.Common.{◌≡◌, ◌<◌, ◌+◌, ℕ, List, ◌++◌, length, take, slice_get, position}
 use Rattle.std.proofs.Common.{Option, Some, None, IfSome, option_map, option_and_then, refl, ap, ◌∙◌, arith}
 use Rattle.std.proofs.lemmas.List.{take-append-le}
 use Rattle.cap_bytes.specs.declared.class_reference.ClassReference.{ClassReference}
@@ -12,14 +12,14 @@ use Rattle.jc_resolve.specs.Numbering.{class_at}
 use Rattle.jc_resolve.specs.References.{meets_import, import_of, met_by, exported_offset, exported_place}
 use Rattle.jc_resolve.specs.References.{class_referred, class_named}
 use Rattle.jc_resolve.proofs.ImportLaws.{met_before}
-use Rattle.law_added.proofs.Lists.{get_front}
 use Rattle.law_added.proofs.Numbers.{class_at_front}
+use Rattle.jc_base.proofs.Lists.{slice_get-left}
 
 module _ (ps qs : List PackageRecord) where
   -- what is asked of a package before is answered as before
   pub asked_front : {X : Type 0} (f : PackageRecord → Option X) (k : ℕ) → k < length ps
       → option_and_then f (slice_get (ps ++ qs) k) ≡ option_and_then f (slice_get ps k)
-  asked_front f k lt = ap (option_and_then f) (get_front ps qs k lt)
+  asked_front f k lt = ap (option_and_then f) (slice_get-left ps qs k lt)
 
   pub met_front : (k token : ℕ) → k < length ps → met_by (ps ++ qs) k token ≡ met_by ps k token
   unfolding met_by

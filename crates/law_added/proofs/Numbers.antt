@@ -10,7 +10,8 @@ use Rattle.jc_resolve.specs.Numbering.{NumberedClass, numbered_class, numbered_c
 use Rattle.jc_resolve.specs.Numbering.{class_at, same_place, flagged_interface, is_interface_number}
 use Rattle.jc_resolve.specs.Numbering.{NumberedMethod, numbered_method, methods_of_class, methods_of_classes, methods_after, numbered_methods, place_of_method}
 use Rattle.jc_resolve.specs.Numbering.{method_places, is_at, method_at}
-use Rattle.law_added.proofs.Lists.{get_front, position_front}
+use Rattle.law_added.proofs.Lists.{position_front}
+use Rattle.jc_base.proofs.Lists.{slice_get-left}
 
 -- ---- numbers of packages
 
@@ -155,4 +156,4 @@ module _ (ps qs : List PackageRecord) where
   unfolding is_interface_number
   interface_front c lt =
       ap (λ cs. flagged_interface (slice_get cs c)) classes_are
-      ∙ ap flagged_interface (get_front (numbered_classes ps) (classes_after (length ps) qs) c lt)
+      ∙ ap flagged_interface (slice_get-left (numbered_classes ps) (classes_after (length ps) qs) c lt)

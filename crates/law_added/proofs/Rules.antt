@@ -174,11 +174,6 @@ module _ (v w : Linked) (b : IsBegun v w) where
 
   -- ---- what is named
 
-  lifted : {X : Type 0} (f : Option Member → Result X RuleFault) (o p : Option Member) (x : X) → (f None ≡ Ok x → ⊥)
-      → ((m : Member) → o ≡ Some m → p ≡ Some m) → f o ≡ Ok x → f p ≡ Ok x
-  lifted f None p x none up e = absurd (none e)
-  lifted f (Some m) p x none up e = ap f (up m refl) ∙ e
-
   instance_same : (pool : ℕ) (k : Kind) (o : Option Member) → instance_field w.classes pool k o ≡ instance_field v.classes pool k o
   instance_same pool k (Some (Field c cell kind ty)) = rw b.grown.roles refl
   instance_same pool k _ = refl

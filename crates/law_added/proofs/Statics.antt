@@ -19,15 +19,12 @@ use Rattle.cap_index.specs.Component.{index_in, lists_in}
 use Rattle.cap_index.specs.Indexes.{has_code, is_coded, lists_after, package_lists, index_after, indexes_after, indexes_of}
 use Rattle.law_added.proofs.Numbers.{each_both, each_mapped, every}
 use Rattle.law_added.proofs.Records.{type_front}
+use Rattle.std.proofs.lemmas.Grind.{flat_map-append}
 
 -- ---- initial arrays
 
-flat_both : {X Y : Type 0} (f : X → List Y) (xs ys : List X) → flat_map f (xs ++ ys) ≡ flat_map f xs ++ flat_map f ys
-flat_both f [] ys = refl
-flat_both f (x ∷ xs) ys = ap (λ zs. f x ++ zs) (flat_both f xs ys) ∙ sym (append_assoc (f x) (flat_map f xs) (flat_map f ys))
-
 pub arrays_begin : (ps qs : List PackageRecord) → array_records (ps ++ qs) ≡ array_records ps ++ array_records qs
-arrays_begin ps qs = ap (map array_record) (flat_both initial_arrays ps qs) ∙ map-append array_record (flat_map initial_arrays ps) (flat_map initial_arrays qs)
+arrays_begin ps qs = ap (map array_record) (flat_map-append initial_arrays ps qs) ∙ map-append array_record (flat_map initial_arrays ps) (flat_map initial_arrays qs)
 
 -- ---- static fields
 

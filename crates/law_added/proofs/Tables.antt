@@ -9,8 +9,8 @@ use Rattle.jc_classes.specs.Outline.{AreLines, outline}
 use Rattle.jc_classes.specs.Tables.{class_tables}
 use Rattle.jc_classes.proofs.ClassLines.{tables-alike, chain-alike, records-length}
 use Rattle.jc_classes.proofs.Outlines.{parent_known}
-use Rattle.law_added.proofs.Lists.{get_front}
 use Rattle.law_added.proofs.Lines.{tables_begin, chain_front, chain_within, added_records}
+use Rattle.jc_base.proofs.Lists.{slice_get-left}
 
 -- the second table has the first n classes as the first one has them, and more classes after these
 pub record IsGrown (n : ℕ) (t u : ClassTable) : Type 0 where
@@ -47,7 +47,7 @@ tables_grown cs more roles are grown =
 module _ (n : ℕ) (t u : ClassTable) (grown : IsGrown n t u) where
   pub record_front : (c : ℕ) → c < n → slice_get u.records c ≡ slice_get t.records c
   record_front c lt =
-      ap (λ rs. slice_get rs c) grown.records ∙ get_front t.records grown.more c (subst (λ k. c < k) (sym grown.count) lt)
+      ap (λ rs. slice_get rs c) grown.records ∙ slice_get-left t.records grown.more c (subst (λ k. c < k) (sym grown.count) lt)
 
   pub object_front : object u ≡ object t
   object_front = ap (λ rs. slice_index rs 0) grown.roles

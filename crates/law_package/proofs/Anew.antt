@@ -23,10 +23,11 @@ use Rattle.jc_decode.specs.declared.symbols.Laid.{Laid}
 use Rattle.law_package.specs.Changes.{FormerMethod, Change, sources, changes, changes_of, stood_at, offset_by, now_at, laid_but}
 use Rattle.law_package.specs.Rewritten.{bare_method, bare_class}
 use Rattle.law_package.specs.Writing.{IsMemberOf, AreMembersOf, IsWrittenAnew, places}
-use Rattle.law_package.proofs.Lists.{Each, Has, each_at, each_of, each_map, map_each}
+use Rattle.law_package.proofs.Lists.{Each, Has, each_at, each_of, map_each}
 use Rattle.law_package.proofs.Zipped.{method_of, sources_method, length_but}
 use Rattle.law_package.proofs.Bare.{but_same, same_interfaces}
 use Rattle.law_package.proofs.Slots.{slot, kept, slot_none, at_offset_of, by_offset_is}
+use Rattle.jc_base.proofs.Eaching.{Each-map}
 
 -- ---- the pairs
 
@@ -203,7 +204,7 @@ renamed p q laid ms w told o =
         (change_in (places p ms)) zs h in
         let others : Each (λ (m : WrittenMember). at_offset_of m ≡ Some o → ⊥) ms =
         subst (Each (λ (m : WrittenMember). at_offset_of m ≡ Some o → ⊥)) (pair_members p.methods.info (sources p laid) ms w.members)
-        (each_map (λ (m : WrittenMember). at_offset_of m ≡ Some o → ⊥) member_in zs (each_of (λ (z : Pair). at_offset_of z.member ≡ Some o → ⊥) zs
+        (Each-map (λ (m : WrittenMember). at_offset_of m ≡ Some o → ⊥) member_in zs (each_of (λ (z : Pair). at_offset_of z.member ≡ Some o → ⊥) zs
         (λ z g. λ e. eqb-false z.source.method.method_offset o (each_at (λ (x : Pair). stood_at o (change_in (places p ms) x) ≡ false) zs z none g)
         (sym (each_at (λ (x : Pair). IsMemberOf p.methods.info x.source x.member) zs z is g).offset ∙ same_Some z.member.offset o e)))) in
         ap (offset_by o) f ∙ sym (stays (length p.methods.info) (length p.methods.handlers) ms o others)

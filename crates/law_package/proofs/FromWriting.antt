@@ -3,6 +3,9 @@ use Rattle.std.proofs.Common.{◌≡◌, ◌≤◌, ◌<◌, ◌+◌, ℕ, zero,
 use Rattle.std.proofs.Common.{option_map, refl, sym, ap, subst, ◌∙◌, arith}
 use Rattle.std.specs.Prelude.{slice_index}
 use Rattle.jc_base.proofs.Eaching.{All-from_Each}
+use Rattle.std.proofs.Common.{Some, None}
+use Rattle.std.specs.Prelude.{if◌then◌else◌, ◌==◌}
+use Rattle.jc_base.proofs.Eaching.{Each-map}
 use Rattle.cap_frame.specs.AppletFormat.{Applet}
 use Rattle.cap_pool.specs.PoolFormat.{Entry}
 use Rattle.cap_pool.specs.ExportFormat.{Exported}
@@ -26,7 +29,7 @@ use Rattle.law_package.specs.Written.{IsMethodWritten, size_written, handlers_in
 use Rattle.law_package.specs.Laying.{AreLaidFor}
 use Rattle.law_package.specs.Rewritten.{HasSameDescription, IsRewritten}
 use Rattle.law_package.specs.Writing.{IsWrittenAnew, places}
-use Rattle.law_package.proofs.Lists.{Each, Has, each_at, each_of, each_map}
+use Rattle.law_package.proofs.Lists.{Each, Has, each_at, each_of}
 use Rattle.law_package.proofs.Ranks.{sums_agree, sum_through}
 use Rattle.law_package.proofs.Order.{many_of, index_among, entries_among}
 use Rattle.law_package.proofs.Anew.{Pair, pairs_in, change_in, all_changes, renamed, memberless_classes}
@@ -128,7 +131,7 @@ rewrites back stand parts p q laid ms s l w =
     let ks = known parts p q laid ms s l w stand back in
     let are : changes p laid q ≡ cs = all_changes p q laid ms w in
     let name : (o : ℕ) → to news o ≡ now_at (changes p laid q) o = λ o. sym (renamed p q laid ms w (told_all p q laid ms w stand) o) in
-    let each : All (IsMethodWritten p q cs) cs = All-from_Each (IsMethodWritten p q cs) cs (each_map (IsMethodWritten p q cs) (change_in news) zs
+    let each : All (IsMethodWritten p q cs) cs = All-from_Each (IsMethodWritten p q cs) cs (Each-map (IsMethodWritten p q cs) (change_in news) zs
     (each_of (λ (z : Pair). IsMethodWritten p q cs (change_in news z)) zs (λ z h. written_one parts p q laid ms z s w ks h))) in
     record {
       header = w.header;

@@ -31,6 +31,7 @@ use Rattle.law_package.proofs.Zipped.{old_of, source_of, from_number, now_of}
 use Rattle.law_package.proofs.Facts.{Fact, facts, news, olds, froms, old_each, all_written, few_by, no_faults}
 use Rattle.law_package.proofs.Standing.{distinct_map}
 use Rattle.law_package.proofs.Names.{is_told}
+use Rattle.jc_base.proofs.Lists.{slice_get-drop, slice_get-take}
 
 -- ---- the former table: no two methods had one first entry
 
@@ -200,17 +201,6 @@ owners_are p q laid k c r alone =
 
 -- ---- where an entry lies
 
-pub get_drop : {X : Type 0} (i j : ℕ) (xs : List X) → slice_get (drop i xs) j ≡ slice_get xs (i + j)
-get_drop zero j xs = let e : 0 + j ≡ j = omega arith in rw e refl
-get_drop (suc i) j [] = refl
-get_drop (suc i) j (x ∷ xs) = let e : suc i + j ≡ suc (i + j) = omega arith in rw e (get_drop i j xs)
-
-pub get_take : {X : Type 0} (n j : ℕ) (xs : List X) → j < n → slice_get (take n xs) j ≡ slice_get xs j
-get_take zero j xs h = absurd (omega arith)
-get_take (suc n) j [] h = refl
-get_take (suc n) zero (x ∷ xs) h = refl
-get_take (suc n) (suc j) (x ∷ xs) h = get_take n j xs (omega arith)
-
 pub record IsEntryOf (start size : ℕ) (e : HandlerInfo) : Type 0 where
   pub low : start ≤ e.start
   pub high : e.start + e.length ≤ start + size
@@ -261,7 +251,7 @@ owner_within p q all c k h (Some laid) x f is w g low high =
     let i : m.handler_index ≡ n = index_is p q all c w ∙ ap (λ b. if b then 0 else n) some in
     let at : m.handler_index + (k - n) ≡ k = omega arith in
     let e : slice_get (handlers_of q m) (k - n) ≡ Some h =
-    get_take m.handler_count (k - n) (drop m.handler_index q.methods.handlers) (omega arith) ∙ get_drop m.handler_index (k - n) q.methods.handlers
+    slice_get-take m.handler_count (k - n) (drop m.handler_index q.methods.handlers) (omega arith) ∙ slice_get-drop m.handler_index (k - n) q.methods.handlers
     ∙ ap (slice_get q.methods.handlers) at ∙ g in
     within_code q.methods.info m (length laid.code) h is.long
     (entry_within (code_start q.methods.info m) (length laid.code) laid.handlers (k - n) h f.inside (ap (λ hs. slice_get hs (k - n)) (sym is.handlers) ∙ e))

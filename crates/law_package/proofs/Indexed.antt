@@ -24,7 +24,7 @@ use Rattle.jc_decode.specs.declared.symbols.Laid.{Laid}
 use Rattle.law_package.specs.Changes.{FormerMethod, Change, sources}
 use Rattle.law_package.specs.Written.{size_written, handlers_in, stood_before, block_of, methods_begin}
 use Rattle.law_package.specs.Writing.{first_handler, IsWrittenAnew, places}
-use Rattle.law_package.proofs.Lists.{Each, Has, each_at, each_of, each_map}
+use Rattle.law_package.proofs.Lists.{Each, Has, each_at, each_of}
 use Rattle.cap_package.proofs.Agreed.{agrees}
 use Rattle.law_package.proofs.Owners.{Distinct}
 use Rattle.law_package.proofs.Zipped.{old_of}
@@ -41,6 +41,7 @@ use Rattle.law_package.proofs.Slots.{sum_put, length_table, by_offset_is, firsts
 use Rattle.law_package.proofs.Anew.{Pair, pairs_in, source_in, member_in, pair_sources, pair_members, change_in}
 use Rattle.law_package.proofs.Order.{many_of, present, total_sum, total_slots, IsAmong, early, late}
 use Rattle.law_package.proofs.Known.{Known, was_described, of_methods, size_known}
+use Rattle.jc_base.proofs.Eaching.{Each-map}
 
 -- ---- they stood apart
 
@@ -166,7 +167,7 @@ block_in p z = block_of p z.source
 
 distinct_up : {X Y : Type 0} (key : Y → ℕ) (g : X → Y) (xs : List X) → Distinct (λ x. key (g x)) xs → Distinct key (map g xs)
 distinct_up key g [] d = tt
-distinct_up key g (x ∷ xs) d = (each_map (λ y. key y ≡ key (g x) → ⊥) g xs d.0, distinct_up key g xs d.1)
+distinct_up key g (x ∷ xs) d = (Each-map (λ y. key y ≡ key (g x) → ⊥) g xs d.0, distinct_up key g xs d.1)
 
 was_old : (p q : PackageRecord) (laid : List (Option Laid)) (ms : List WrittenMember) → IsWrittenAnew p laid ms q
     → map old_of (map (change_in (places p ms)) (pairs_in p laid ms)) ≡ described_methods p
@@ -183,7 +184,7 @@ blocks_differ parts p q laid ms s w =
     (distinct_numbers 0 (described_methods p) _)) in
     distinct_map (block p) (change_in (places p ms)) zs
     (blocks_apart p cs
-    (each_map (λ (c : Change). ClaimsInside (length p.methods.handlers) c.source.method) (change_in (places p ms)) zs
+    (Each-map (λ (c : Change). ClaimsInside (length p.methods.handlers) c.source.method) (change_in (places p ms)) zs
     (of_methods p q laid ms (ClaimsInside (length p.methods.handlers)) w (all_claims parts p a)))
     (distinct_up (λ (c : Change). c.source.number) (change_in (places p ms)) zs numbers)
     (subst (OwnedOnce (length p.methods.handlers)) (sym (was_old p q laid ms w)) (owned_once parts p a)))
@@ -191,7 +192,14 @@ blocks_differ parts p q laid ms s w =
 firsts_apart : (p q : PackageRecord) (ms : List WrittenMember) (zs : List Pair) → Each (Known p q ms) zs → Distinct (block_in p) zs
     → AreApartBy first_of (length p.methods.handlers) (map member_in zs)
 firsts_apart p q ms [] k d = tt
-firsts_apart p q ms (z ∷ zs) k d = grind (arith, first_low, had_first, each_map, each_of, each_at, firsts_apart p q ms zs k.1 d.1)
+firsts_apart p q ms (z ∷ zs) k d = (
+  (λ i e. first_low p z.source i k.0.inside (had_first p z.source i (sym k.0.is.handlers ∙ e))),
+  Each-map (Differ first_of z.member) member_in zs (each_of (λ (y : Pair). Differ first_of z.member y.member) zs (λ y h. λ i e f.
+      let a = had_first p z.source i (sym k.0.is.handlers ∙ e) in
+      let b = had_first p y.source i (sym (each_at (Known p q ms) zs y k.1 h).is.handlers ∙ f) in
+      each_at (λ (x : Pair). block_in p x ≡ block_in p z → ⊥) zs y d.0 h (b.block ∙ sym a.block))),
+  firsts_apart p q ms zs k.1 d.1,
+)
 
 pub all_firsts : (parts : List Lent) (p q : PackageRecord) (laid : List (Option Laid)) (ms : List WrittenMember) → StandsFor parts p
     → IsWrittenAnew p laid ms q → Each (Known p q ms) (pairs_in p laid ms) → AreApartBy first_of (length p.methods.handlers) ms

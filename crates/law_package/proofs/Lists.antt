@@ -23,10 +23,6 @@ pub each_of : {X : Type 0} (P : X → Type 0) (xs : List X) → ((x : X) → Has
 each_of P [] f = tt
 each_of P (x ∷ xs) f = (f x (inl refl), each_of P xs (λ y h. f y (inr h)))
 
-pub each_map : {X Y : Type 0} (P : Y → Type 0) (g : X → Y) (xs : List X) → Each (λ x. P (g x)) xs → Each P (map g xs)
-each_map P g [] h = tt
-each_map P g (x ∷ xs) h = (h.0, each_map P g xs h.1)
-
 pub map_each : {X Y : Type 0} (P : Y → Type 0) (g : X → Y) (xs : List X) → Each P (map g xs) → Each (λ x. P (g x)) xs
 map_each P g [] h = tt
 map_each P g (x ∷ xs) h = (h.0, map_each P g xs h.1)
@@ -47,13 +43,6 @@ append_none xs ys e h = rw (e, h) refl
 pub faults_map : {F X Y : Type 0} (f : Y → Option F) (g : X → Y) (xs : List X) → filter_map f (map g xs) ≡ filter_map (λ x. f (g x)) xs
 faults_map f g [] = refl
 faults_map f g (x ∷ xs) = ap (cons_option (f (g x))) (faults_map f g xs)
-
-options_append : {F : Type 0} (o : Option F) (xs ys : List F) → cons_option o (xs ++ ys) ≡ cons_option o xs ++ ys
-options_append x xs ys = grind (arith)
-
-pub faults_append : {F X : Type 0} (f : X → Option F) (xs ys : List X) → filter_map f (xs ++ ys) ≡ filter_map f xs ++ filter_map f ys
-faults_append f [] ys = refl
-faults_append f (x ∷ xs) ys = ap (cons_option (f x)) (faults_append f xs ys) ∙ options_append (f x) (filter_map f xs) (filter_map f ys)
 
 pub faults_same : {F X : Type 0} (f g : X → Option F) (xs : List X) → ((x : X) → f x ≡ g x) → filter_map f xs ≡ filter_map g xs
 faults_same f g [] h = refl

@@ -17,6 +17,7 @@ use Rattle.cap_laying.specs.Blocks.{handler_indexes, block_entries, entries_of_b
 use Rattle.cap_laying.proofs.Owned.{total_append, length_entries as length_at, length_table}
 use Rattle.law_package.proofs.Lists.{Each, Has, each_at}
 use Rattle.law_package.proofs.Slots.{slot, sum_slots, first_of}
+use Rattle.std.proofs.lemmas.List.Elements.{filter-append}
 
 abbrev pub many_of : WrittenMember → ℕ
 many_of m = length (handlers_of m.body)
@@ -106,15 +107,6 @@ early room ms i m e first hold one =
           (each_late P ms (λ b h n. λ s. some_none i (sym first ∙ sym (ap first_of (one b h s)) ∙ none_of (first_of b) n)));
     }
 
-filter_parts : (p : WrittenMember → Bool) (xs ys : List WrittenMember) → filter p (xs ++ ys) ≡ filter p xs ++ filter p ys
-filter_parts p [] ys = refl
-filter_parts p (x ∷ xs) ys = by (p x) (filter_parts p xs ys)
-  where
-    by : (b : Bool) → filter p (xs ++ ys) ≡ filter p xs ++ filter p ys → cond b (x ∷ filter p (xs ++ ys)) (filter p (xs ++ ys))
-        ≡ cond b (x ∷ filter p xs) (filter p xs) ++ filter p ys
-    by true e = ap (λ zs. x ∷ zs) e
-    by false e = e
-
 -- one that had none stands after them
 pub late : (room : ℕ) (lead rest : List WrittenMember) (m : WrittenMember) → had_none m ≡ true
     → Each (λ (b : WrittenMember). b.offset ≡ m.offset → ⊥) rest
@@ -123,7 +115,7 @@ late room lead rest m e apart =
     let ms = lead ++ m ∷ rest in
     let table = firsts room ms in
     let last : filter had_none ms ≡ filter had_none lead ++ m ∷ filter had_none rest =
-    filter_parts had_none lead (m ∷ rest) ∙ ap (λ b. filter had_none lead ++ cond b (m ∷ filter had_none rest) (filter had_none rest)) e in
+    filter-append had_none lead (m ∷ rest) ∙ ap (λ b. filter had_none lead ++ cond b (m ∷ filter had_none rest) (filter had_none rest)) e in
     record {
       lead = present table ++ filter had_none lead;
       rest = filter had_none rest;

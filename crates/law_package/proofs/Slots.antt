@@ -5,7 +5,7 @@ use Rattle.std.specs.Prelude.{if◌then◌else◌, nat_lt, ◌==◌, slice_set, 
 use Rattle.std.proofs.lemmas.List.Sums.{sum_by-cons}
 use Rattle.std.proofs.lemmas.Bool.{eqb-true, eqb-false}
 use Rattle.cap_laying.specs.declared.member.WrittenMember.{WrittenMember}
-use Rattle.cap_laying.specs.Member.{placed, by_offset, body_size, size_if, methods_end_from}
+use Rattle.cap_laying.specs.Member.{placed, by_offset, body_size, size_if}
 use Rattle.cap_laying.specs.MethodInfo.{place_in_table}
 use Rattle.cap_laying.specs.Blocks.{put_by, put_firsts, firsts}
 use Rattle.cap_laying.proofs.Owned.{set_other, set_same, length_set, length_none}
@@ -225,10 +225,6 @@ place_is at [] zero = omega arith
 place_is at [] (suc n) = omega arith
 place_is at (s ∷ table) zero = omega arith
 place_is at (s ∷ table) (suc n) = grind (arith, size_is, place_is (at + size_if s) table n)
-
-pub end_is : (at : ℕ) (table : List (Option WrittenMember)) → methods_end_from at table ≡ at + sum_slots size_of (length table) table
-end_is at [] = omega arith
-end_is at (s ∷ table) = grind (arith, size_is, end_is (at + size_if s) table)
 
 length_put_by : (table : List (Option WrittenMember)) (m : WrittenMember) (o : Option ℕ) → length (put_by table m o) ≡ length table
 length_put_by table m z = grind (arith, length_set)

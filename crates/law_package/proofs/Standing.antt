@@ -15,13 +15,14 @@ use Rattle.jc_decode.specs.declared.symbols.Laid.{Laid}
 use Rattle.law_package.specs.Changes.{Change, changes}
 use Rattle.law_package.specs.Written.{IsMethodWritten, size_written, methods_begin}
 use Rattle.law_package.specs.Rewritten.{IsRewritten}
-use Rattle.law_package.proofs.Lists.{Each, Has, each_at, each_of, map_each, none_each, each_none, append_none, faults_map, faults_append}
+use Rattle.law_package.proofs.Lists.{Each, Has, each_at, each_of, map_each, none_each, each_none, append_none, faults_map}
 use Rattle.law_package.proofs.Sums.{sum_beside}
 use Rattle.law_package.proofs.Owners.{below, Distinct, ends_before}
 use Rattle.cap_package.proofs.Agreed.{Agrees}
 use Rattle.law_package.proofs.Zipped.{now_of}
 use Rattle.law_package.proofs.Headers.{some_bytes}
 use Rattle.law_package.proofs.Facts.{WasWell, wells, news, olds, no_faults, all_written, few_by}
+use Rattle.std.proofs.lemmas.List.Elements.{filter_map-append}
 
 pub sizes_end : (info : List ℕ) (m : MethodDescriptor)
     → code_end info m ≡ m.method_offset + (size_by (number_at 1 m.method_offset info) + m.bytecode_count)
@@ -54,7 +55,7 @@ all_apart p (m ∷ ms) w e =
   where
     split : (m : MethodDescriptor) (ms : List MethodDescriptor) → filter_map (overlap_pair p.methods.info) (pairs (m ∷ ms))
         ≡ filter_map (overlap_pair p.methods.info) (map (λ y. (m, y)) ms) ++ filter_map (overlap_pair p.methods.info) (pairs ms)
-    split m ms = faults_append (overlap_pair p.methods.info) (map (λ y. (m, y)) ms) (pairs ms)
+    split m ms = filter_map-append (overlap_pair p.methods.info) (map (λ y. (m, y)) ms) (pairs ms)
 
 pub distinct_map : {X Y : Type 0} (key : Y → ℕ) (g : X → Y) (xs : List X) → Distinct key (map g xs) → Distinct (λ x. key (g x)) xs
 distinct_map key g [] d = tt
@@ -110,7 +111,7 @@ no_pairs p q all (c ∷ cs) ws i d =
     let head : filter_map (overlap_pair info) (map (λ y. (c.now, y)) (map now_of cs)) ≡ [] =
     faults_map (overlap_pair info) (λ y. (c.now, y)) (map now_of cs) ∙ faults_map (λ y. overlap_fault info c.now y) now_of cs
     ∙ each_none (λ (y : Change). overlap_fault info c.now y.now) cs each in
-    faults_append (overlap_pair info) (map (λ y. (c.now, y)) (map now_of cs)) (pairs (map now_of cs))
+    filter_map-append (overlap_pair info) (map (λ y. (c.now, y)) (map now_of cs)) (pairs (map now_of cs))
     ∙ append_none (filter_map (overlap_pair info) (map (λ y. (c.now, y)) (map now_of cs))) (filter_map (overlap_pair info) (pairs (map now_of cs))) head
     (no_pairs p q all cs ws (λ y h. i y (inr h)) d.1)
 

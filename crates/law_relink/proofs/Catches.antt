@@ -29,17 +29,19 @@ use Rattle.jc_resolve.specs.NamedMethods.{handler_named}
 use Rattle.law_package.specs.Changes.{Change, changes, now_at}
 use Rattle.law_package.specs.Written.{IsAs, IsMethodWritten, handlers_in, block_of}
 use Rattle.law_package.specs.Rewritten.{IsRewritten}
-use Rattle.law_package.proofs.Lists.{Each, each_at, none_each, each_none, append_none, faults_append}
+use Rattle.law_package.proofs.Lists.{Each, each_at, none_each, each_none, append_none}
 use Rattle.law_package.proofs.Owners.{below, owned}
 use Rattle.cap_package.proofs.Agreed.{agrees}
 use Rattle.law_package.proofs.Facts.{all_written}
-use Rattle.law_package.proofs.Handlers.{all_blocks, get_drop, get_take}
+use Rattle.law_package.proofs.Handlers.{all_blocks}
 use Rattle.law_laid.proofs.Steps.{at-contains}
 use Rattle.jc_resolve.proofs.Pairwise.{each-at}
 use Rattle.law_relink.specs.Last.{and_last}
 use Rattle.law_relink.specs.Replaced.{HasPoolOf}
 use Rattle.law_relink.proofs.Lists.{get_each, each_take, each_drop}
 use Rattle.law_relink.proofs.Members.{class_same}
+use Rattle.std.proofs.lemmas.List.Elements.{filter_map-append}
+use Rattle.jc_base.proofs.Lists.{slice_get-drop, slice_get-take}
 
 module _ (ps : List PackageRecord) (p q : PackageRecord) (laid : List (Option Laid)) (r : IsRewritten p laid q) (t : ClassTable)
   where
@@ -150,8 +152,8 @@ module _ (ps : List PackageRecord) (p q : PackageRecord) (laid : List (Option La
         let index : m.handler_index ≡ first = i ∙ ap (λ b. if b then 0 else first) some in
         let at : m.handler_index + (n - first) ≡ n = omega (arith, index, low) in
         let e : slice_get (handlers_of q m) (n - first) ≡ Some h =
-        get_take m.handler_count (n - first) (drop m.handler_index q.methods.handlers) (omega (arith, low, high))
-        ∙ get_drop m.handler_index (n - first) q.methods.handlers ∙ ap (slice_get q.methods.handlers) at ∙ g in
+        slice_get-take m.handler_count (n - first) (drop m.handler_index q.methods.handlers) (omega (arith, low, high))
+        ∙ slice_get-drop m.handler_index (n - first) q.methods.handlers ∙ ap (slice_get q.methods.handlers) at ∙ g in
         entry_catches _ laid_code.handlers (n - first) h (l laid_code refl) (ap (λ hs. slice_get hs (n - first)) (sym is.handlers)
         ∙ e)
 
@@ -175,7 +177,7 @@ module _ (ps : List PackageRecord) (p q : PackageRecord) (laid : List (Option La
     all_catches parts k [] s all e none =
         let z : length ps ≡ k = omega (arith, e) in
         let own = handlers_from k q.pool 0 q.methods.handlers in
-        faults_append (catch_fault now t) own []
+        filter_map-append (catch_fault now t) own []
         ∙ append_none (filter_map (catch_fault now t) own) []
         (subst (λ j. filter_map (catch_fault now t) (handlers_from j q.pool 0 q.methods.handlers) ≡ []) z
         (no_fault now (length ps) q.pool 0 q.methods.handlers (last_catches parts s all))) refl
@@ -183,8 +185,8 @@ module _ (ps : List PackageRecord) (p q : PackageRecord) (laid : List (Option La
         let fault = catch_fault old t in
         let own = handlers_from k x.pool 0 x.methods.handlers in
         let both = both_empty (filter_map fault own) (filter_map fault (handlers_after (k + 1) (and_last xs p)))
-        (sym (faults_append fault own (handlers_after (k + 1) (and_last xs p))) ∙ none) in
-        faults_append (catch_fault now t) own (handlers_after (k + 1) (and_last xs q))
+        (sym (filter_map-append fault own (handlers_after (k + 1) (and_last xs p))) ∙ none) in
+        filter_map-append (catch_fault now t) own (handlers_after (k + 1) (and_last xs q))
         ∙ append_none (filter_map (catch_fault now t) own) (filter_map (catch_fault now t) (handlers_after (k + 1) (and_last xs q)))
         (no_fault now k x.pool 0 x.methods.handlers (earlier_catches k x.pool x.methods.handlers
         (each_catches old k x.pool 0 x.methods.handlers both.0)))
@@ -202,13 +204,13 @@ module _ (ps : List PackageRecord) (p q : PackageRecord) (laid : List (Option La
     own_catches k [] e none =
         let z : k ≡ length ps = omega (arith, e) in
         let own = handlers_from k p.pool 0 p.methods.handlers in
-        let both = both_empty (filter_map (catch_fault old t) own) [] (sym (faults_append (catch_fault old t) own []) ∙ none) in
+        let both = both_empty (filter_map (catch_fault old t) own) [] (sym (filter_map-append (catch_fault old t) own []) ∙ none) in
         subst (λ j. Each (Catches old j p.pool) p.methods.handlers) z (each_catches old k p.pool 0 p.methods.handlers both.0)
     own_catches k (x ∷ xs) e none =
         let own = handlers_from k x.pool 0 x.methods.handlers in
         let both = both_empty (filter_map (catch_fault old t) own)
         (filter_map (catch_fault old t) (handlers_after (k + 1) (and_last xs p)))
-        (sym (faults_append (catch_fault old t) own (handlers_after (k + 1) (and_last xs p))) ∙ none) in
+        (sym (filter_map-append (catch_fault old t) own (handlers_after (k + 1) (and_last xs p))) ∙ none) in
         own_catches (k + 1) xs (omega (arith, e)) both.1
 
     named_catch : (throwable code_at : ℕ) (hs : List HandlerInfo) → Each (Catches old (length ps) p.pool) hs

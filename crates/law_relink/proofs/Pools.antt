@@ -18,10 +18,11 @@ use Rattle.jc_link.specs.Pools.{PoolPlace, places_from, places_after, member_fau
 use Rattle.jc_resolve.specs.declared.fault.LinkFault.TheVariants.{NoMember}
 use Rattle.law_package.specs.Changes.{changes, now_at}
 use Rattle.law_package.specs.Rewritten.{IsRewritten}
-use Rattle.law_package.proofs.Lists.{Each, none_each, append_none, faults_append}
+use Rattle.law_package.proofs.Lists.{Each, none_each, append_none}
 use Rattle.law_relink.specs.Last.{and_last}
 use Rattle.law_relink.proofs.Members.{earlier_member}
 use Rattle.law_relink.proofs.Calls.{renewed_member}
+use Rattle.std.proofs.lemmas.List.Elements.{filter_map-append}
 
 named_some : (o : Option Member) (k n : ℕ) → (if is_none o then Some (NoMember k n) else None) ≡ None → (m : Member) × (o ≡ Some m)
 named_some None k n e = absurd cc
@@ -95,11 +96,11 @@ module _ (parts : List Lent) (ps : List PackageRecord) (p q : PackageRecord) (la
       (let fault = member_fault old t statics in
       let before = subst (λ j. filter_map fault (places_after j (p ∷ [])) ≡ []) (sym z) none in
       let both = both_empty (filter_map fault (places_from (length ps) 0 p.pool)) []
-      (sym (faults_append fault (places_from (length ps) 0 p.pool) []) ∙ before) in
+      (sym (filter_map-append fault (places_from (length ps) 0 p.pool) []) ∙ before) in
       let last = last_pool 0 p.pool (none_each fault (places_from (length ps) 0 p.pool) both.0) in
       record {
         none = ap (λ es. filter_map (member_fault now t statics) (places_from (length ps) 0 es ++ [])) r.pool
-            ∙ faults_append (member_fault now t statics) (places_from (length ps) 0 (map (renewed_entry to) p.pool)) []
+            ∙ filter_map-append (member_fault now t statics) (places_from (length ps) 0 (map (renewed_entry to) p.pool)) []
             ∙ append_none (filter_map (member_fault now t statics) (places_from (length ps) 0 (map (renewed_entry to) p.pool))) []
             last.none refl;
         members = ap (λ es. filter_map (member_of now t statics (length ps)) es ∷ []) r.pool ∙ ap (λ ms. ms ∷ []) last.members;
@@ -109,10 +110,10 @@ module _ (parts : List Lent) (ps : List PackageRecord) (p q : PackageRecord) (la
       let fault = member_fault old t statics in
       let own = places_from k 0 x.pool in
       let both = both_empty (filter_map fault own) (filter_map fault (places_after (k + 1) (and_last xs p)))
-      (sym (faults_append fault own (places_after (k + 1) (and_last xs p))) ∙ none) in
+      (sym (filter_map-append fault own (places_after (k + 1) (and_last xs p))) ∙ none) in
       let rest = all_pools (k + 1) xs (omega (arith, e)) both.1 in
       record {
-        none = faults_append (member_fault now t statics) own (places_after (k + 1) (and_last xs q))
+        none = filter_map-append (member_fault now t statics) own (places_after (k + 1) (and_last xs q))
             ∙ append_none (filter_map (member_fault now t statics) own)
             (filter_map (member_fault now t statics) (places_after (k + 1) (and_last xs q))) (earlier_faults k 0 x.pool lt ∙ both.0)
             rest.none;

@@ -28,7 +28,7 @@ use Rattle.jc_base.specs.declared.record.MethodRec.{MethodRec}
 use Rattle.jc_base.specs.Linked.{list_at}
 use Rattle.jc_base.specs.World.{Linked}
 use Rattle.jc_base.specs.World as world
-use Rattle.jc_base.proofs.Lists.{slice_get-farther, slice_get-front, slice_get-some}
+use Rattle.jc_base.proofs.Lists.{slice_get-farther, slice_get-front, slice_get-some, slice_get-drop, slice_get-take}
 use Rattle.jc_base.proofs.Eaching.{Each-from_All}
 use Rattle.jc_control.specs.Method.{method_with}
 use Rattle.jc_decode.specs.declared.symbols.LaidHandler.{LaidHandler as Laying}
@@ -43,7 +43,7 @@ use Rattle.law_package.specs.Rewritten.{IsRewritten}
 use Rattle.law_package.proofs.Lists.{Each, Has, none_each, has_filter}
 use Rattle.cap_package.proofs.Agreed.{Agrees, agrees}
 use Rattle.law_package.proofs.Facts.{news}
-use Rattle.law_package.proofs.Handlers.{has_map, get_drop, get_take}
+use Rattle.law_package.proofs.Handlers.{has_map}
 use Rattle.law_package.proofs.Headers.{header_sized}
 use Rattle.law_package.proofs.Names.{is_told}
 use Rattle.law_package.proofs.Zipped.{now_of}
@@ -136,7 +136,7 @@ handlers_end parts q m a has =
     get_each (λ (h : HandlerInfo). h.start + h.length ≤ code_end info m) (handlers_of q m) (λ j h e.
     let less = taken_below m.handler_count j (drop m.handler_index q.methods.handlers) h e in
     let there : slice_get q.methods.handlers (m.handler_index + j) ≡ Some h =
-    sym (get_drop m.handler_index j q.methods.handlers) ∙ sym (get_take m.handler_count j (drop m.handler_index q.methods.handlers) less) ∙ e in
+    sym (slice_get-drop m.handler_index j q.methods.handlers) ∙ sym (slice_get-take m.handler_count j (drop m.handler_index q.methods.handlers) less) ∙ e in
     let fault = numbered_get (λ x. numbered_fault info (described_methods q) x ≡ None) 0 q.methods.handlers (m.handler_index + j) h each
     there in
     let z : 0 + (m.handler_index + j) ≡ m.handler_index + j = omega arith in

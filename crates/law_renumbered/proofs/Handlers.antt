@@ -11,12 +11,12 @@ use Rattle.jc_decode.specs.declared.symbols.Laid.{Laid}
 use Rattle.jc_decode.specs.Symbols.{handler as laid_handler}
 use Rattle.jc_control.specs.Method.{Method, IsMethodOf}
 use Rattle.jc_control.specs.WellFormed.{IsPlace, IsBoundary, IsHandlerOf, IsWellFormed}
-use Rattle.card_typing.proofs.Own.{of_world, handler_of}
 use Rattle.vm_step.specs.Raising.{catches}
 use Rattle.law_laid.specs.Laid.{catching, HasLaid}
 use Rattle.law_laid.proofs.Catching.{catches-by-pool}
 use Rattle.law_share.specs.Renamed.{CatchAlike}
 use Rattle.law_renumbered.specs.Symbols.{range_of}
+use Rattle.jc_rules.proofs.Starts.{of_world, handler_of}
 
 -- places come to places, and keep their order
 pub record KeepsOrder (code there : List ℕ) (f : ℕ → ℕ) : Type 0 where

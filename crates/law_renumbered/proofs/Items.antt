@@ -59,7 +59,7 @@ module _ (code : List ℕ) (reg : ℕ → ℕ) where
 
   -- ---- labels
 
-  one-behind : (l : ℕ) (i : Placed) (rest : List Item) → place_of l (item_of code reg i ∷ rest) ≡ suc (place_of l rest)
+  pub one-behind : (l : ℕ) (i : Placed) (rest : List Item) → place_of l (item_of code reg i ∷ rest) ≡ suc (place_of l rest)
   one-behind l i rest = by (is_switch i.insn.op) (is_branch i.insn.op)
     where
       by : (a b : Bool)

@@ -1,36 +1,16 @@
 -- Where the instructions of the laid code lead, and the keys of their cases.
-use Rattle.std.proofs.Common.{◌≡◌, ℕ, suc, ◌+◌, Bool, true, false, if◌then◌else◌, List, [], ◌∷◌, map, All}
+use Rattle.std.proofs.Common.{◌≡◌, ℕ, suc, Bool, true, false, if◌then◌else◌, List, [], ◌∷◌, map, All}
 use Rattle.std.proofs.Common.{refl, sym, ap, ◌∙◌, subst, arith}
-use Rattle.std.specs.Prelude.{ℤ, pos, negsuc, ◌||◌, slice_index_or, Result, Ok, Err}
+use Rattle.std.specs.Prelude.{ℤ, pos, negsuc, ◌||◌, slice_index_or}
 use Rattle.jc_decode.specs.declared.insn.Case.{Case}
-use Rattle.jc_decode.specs.declared.insn.CodeEnd.{CodeEnd}
-use Rattle.jc_decode.specs.declared.insn.Insn.{Insn}
 use Rattle.jc_decode.specs.declared.insn.Placed.{Placed}
-use Rattle.jc_decode.specs.declared.layout.Cases.{Cases}
-use Rattle.jc_decode.specs.declared.layout.Cases.TheVariants.{Range, Pairs}
-use Rattle.jc_decode.specs.declared.layout.Cases.TheVariants.{Absent as NoCases}
-use Rattle.jc_decode.specs.declared.layout.Layout.{Layout}
-use Rattle.jc_decode.specs.Cases.{cases, cases_by, cases_in, has_cases, is_table, is_switch}
-use Rattle.jc_decode.specs.Layout.{layout_of, total_width}
+use Rattle.jc_decode.specs.Cases.{cases, is_switch}
 use Rattle.jc_decode.specs.Listing.{is_branch, target, targets}
 use Rattle.jc_control.specs.WellFormed.{IsPlace, IsTargetPlace}
 use Rattle.vm_step.specs.Settled.{place_number}
 use Rattle.law_renumbered.specs.Symbols.{labels_of}
 use Rattle.law_renumbered.proofs.Items.{targets_at, keys_at}
-
--- what is no switch has no cases
-no-cases : (code : List ℕ) (at : ℕ) (i : Insn) → is_switch i.op ≡ false → cases code at i ≡ []
-unfolding cases
-no-cases code at i h = by_layout (layout_of i.op) h
-  where
-    by_cases : (k : Cases) → is_table k ≡ false → (table : ℕ) → cases_in k code table i ≡ []
-    by_cases NoCases h table = refl
-    by_cases Range h table = absurd (cc)
-    by_cases (Pairs key) h table = absurd (cc)
-
-    by_layout : (r : Result Layout CodeEnd) → has_cases r ≡ false → cases_by r code at i ≡ []
-    by_layout (Ok l) h = by_cases l.cases h (at + 1 + total_width l)
-    by_layout (Err e) h = refl
+use Rattle.jc_decode.proofs.Tables.{no-cases}
 
 -- what is neither branch nor switch leads nowhere
 no-targets : (code : List ℕ) (i : Placed) → is_branch i.insn.op ≡ false → is_switch i.insn.op ≡ false → targets code i ≡ []

@@ -1,13 +1,11 @@
 -- The numbers that a method's variables share serve it, and so do those of a method that keeps its registers.
 use Rattle.std.proofs.Common.{◌≡◌, ℕ, ◌+◌, ◌<◌, ◌≤◌, inl, inr, List, [], ◌∷◌, length, drop, map, refl, sym, ap, ◌∙◌, subst, arith}
-use Rattle.std.specs.Prelude.{Result, Ok}
 use Rattle.std.proofs.lemmas.Bool.{cases_lt}
 use Rattle.std.proofs.lemmas.List.{length-drop}
 use Rattle.jc_base.specs.declared.ty.Ty.{Ty}
 use Rattle.jc_base.specs.World.{Linked, IsWorld}
 use Rattle.jc_decode.specs.declared.insn.Placed.{Placed}
 use Rattle.jc_control.specs.Method.{Method, IsMethodOf}
-use Rattle.jc_ops.specs.declared.fault.RuleFault.{RuleFault}
 use Rattle.jc_ops.specs.declared.operation.Operation.{Operation}
 use Rattle.jc_ops.specs.declared.operation.Operation.TheVariants as ops
 use Rattle.jc_ops.specs.Alike.{equal}
@@ -16,7 +14,7 @@ use Rattle.jc_rules.specs.Rule.{demands}
 use Rattle.jc_rules.proofs.CellLists.{cells-length}
 use Rattle.jc_rules.proofs.Footprints.{met-is-there, asked-is-there}
 use Rattle.card_typing.specs.Typing.{CardTyping, frame_at}
-use Rattle.card_typing.proofs.Own.{of_world, start-length}
+use Rattle.card_typing.proofs.Own.{start-length}
 use Rattle.law_share.specs.Live.{Operates, Writes}
 use Rattle.law_share.specs.Sharing.{Allotted, IsNumbered, IsSharing, KeepsRegisters}
 use Rattle.law_share.specs.Renamed.{register_total, BeginsAlike}
@@ -25,6 +23,8 @@ use Rattle.law_share.specs.Renumbered.{OperationsAreRenumbered, RenumberedStayAp
 use Rattle.law_share.proofs.Allotting.{registers-are-no-more}
 use Rattle.law_renumbered.specs.Laws.{SharedNumbersServe}
 use Rattle.law_renumbered.specs.Numbers.{numbers_shared, numbers_kept, HasRegisters, NumbersServe}
+use Rattle.jc_rules.proofs.Decides.{ok-same}
+use Rattle.jc_rules.proofs.Starts.{of_world}
 
 -- a method's registers are those of its typing, and a byte tells how many they are
 module _ (v : Linked) (links : IsWorld v) (m : Method) (is : IsMethodOf v m) (regs : List Ty) (stacks : ℕ → List Ty) (ty : CardTyping v m regs stacks) where
@@ -34,14 +34,11 @@ module _ (v : Linked) (links : IsWorld v) (m : Method) (is : IsMethodOf v m) (re
   total-few : register_total m ≤ 255
   total-few = (of_world v links m is).registers
 
-  ok-one : (a b : Operation) → ◌≡◌ {A = Result Operation RuleFault} (Ok a) (Ok b) → a ≡ b
-  ok-one a b e = cc
-
   -- what an operation of the method asks for is there
   room-there : (i : Placed) (op : Operation) → Operates v m i op → registers_asked (demands v op) ≤ register_total m
   room-there i op operates =
       let rule = (ty.typed i operates.stands).applies.1 in
-      let one : rule.operation ≡ op = ok-one rule.operation op (rule.resolves ∙ sym operates.resolves) in
+      let one : rule.operation ≡ op = ok-same (rule.resolves ∙ sym operates.resolves) in
       let ds = demands v rule.operation in
       let there : registers_asked ds ≤ length regs =
       (asked-is-there (length regs) (length (stacks i.place)) ds).registers (met-is-there v (frame_at regs stacks i.place) ds rule.does.asked) in

@@ -23,8 +23,9 @@ use Rattle.jc_ops.specs.Resolve.{byte_of, resolved, on, new_object}
 use Rattle.jc_ops.specs.declared.operation.Holder.TheVariants as holders
 use Rattle.jc_ops.specs.declared.operation.TypeTest.TheVariants as tests
 use Rattle.law_share.specs.Renumbered.{renumbered}
-use Rattle.law_laid.proofs.Forms.{at-op, by-size, past-switch, past-row}
+use Rattle.law_laid.proofs.Forms.{past-switch, past-row}
 use Rattle.law_renumbered.specs.Instruction.{uses_register, renumbered_instruction}
+use Rattle.jc_decode.proofs.Passed.{at-op, by-size}
 
 -- the instruction that stands for another in symbols
 abbrev pub stated : (ℕ → ℕ) → Insn → Insn

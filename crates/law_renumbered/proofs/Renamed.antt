@@ -16,7 +16,6 @@ use Rattle.jc_control.specs.Method.{Method, IsMethodOf}
 use Rattle.jc_control.specs.WellFormed.{HasInstruction, IsBoundary, IsPlace, IsTargetPlace, IsHandlerOf, IsWellFormed}
 use Rattle.jc_ops.specs.declared.operation.Operation.{Operation}
 use Rattle.jc_ops.specs.Sound.{OperationsAreSound}
-use Rattle.card_typing.proofs.Own.{of_world}
 use Rattle.vm_step.specs.Settled.{place_number}
 use Rattle.law_alike.specs.Alike.{renamed_new}
 use Rattle.law_laid.specs.Apart.{IsSameBut}
@@ -33,6 +32,7 @@ use Rattle.law_renumbered.proofs.Instructions.{IsStated, are-matched}
 use Rattle.law_renumbered.proofs.Leading.{keys-are, targets-come}
 use Rattle.law_renumbered.proofs.Moving.{IsLaidAs, from-source, laid-after, laid-as, laid-at, listed-whole, moved, moved-boundary, moved-first}
 use Rattle.law_renumbered.proofs.Moving.{moved-is, moved-le, moved-lt, moved-one, moved-place, moved-rises}
+use Rattle.jc_rules.proofs.Starts.{of_world}
 
 module _ (v w : Linked) (links : IsWorld v) (sound : OperationsAreSound v) (placed : InstructionsArePlaced)
     (m target : Method) (reg : ℕ → ℕ) (locals : ℕ)

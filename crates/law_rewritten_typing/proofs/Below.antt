@@ -11,7 +11,7 @@ use Rattle.jc_base.specs.Order.{Below, is_below}
 use Rattle.jc_base.specs.declared.ty.Ty.{Ty}
 use Rattle.jc_base.specs.declared.ty.Ty.TheVariants.{Short, IntHigh, IntLow, Class, Top}
 use Rattle.jc_base.specs.World.{Linked}
-use Rattle.jc_base.proofs.Lists.{All-slice_get}
+use Rattle.jc_base.proofs.Lists.{All-slice_get, slice_get-left}
 use Rattle.jc_ops.specs.declared.operation.Operation.{Operation}
 use Rattle.jc_ops.specs.declared.operation.Operation.TheVariants as ops
 use Rattle.jc_ops.specs.declared.operation.Sort.TheVariants as sorts
@@ -73,11 +73,6 @@ top-or-none zero y = inl refl
 top-or-none (suc n) zero = inr refl
 top-or-none (suc n) (suc y) = top-or-none n y
 
-get-left : (xs ys : List Ty) (y : ℕ) → y < length xs → slice_get (xs ++ ys) y ≡ slice_get xs y
-get-left [] ys y lt = absurd (omega (arith, lt))
-get-left (x ∷ xs) ys zero lt = refl
-get-left (x ∷ xs) ys (suc y) lt = get-left xs ys y (omega (arith, lt))
-
 inside-by : (xs : List Ty) (n y : ℕ) (a : Ty) → slice_get (xs ++ replicate n Top) y ≡ Some a → a ≢ Top → y < length xs
 inside-by [] n y a e apart = by (top-or-none n y)
   where
@@ -93,8 +88,8 @@ inside-by (x ∷ xs) n (suc y) a e apart = omega (arith, inside-by xs n y a e ap
 -- a value among cells, and then such as hold anything, is one among the first
 pub value-before : (xs : List Ty) (n y : ℕ) (u : Ty) → value_in_cells (xs ++ replicate n Top) y ≡ Some u → value_in_cells xs y ≡ Some u
 value-before xs n y u v =
-    value-moved (xs ++ replicate n Top) xs y u v (sym (get-left xs (replicate n Top) y (inside-by xs n y u is.first is.no_top)))
-    (λ high. sym (get-left xs (replicate n Top) (y + 1) (inside-by xs n (y + 1) IntLow (is.second high) (λ e. absurd (cc)))))
+    value-moved (xs ++ replicate n Top) xs y u v (sym (slice_get-left xs (replicate n Top) y (inside-by xs n y u is.first is.no_top)))
+    (λ high. sym (slice_get-left xs (replicate n Top) (y + 1) (inside-by xs n (y + 1) IntLow (is.second high) (λ e. absurd (cc)))))
   where
     is : IsValueAt (xs ++ replicate n Top) y u
     is = value-is (xs ++ replicate n Top) y u v

@@ -137,9 +137,6 @@ module _ (s : Source) (l : AreTypingLaws s.world) (plan : IsPlanned s) where
   pub fit-at : (p : ℕ) (f : Frame) → s.frames p ≡ Some f → IsFit s.method f
   fit-at p f e = grind (arith, reached-at, some-same)
 
-  home-is : (h : Home) (x : ℕ) → h.slot ≡ x → h ≡ record { slot = x; ty = h.ty }
-  home-is h x e = ap (λ (n : ℕ). record { slot = n; ty = h.ty }) e
-
   -- the value of a local in a frame has a home
   local-keeps : (p : ℕ) (f : Frame) (h : Home) → s.frames p ≡ Some f → value_in_cells f.regs h.slot ≡ Some h.ty → KeepsValues s h
   local-keeps p f h e v =

@@ -3,7 +3,7 @@ use Rattle.std.proofs.Common.{◌≡◌, ℕ, ◌+◌, ◌≤◌, Bool, true, fa
 use Rattle.std.proofs.Common.{reverse, All, Some, Ok, IfSome, refl, sym, ◌∙◌, ap, subst, arith, length-append}
 use Rattle.std.specs.Prelude.{ℤ}
 use Rattle.std.proofs.lemmas.Bool.Decides.{nat_tests}
-use Rattle.std.proofs.lemmas.List.{length-reverse}
+use Rattle.std.proofs.lemmas.List.{length-reverse, nil_from_length}
 use Rattle.jc_base.proofs.Lists.{All-reverse}
 use Rattle.jc_base.specs.Cell.{IsDeclared}
 use Rattle.jc_base.specs.Each.{Each}
@@ -80,7 +80,7 @@ module _ (new : ℕ → ℕ) (apart : (a b : ℕ) → new a ≡ new b → a ≡ 
     not-over i op f after n run k over =
         let deep = depth-is new apart s l ready r own_rec asks res code i op f after run in
         let le : length f.stack ≤ n = grind (arith, nat_tests, over, deep) in
-        empty-is after.stack (omega (arith, ap length k.parts, length-append k.operands after.stack, k.size, le))
+        nil_from_length after.stack (omega (arith, ap length k.parts, length-append k.operands after.stack, k.size, le))
 
     cells-taken : (i : Placed) (op : Operation) (f after g : Frame) (n q : ℕ) → IsRun s i op f after → IsConditional op
         → operands_of s.world (Ok op) ≡ Some n → s.frames q ≡ Some g → FrameBelow s.world.classes after g → is_leader s q ≡ true

@@ -4,7 +4,7 @@ use Rattle.std.proofs.Common.{map, replicate, All, Option, Some, Ok, IsSomeAnd, 
 use Rattle.std.specs.Prelude.{nat_lt}
 use Rattle.std.specs.List.{range_with_len}
 use Rattle.std.proofs.lemmas.Bool.Decides.{nat_tests}
-use Rattle.std.proofs.lemmas.List.{length-reverse, append-nil}
+use Rattle.std.proofs.lemmas.List.{length-reverse, append-nil, nil_from_length}
 use Rattle.std.proofs.lemmas.List.Elements.{All-head, All-tail}
 use Rattle.jc_base.proofs.Lists.{All-reverse}
 use Rattle.jc_base.specs.Cell.{IsDeclared}
@@ -54,6 +54,7 @@ use Rattle.law_rewritten_typing.proofs.Cuts.{IsForked, forked, IsCut, cut-is}
 use Rattle.law_rewritten_typing.specs.Premises.{AreTypingLaws}
 use Rattle.law_rewritten_typing.proofs.Running.{IsRecordFor, IsRun}
 use Rattle.law_rewritten_typing.proofs.Leading.{cells-stand, cells-pushed, spill-at, named-at}
+use Rattle.jc_rules.proofs.CellLists.{cells-same}
 
 -- ---- opcodes of branches in their wide form
 
@@ -79,10 +80,6 @@ each-left P (h ∷ hs) ks e = (e.0, each-left P hs ks e.1)
 pub all-right : (P : Ty → Type 0) (xs ys : List Ty) → All P (xs ++ ys) → All P ys
 all-right P [] ys all = all
 all-right P (x ∷ xs) ys all = all-right P xs ys (All-tail P x (xs ++ ys) all)
-
-pub empty-is : (xs : List Ty) → length xs ≡ 0 → xs ≡ []
-empty-is [] e = refl
-empty-is (x ∷ xs) e = absurd (omega (arith, e))
 
 pub named-all : (new : ℕ → ℕ) (apart : (a b : ℕ) → new a ≡ new b → a ≡ b) (xs : List Ty) → All IsNotFresh xs
     → map (named new apart) xs ≡ xs
@@ -111,7 +108,18 @@ module _ (new : ℕ → ℕ) (apart : (a b : ℕ) → new a ≡ new b → a ≡ 
         → (o : Outcome) × OperationApplies s.world r.max_stack op Flow (record { regs = registers_of s.homes; stack = stack })
         (record { regs = registers_of s.homes; stack = [] }) o
         → Turn s.world r (registers_of s.homes) asks n i (holding stack) (if falls_from op then holding [] else left)
-    turn-of n i op stack is small room does = grind (arith, same-cells, holding)
+    turn-of n i op stack is small room does =
+        let go = l.alike r n i op small (sym is) in
+        record {
+          stack = stack;
+          here = refl;
+          after = record { regs = registers_of s.homes; stack = [] };
+          applies = (does.0, record { operation = op; resolves = sym is; does = does.1 });
+          stored = cells-same s.world.classes (registers_of s.homes);
+          branch = λ j. refl;
+          room = room;
+          onward = ap (λ (b : Bool). if b then holding [] else left) go.falls_alike;
+        }
 
     jump-flows : (i : Placed) (op : Operation) (f after : Frame) (stack : List Ty) (n : ℕ) (labels : List ℕ) → IsRun s i op f after → IsConditional op
         → length stack ≤ r.max_stack
@@ -218,7 +226,7 @@ module _ (new : ℕ → ℕ) (apart : (a b : ℕ) → new a ≡ new b → a ≡ 
             (record { regs = l.rules.order.self f.regs; stack = lesser.below }) run.fit.no_top lesser.full run.does in
             let j = forked s.world l.rules.types (registers_of s.homes) s.method.rec.max_stack n op (record { regs = f.regs; stack = st }) t.below t.outcome
             is e lesser.full t.applies in
-            let empty : t.below.stack ≡ [] = empty-is t.below.stack
+            let empty : t.below.stack ≡ [] = nil_from_length t.below.stack
             (omega (arith, ap length j.parts, length-append j.operands t.below.stack, j.size, l.rules.order.lengths lesser.below, deep, le)) in
             let same_stack : st ≡ j.operands = j.parts ∙ ap (λ (us : List Ty). j.operands ++ us) empty ∙ append-nil j.operands in
             let none : All IsNotFresh t.below.stack = subst (All IsNotFresh) (sym empty) (λ q d lt. absurd (omega (arith, lt))) in

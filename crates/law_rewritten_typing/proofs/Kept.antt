@@ -8,6 +8,7 @@ use Rattle.jc_base.specs.Each.{Each}
 use Rattle.jc_base.specs.declared.ty.Ty.{Ty}
 use Rattle.jc_base.specs.declared.ty.Ty.TheVariants.{Short, Null}
 use Rattle.jc_base.specs.declared.ty.Kind.{Kind}
+use Rattle.jc_base.specs.declared.ty.Ty.TheVariants.{Bottom, IntHigh, IntLow, Class, ArrBool, ArrByte, ArrShort, ArrInt, ArrRef, Fresh, Top}
 use Rattle.jc_base.specs.declared.ty.Kind.TheVariants as kinds
 use Rattle.jc_base.specs.declared.record.MethodRec.{MethodRec}
 use Rattle.jc_base.specs.Cell.{IsDeclared}
@@ -22,7 +23,6 @@ use Rattle.jc_ops.specs.declared.operation.Move.TheVariants as moves
 use Rattle.jc_ops.specs.declared.operation.Operation.{Operation}
 use Rattle.jc_ops.specs.declared.operation.Operation.TheVariants as ops
 use Rattle.jc_ops.specs.declared.operation.TypeTest.TheVariants as tests
-use Rattle.jc_ops.specs.declared.operation.Width.{Width}
 use Rattle.jc_ops.specs.declared.operation.Width.TheVariants as widths
 use Rattle.jc_ops.specs.declared.operation.Constant.TheVariants as constants
 use Rattle.jc_ops.specs.Sound.{IsSound, IsChosen, IsReceiverOf, IsNamedType}
@@ -43,6 +43,8 @@ use Rattle.jc_rules.proofs.Types.{declared-not_fresh}
 use Rattle.law_rewritten_typing.proofs.Moves.{applies-by}
 use Rattle.law_rewritten_typing.proofs.Renames.{named, named_op, same-named, IsSteady, IsSteadyWant}
 use Rattle.law_rewritten_typing.proofs.Renames.{all-named, replaced, value-same, result-same, under-named}
+use Rattle.jc_rules.specs.Rule.{cell, value_given}
+use Rattle.jc_rules.specs.Rule.{element}
 use Rattle.law_rewritten_typing.proofs.Renames.{exchange-named, cell-named, element-same, element-ready, call-named}
 
 -- names no register to load or store
@@ -67,18 +69,12 @@ module _ (new : ℕ → ℕ) (apart : (a b : ℕ) → new a ≡ new b → a ≡ 
   each-steady [] es a b = b
   each-steady (d ∷ ds) es a b = (a.0, each-steady ds es a.1 b)
 
-  number-steady : (width : Width) (n : ℕ) → Each (IsSteady new apart) (number width n)
-  number-steady x n = grind (arith)
-
   value-steady : (ty : Ty) → IsNotFresh ty → Each (IsSteady new apart) (value_wanted ty)
   value-steady ty h = grind (arith)
 
   cells-steady : (n : ℕ) (tys : List Ty) → All IsNotFresh tys → Each (IsSteady new apart) (cells_wanted n tys)
   cells-steady n [] h = tt
   cells-steady n (ty ∷ tys) h = (h 0 ty (omega arith), cells-steady (n + 1) tys (λ k d lt. h (suc k) d (omega (arith, lt))))
-
-  array-steady : (k : Kind) → IsSteadyWant new apart (array_wanted w.classes k)
-  array-steady x = grind (arith)
 
   named-type-ready : (ty : Ty) → IsNamedType w.classes ty → IsNotFresh (seen w.classes ty)
   named-type-ready x h = grind (arith)
@@ -98,9 +94,6 @@ module _ (new : ℕ → ℕ) (apart : (a b : ℕ) → new a ≡ new b → a ≡ 
 
   declared-some : (result : Option Ty) → IfSome result (IsDeclared w.classes) → IfSome result IsNotFresh
   declared-some x h = grind (arith, declared-not_fresh)
-
-  return-steady : (result : Option Ty) → IfSome result IsNotFresh → Each (IsSteady new apart) (return_demands result)
-  return-steady x h = grind (arith, value-steady)
 
   -- what goes from the stack and what comes in its place
   by-replacing : (op : Operation) (regs st : List Ty) (n : ℕ) (cells : Cells)

@@ -36,7 +36,7 @@ use Rattle.law_rewritten_typing.specs.Typed.{registers_of}
 use Rattle.law_rewritten_typing.proofs.Walks.{State, holding, left, Asked, nothing_asked, emptied}
 use Rattle.law_rewritten_typing.proofs.Walks.{Passes, Flows, flow_label, flow_step, flow_end, Goes}
 use Rattle.law_rewritten_typing.proofs.Walks.{goes-append}
-use Rattle.law_rewritten_typing.proofs.Moves.{applies-by, same-cells}
+use Rattle.law_rewritten_typing.proofs.Moves.{applies-by}
 use Rattle.law_rewritten_typing.proofs.Stacks.{Stands, pushed, loads-go, spill-goes, stack-pushed}
 use Rattle.law_rewritten_typing.proofs.Ready.{IsReady, value-plain, home-stands, reached}
 use Rattle.law_rewritten_typing.proofs.Copies.{Carries, copies-go}
@@ -47,6 +47,7 @@ use Rattle.law_rewritten_typing.proofs.Rows.{goto-is}
 use Rattle.law_rewritten_typing.proofs.Turns.{IsLesser}
 use Rattle.law_rewritten_typing.specs.Premises.{AreTypingLaws}
 use Rattle.law_rewritten_typing.proofs.Running.{IsRecordFor, IsRun}
+use Rattle.jc_rules.proofs.CellLists.{cells-same}
 
 -- under cells that are ready no cell is an uninitialised object
 named-one : (new : ℕ → ℕ) (apart : (a b : ℕ) → new a ≡ new b → a ≡ b) (a : Ty) → IsNotFresh a → named new apart a ≡ a
@@ -139,7 +140,7 @@ module _ (new : ℕ → ℕ) (apart : (a b : ℕ) → new a ≡ new b → a ≡ 
           here = refl;
           after = record { regs = registers_of s.homes; stack = [] };
           applies = (does.0, record { operation = ops.Branch branches.Always; resolves = sym (goto-is s.world r n); does = does.1 });
-          stored = same-cells s.world.classes (registers_of s.homes);
+          stored = cells-same s.world.classes (registers_of s.homes);
           branch = λ j. refl;
           room = omega arith;
           onward = refl;

@@ -32,16 +32,14 @@ use Rattle.jc_rules.specs.Apply.{OperationApplies}
 use Rattle.jc_rules.specs.Flow.{CellsBelow, no_cells, more_cells}
 use Rattle.xf_emission.specs.Move.{with_byte, load_op, store_op}
 use Rattle.law_rewritten_typing.proofs.Walks.{holding, Asked, Turn}
+use Rattle.law_rewritten_typing.proofs.Walks.{left}
+use Rattle.jc_rules.proofs.CellLists.{cells-same}
 
 -- ---- registers
 
-pub same-cells : (t : ClassTable) (xs : List Ty) → CellsBelow t xs xs
-same-cells t [] = no_cells
-same-cells t (x ∷ xs) = more_cells same (same-cells t xs)
-
 pub set-below : (t : ClassTable) (xs : List Ty) (x : ℕ) (a b : Ty) → slice_get xs x ≡ Some b → Below t a b → CellsBelow t (set xs x a) xs
 set-below t [] x a b e le = absurd (cc)
-set-below t (y ∷ ys) zero a b e le = let same_type : y ≡ b = cc in more_cells (subst (Below t a) (sym same_type) le) (same-cells t ys)
+set-below t (y ∷ ys) zero a b e le = let same_type : y ≡ b = cc in more_cells (subst (Below t a) (sym same_type) le) (cells-same t ys)
 set-below t (y ∷ ys) (suc x) a b e le = more_cells same (set-below t ys x a b e le)
 
 pub set-same : (xs : List Ty) (x : ℕ) (a : Ty) → slice_get xs x ≡ Some a → set xs x a ≡ xs
@@ -181,7 +179,7 @@ module _ (w : Linked) (objects : ClassesAreObjects w.classes) (r : MethodRec) (r
           (loads-reference n x h.small)
           (applies-by w r.max_stack (ops.Load sorts.Reference x) (record { regs = regs; stack = stack })
           (record { regs = regs; stack = or_null (reg regs x) ∷ stack })
-          (there x ty h.first, (held x ty (Class (object w.classes)) h.first c.object, tt)) refl refl full) (same-cells w.classes regs)
+          (there x ty h.first, (held x ty (Class (object w.classes)) h.first c.object, tt)) refl refl full) (cells-same w.classes regs)
           (quiet 21 (inl refl)) refl below)
 
       sload : ty ≡ Short → Turn w r regs asks n (with_byte 22 x) (holding stack) (holding (Short ∷ stack))
@@ -190,7 +188,7 @@ module _ (w : Linked) (objects : ClassesAreObjects w.classes) (r : MethodRec) (r
           let first : slice_get regs x ≡ Some Short = h.first ∙ ap Some e in
           turn-by n (with_byte 22 x) (ops.Load sorts.Short x) stack (record { regs = regs; stack = Short ∷ stack }) (loads-short n x h.small)
           (applies-by w r.max_stack (ops.Load sorts.Short x) (record { regs = regs; stack = stack }) (record { regs = regs; stack = Short ∷ stack })
-          (there x Short first, (held x Short Short first same, tt)) refl refl own) (same-cells w.classes regs) (quiet 22 (inr (inl refl))) refl below
+          (there x Short first, (held x Short Short first same, tt)) refl refl own) (cells-same w.classes regs) (quiet 22 (inr (inl refl))) refl below
 
       iload : ty ≡ IntHigh → Turn w r regs asks n (with_byte 23 x) (holding stack) (holding (IntLow ∷ IntHigh ∷ stack))
       iload e =
@@ -200,7 +198,7 @@ module _ (w : Linked) (objects : ClassesAreObjects w.classes) (r : MethodRec) (r
           turn-by n (with_byte 23 x) (ops.Load sorts.Int x) stack (record { regs = regs; stack = IntLow ∷ IntHigh ∷ stack }) (loads-int n x h.small)
           (applies-by w r.max_stack (ops.Load sorts.Int x) (record { regs = regs; stack = stack })
           (record { regs = regs; stack = IntLow ∷ IntHigh ∷ stack })
-          (two-there x second, (held x IntHigh IntHigh first same, (held (x + 1) IntLow IntLow second same, tt))) refl refl own) (same-cells w.classes regs)
+          (two-there x second, (held x IntHigh IntHigh first same, (held (x + 1) IntLow IntLow second same, tt))) refl refl own) (cells-same w.classes regs)
           (quiet 23 (inr (inr (inl refl)))) refl below
 
       by : IsReferenceCell ty ⊎ (ty ≡ Short) ⊎ (ty ≡ IntHigh) → Turn w r regs asks n (with_byte (load_op ty) x) (holding stack)

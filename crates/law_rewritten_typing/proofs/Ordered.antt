@@ -71,7 +71,7 @@ no-later a (Label m ∷ xs) ys = by (m == a) (no-later a xs ys)
     by x rest = grind (arith)
 
 module _ (s : Source) where
-  group-head : (i : Placed) → is_some (s.frames i.place) ≡ true → (t : List Item) × (group s i ≡ Label i.place ∷ t)
+  pub group-head : (i : Placed) → is_some (s.frames i.place) ≡ true → (t : List Item) × (group s i ≡ Label i.place ∷ t)
   unfolding group
   group-head i reached = by (s.frames i.place) reached
     where

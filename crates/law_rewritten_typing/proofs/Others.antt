@@ -31,18 +31,10 @@ use Rattle.xf_emission.proofs.Ways.{ways-few}
 use Rattle.law_rewritten_typing.proofs.Walks.{nothing_asked, emptied, catching}
 use Rattle.law_rewritten_typing.proofs.LabelDemands.{asks_of, caught_by}
 use Rattle.law_rewritten_typing.proofs.Ordered.{rises-before}
-
-either : (l : ℕ) (xs ys : List ℕ) → IsAmong l (xs ++ ys) → IsAmong l xs ⊎ IsAmong l ys
-either l [] ys a = inr a
-either l (x ∷ xs) ys (inl e) = inl (inl e)
-either l (x ∷ xs) ys (inr a) = by (either l xs ys a)
-  where
-    by : IsAmong l xs ⊎ IsAmong l ys → IsAmong l (x ∷ xs) ⊎ IsAmong l ys
-    by (inl b) = inl (inr b)
-    by (inr b) = inr b
+use Rattle.jc_base.proofs.Eaching.{IsAmong-append_cases}
 
 pieces : (l : ℕ) (xs ys : List Item) → IsAmong l (labels (xs ++ ys)) → IsAmong l (labels xs) ⊎ IsAmong l (labels ys)
-pieces l xs ys a = either l (labels xs) (labels ys) (subst (IsAmong l) (labels-append xs ys) a)
+pieces l xs ys a = IsAmong-append_cases l (labels xs) (labels ys) (subst (IsAmong l) (labels-append xs ys) a)
 
 flat-piece : {X : Type 0} (P : Type 0) (f : X → List Item) (l : ℕ) (xs : List X) → ((x : X) → Contains xs x → IsAmong l (labels (f x)) → P)
     → IsAmong l (labels (flat_map f xs)) → P
@@ -125,7 +117,7 @@ module _ (s : Source) (listed : AreListed s.method.code) (code : IsCode s) where
           own (inr d) = absurd d
 
   pub no-others : (l c : ℕ) → IsAmong l (labels (items s)) → asks_of s l ≡ catching c → HasRange (ranges_from s 0 s.method.rec.handlers) l
-  no-others l c a asks = by (either l groups (end ∷ labels (branches ++ caughts)) (subst (IsAmong l) (all-labels s) a))
+  no-others l c a asks = by (IsAmong-append_cases l groups (end ∷ labels (branches ++ caughts)) (subst (IsAmong l) (all-labels s) a))
     where
       groups : List ℕ
       groups = labels (flat_map (group s) (listing s.method.code))

@@ -18,6 +18,7 @@ use Rattle.jc_ops.specs.declared.want.Want.TheVariants.{Value, Receiver}
 use Rattle.jc_ops.specs.declared.operation.Operation.{Operation}
 use Rattle.jc_ops.specs.declared.operation.Operation.TheVariants as ops
 use Rattle.jc_ops.specs.declared.operation.Width.{Width}
+use Rattle.jc_ops.specs.declared.operation.Width.TheVariants as widths
 use Rattle.jc_rules.specs.declared.demand.Demand.{Demand}
 use Rattle.jc_rules.specs.declared.demand.Demand.TheVariants.{Registers, Depth, Cell, Cut, Held}
 use Rattle.jc_rules.specs.declared.effect.Cells.{Cells}
@@ -26,7 +27,7 @@ use Rattle.jc_rules.specs.declared.effect.Change.TheVariants.{Replace, CopyUnder
 use Rattle.jc_rules.specs.Demand.{Satisfies, SatisfiesAll, Meets, IsHalf}
 use Rattle.jc_rules.specs.Effect.{changed, in_stack_order, ready}
 use Rattle.jc_rules.specs.Flow.{IsNotFresh}
-use Rattle.jc_rules.specs.Rule.{cell, value_given, number_given, result_given, ready_with, call_change, element}
+use Rattle.jc_rules.specs.Rule.{cell, value_given, result_given, ready_with, call_change, element}
 
 module _ (new : ℕ → ℕ) (apart : (a b : ℕ) → new a ≡ new b → a ≡ b) where
   -- a type, with the place of its `new` in other code
@@ -126,9 +127,6 @@ module _ (new : ℕ → ℕ) (apart : (a b : ℕ) → new a ≡ new b → a ≡ 
   pub result-same : (result : Option Ty) → IfSome result IsNotFresh → in_stack_order (result_given result)
       ≡ map named (in_stack_order (result_given result))
   result-same x h = grind (arith, value-same)
-
-  pub number-same : (width : Width) → in_stack_order (number_given width) ≡ map named (in_stack_order (number_given width))
-  number-same x = grind (arith)
 
   pub under-named : (m n : ℕ) (st : List Ty) → changed (CopyUnder m n) (map named st) ≡ map named (changed (CopyUnder m n) st)
   under-named m n st = grind (arith, take-map, drop-map, map-append)

@@ -120,10 +120,6 @@ get-next : (pre : List Ty) (a b : Ty) (rest : List Ty) → slice_get (pre ++ a �
 get-next [] a b rest = refl
 get-next (p ∷ pre) a b rest = grind (arith, suc, slice_get, get-next pre a b rest)
 
-get-end : (pre : List Ty) (a : Ty) → slice_get (pre ++ a ∷ []) (length pre + 1) ≡ None
-get-end [] a = refl
-get-end (p ∷ pre) a = let e : suc (length pre) + 1 ≡ suc (length pre + 1) = omega arith in ap (slice_get (p ∷ pre ++ a ∷ [])) e ∙ get-end pre a
-
 pub longer-by : (pre : List Ty) (a : Ty) → suc (length pre) ≡ length (pre ++ a ∷ [])
 longer-by pre a = omega (arith, length-append pre (a ∷ []))
 

@@ -59,6 +59,9 @@ use Rattle.law_rewritten_typing.proofs.Rows.{increased-at, pop-is, pop-two-is}
 use Rattle.law_rewritten_typing.specs.Premises.{AreTypingLaws}
 use Rattle.law_rewritten_typing.proofs.Running.{IsRecordFor, IsRun, IsPassed, has-room, is-reference}
 use Rattle.law_rewritten_typing.proofs.Running.{found-below, value-one, value-int, local-at}
+use Rattle.law_rewritten_typing.specs.Premises.{AreLaws}
+use Rattle.jc_rules.proofs.CellLists.{cells-same}
+use Rattle.law_rewritten_typing.proofs.Below.{top-only}
 
 -- ---- the top of a stack
 
@@ -82,11 +85,6 @@ set-within : (xs : List Ty) (x : ℕ) (a : Ty) → x < length xs → slice_get (
 set-within [] x a lt = absurd (omega (arith, lt))
 set-within (b ∷ bs) zero a lt = refl
 set-within (b ∷ bs) (suc x) a lt = set-within bs x a (omega (arith, lt))
-
-set-length : (xs : List Ty) (x : ℕ) (a : Ty) → length (set xs x a) ≡ length xs
-set-length [] x a = refl
-set-length (b ∷ bs) zero a = refl
-set-length (b ∷ bs) (suc x) a = ap suc (set-length bs x a)
 
 one-cell-on : (ty : Ty) → (ty ≡ IntHigh → ⊥) → cells_on ty ≡ ty ∷ []
 one-cell-on ty n = grind (arith)
@@ -115,10 +113,6 @@ module _ (t : ClassTable) (types : IsOrderOfTypes t) where
   unfolding is_below
   over-low b e n = grind (arith)
 
-  over-top : (b : Ty) → is_below t Top b ≡ true → b ≡ Top
-  unfolding is_below
-  over-top b e = grind (arith)
-
   -- under a value a value stands, where each cell holds something
   pub value-under : (xs ys : List Ty) (x : ℕ) (b : Ty) → CellsBelow t xs ys → All IsNotBottom xs → value_in_cells ys x ≡ Some b → (a : Ty)
       × (value_in_cells xs x ≡ Some a)
@@ -137,7 +131,7 @@ module _ (t : ClassTable) (types : IsOrderOfTypes t) where
           let low = is-low t types next.a next.below (All-slice_get IsNotBottom xs (x + 1) next.a full next.at) in
           (IntHigh, value-int xs x at (next.at ∙ ap Some low))
       by IntLow at p = absurd (is.no_low (over-low b ((types.decided IntLow b).1 p) is.no_top))
-      by Top at p = absurd (is.no_top (over-top b ((types.decided Top b).1 p)))
+      by Top at p = absurd (is.no_top (top-only t types b ((types.decided Top b).1 p)))
       by a at p = (a, value-one xs x a at tt tt)
 
 module _ (new : ℕ → ℕ) (apart : (a b : ℕ) → new a ≡ new b → a ≡ b) (s : Source) (l : AreTypingLaws s.world) (ready : IsReady s) (r : MethodRec)
@@ -250,7 +244,7 @@ module _ (new : ℕ → ℕ) (apart : (a b : ℕ) → new a ≡ new b → a ≡ 
       flow_plain s.world r (registers_of s.homes) asks
       (turn-by s.world l.objects r (registers_of s.homes) asks n (record { op = pop; x = pos 0; y = pos 0; z = pos 0; len = 1 }) (ops.Move moves.Pop)
       (v ∷ st) (record { regs = registers_of s.homes; stack = st })
-      (pop-is s.world r n (record { op = pop; x = pos 0; y = pos 0; z = pos 0; len = 1 })) does (same-cells s.world.classes (registers_of s.homes)) refl refl
+      (pop-is s.world r n (record { op = pop; x = pos 0; y = pos 0; z = pos 0; len = 1 })) does (cells-same s.world.classes (registers_of s.homes)) refl refl
       room) flow_end
 
   pop-two : (n : ℕ) (st : List Ty) → length (IntLow ∷ IntHigh ∷ st) ≤ r.max_stack
@@ -263,7 +257,7 @@ module _ (new : ℕ → ℕ) (apart : (a b : ℕ) → new a ≡ new b → a ≡ 
       flow_plain s.world r (registers_of s.homes) asks
       (turn-by s.world l.objects r (registers_of s.homes) asks n (record { op = pop2; x = pos 0; y = pos 0; z = pos 0; len = 1 }) (ops.Move moves.PopTwo)
       (IntLow ∷ IntHigh ∷ st) (record { regs = registers_of s.homes; stack = st })
-      (pop-two-is s.world r n (record { op = pop2; x = pos 0; y = pos 0; z = pos 0; len = 1 })) does (same-cells s.world.classes (registers_of s.homes)) refl
+      (pop-two-is s.world r n (record { op = pop2; x = pos 0; y = pos 0; z = pos 0; len = 1 })) does (cells-same s.world.classes (registers_of s.homes)) refl
       refl room) flow_end
     where
       differ : Some IntHigh ≡ Some IntLow → ⊥
@@ -359,9 +353,6 @@ module _ (new : ℕ → ℕ) (apart : (a b : ℕ) → new a ≡ new b → a ≡ 
       }
 
   -- ---- the homes into which a local is stored
-
-  home-same : (a b : Home) → a.slot ≡ b.slot → a.ty ≡ b.ty → a ≡ b
-  home-same a b e f = ap (λ (n : ℕ). record { slot = n; ty = a.ty }) e ∙ ap (λ (u : Ty). record { slot = b.slot; ty = u }) f
 
   each-among : (P : Home → Type 0) (hs : List Home) (h : Home) → Each P hs → IsAmong h hs → P h
   each-among P [] h e a = absurd a

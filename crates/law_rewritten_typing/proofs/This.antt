@@ -46,7 +46,7 @@ use Rattle.xf_emission.specs.Group.{body, itself, stays, field_read, swap_words}
 use Rattle.xf_emission.specs.Mnemonics.{from_read, from_write, swap_x}
 use Rattle.law_rewritten_typing.specs.Typed.{registers_of}
 use Rattle.law_rewritten_typing.proofs.Walks.{holding, Asked, Turn, Flows, flow_plain, flow_end, flows-append}
-use Rattle.law_rewritten_typing.proofs.Moves.{cells_on, applies-by, turn-by, load-turn, same-cells, held, there}
+use Rattle.law_rewritten_typing.proofs.Moves.{cells_on, applies-by, turn-by, load-turn, held, there}
 use Rattle.law_rewritten_typing.proofs.Stacks.{Stands}
 use Rattle.law_rewritten_typing.proofs.Ready.{IsReady, local-stands}
 use Rattle.law_rewritten_typing.proofs.Renames.{named, named_op, value-same}
@@ -60,6 +60,7 @@ use Rattle.law_rewritten_typing.specs.Premises.{AreTypingLaws}
 use Rattle.law_rewritten_typing.proofs.Running.{IsRecordFor, IsRun, IsPassed, has-room, IsReferenceIn}
 use Rattle.law_rewritten_typing.proofs.Running.{is-reference, found-below, value-one, local-at}
 use Rattle.law_rewritten_typing.proofs.Running.{push-lesser}
+use Rattle.jc_rules.proofs.CellLists.{cells-same}
 
 -- ---- the value of a field
 
@@ -151,7 +152,7 @@ module _ (new : ℕ → ℕ) (apart : (a b : ℕ) → new a ≡ new b → a ≡ 
       flow_plain s.world r (registers_of s.homes) asks
       (turn-by s.world l.objects r (registers_of s.homes) asks n i.insn op (map (named new apart) st)
       (record { regs = registers_of s.homes; stack = map (named new apart) out })
-      (sym resolves ∙ ap (λ (p : Operation). Ok p) same_op) (is.0, wide) (same-cells s.world.classes (registers_of s.homes)) quiet goes
+      (sym resolves ∙ ap (λ (p : Operation). Ok p) same_op) (is.0, wide) (cells-same s.world.classes (registers_of s.homes)) quiet goes
       (omega (arith, room, own_rec.room))) flow_end
     where
       wider : (op : Operation) (before after : Frame) (o : Outcome) → OperationApplies s.world s.method.rec.max_stack op Flow before after o
@@ -236,7 +237,7 @@ module _ (new : ℕ → ℕ) (apart : (a b : ℕ) → new a ≡ new b → a ≡ 
           (holding (cells ++ map (named new apart) st)) =
           turn-by s.world l.objects r regs asks (suc n) (record i.insn { op = i.insn.op - from_read }) (ops.FieldRead fld holders.Stack)
           (k.ty ∷ map (named new apart) st) (record { regs = regs; stack = cells ++ map (named new apart) st })
-          is does (same-cells s.world.classes regs) (sym go.jumps_alike) (sym go.falls_alike) (omega (arith, less, own_rec.room)) in
+          is does (cells-same s.world.classes regs) (sym go.jumps_alike) (sym go.falls_alike) (omega (arith, less, own_rec.room)) in
           flow_plain s.world r regs asks turn
           (flow_plain s.world r regs asks
           (subst (λ (us : List Ty). Turn s.world r regs asks (suc n) (record i.insn { op = i.insn.op - from_read }) (holding (us ++ map (named new apart) st))
@@ -283,7 +284,7 @@ module _ (new : ℕ → ℕ) (apart : (a b : ℕ) → new a ≡ new b → a ≡ 
       (omega arith, ((λ split. low-not a whole split.0), (omega arith, ((λ split. low (some-is v IntLow split.0)), tt)))) refl refl (omega (arith, room)) in
       flow_plain s.world r regs asks
       (turn-by s.world l.objects r regs asks n (with_byte swap_x 17) (ops.Move (moves.Exchange 1 1)) (a ∷ v ∷ st)
-      (record { regs = regs; stack = v ∷ a ∷ st }) (swap-one-is s.world r n) does (same-cells s.world.classes regs) refl refl room) flow_end
+      (record { regs = regs; stack = v ∷ a ∷ st }) (swap-one-is s.world r n) does (cells-same s.world.classes regs) refl refl room) flow_end
     where
       some-is : (x y : Ty) → Some x ≡ Some y → x ≡ y
       some-is x y e = cc
@@ -298,7 +299,7 @@ module _ (new : ℕ → ℕ) (apart : (a b : ℕ) → new a ≡ new b → a ≡ 
       (omega arith, ((λ split. low-not a whole split.0), (omega arith, ((λ split. absurd (differ split.0)), tt)))) refl refl (omega (arith, room)) in
       flow_plain s.world r regs asks
       (turn-by s.world l.objects r regs asks n (with_byte swap_x 18) (ops.Move (moves.Exchange 1 2)) (a ∷ IntLow ∷ IntHigh ∷ st)
-      (record { regs = regs; stack = IntLow ∷ IntHigh ∷ a ∷ st }) (swap-two-is s.world r n) does (same-cells s.world.classes regs) refl refl room)
+      (record { regs = regs; stack = IntLow ∷ IntHigh ∷ a ∷ st }) (swap-two-is s.world r n) does (cells-same s.world.classes regs) refl refl room)
       flow_end
     where
       differ : Some IntHigh ≡ Some IntLow → ⊥
@@ -351,7 +352,7 @@ module _ (new : ℕ → ℕ) (apart : (a b : ℕ) → new a ≡ new b → a ≡ 
           (record { regs = regs; stack = us }) asked refl e (omega (arith, length-append cells us, room)) in
           flow_plain s.world r regs asks
           (turn-by s.world l.objects r regs asks place (record i.insn { op = i.insn.op - from_write }) (ops.FieldWrite fld holders.Stack) (cells ++ us)
-          (record { regs = regs; stack = us }) is does (same-cells s.world.classes regs) (sym go.jumps_alike) (sym go.falls_alike) room) flow_end
+          (record { regs = regs; stack = us }) is does (cells-same s.world.classes regs) (sym go.jumps_alike) (sym go.falls_alike) room) flow_end
 
       loaded-first : (xs : List Item) (us : List Ty) → ((m : ℕ) → Flowing m (this.ty ∷ map (named new apart) st) xs us)
           → Flowing n (map (named new apart) st) (load s h ∷ xs) us

@@ -1,6 +1,6 @@
 -- A walk along the items of code, over one list of registers: what is on the stack before each instruction.
 use Rattle.std.proofs.Common.{◌≡◌, ◌⊎◌, ℕ, suc, ◌+◌, ◌≤◌, Bool, true, false, if◌then◌else◌, List, [], ◌∷◌, ◌++◌, length}
-use Rattle.std.proofs.Common.{flat_map, refl, subst, arith}
+use Rattle.std.proofs.Common.{refl, subst, arith}
 use Rattle.std.specs.Prelude.{IsTrue}
 use Rattle.jc_base.specs.declared.ty.Ty.{Ty}
 use Rattle.jc_base.specs.declared.ty.Ty.TheVariants.{Class}
@@ -99,8 +99,5 @@ module _ (w : Linked) (r : MethodRec) (regs : List Ty) (asks : ℕ → Asked) wh
 
   pub goes-if : {a c : State} {xs ys : List Item} (b : Bool) → (b ≡ true → Goes a xs c) → (b ≡ false → Goes a ys c)
       → Goes a (if b then xs else ys) c
-  goes-if x f g = grind (arith)
-
-  pub goes-flat : {X : Type 0} {a : State} (f : X → List Item) (xs : List X) → ((x : X) → Goes a (f x) a) → Goes a (flat_map f xs) a
-  goes-flat f [] h = goes-nowhere
-  goes-flat f (x ∷ xs) h = goes-append (h x) (goes-flat f xs h)
+  goes-if true f g = f refl
+  goes-if false f g = g refl

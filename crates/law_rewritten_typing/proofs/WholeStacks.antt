@@ -21,7 +21,7 @@ use Rattle.jc_rules.specs.FlowLaws.{AreRules}
 use Rattle.jc_rules.specs.Laws.{IsNotBottom}
 use Rattle.jc_rules.specs.Whole.{IsWholeStack, OperationKeepsWhole}
 use Rattle.jc_flow.proofs.Derived.{of_world, derived-fine, step-keeps}
-use Rattle.jc_flow.proofs.Frames.{join-all, full-join}
+use Rattle.jc_flow.proofs.Frames.{join-all, full-join, join-left}
 use Rattle.law_rewritten_typing.specs.Whole.{DerivedAreWhole}
 
 -- ---- types above a half of an int, and above what is none
@@ -64,10 +64,6 @@ module _ (t : ClassTable) (types : IsOrderOfTypes t) where
       subst (λ x. AreWhole (x ∷ d ∷ vs)) (sym high) (subst (λ x. AreWhole (IntHigh ∷ x ∷ vs)) (sym low) (whole_int tail))
   whole-above (one_cell {a = u} {types = rest} h is) (more_cells {a = a} {b = b} {xs = xs} {ys = ys} le more) nb nt =
       one_cell (no-half-above u b le (all-first IsNotBottom u rest nb) h) (whole-above is more (all-rest IsNotBottom u rest nb) (all-rest IsNotTop b ys nt))
-
-join-left : (t : ClassTable) {xs ys js : List Ty} → CellsJoin t xs ys js → CellsBelow t xs js
-join-left t none_joined = no_below
-join-left t (more_joined j more) = more_cells j.left (join-left t more)
 
 -- ---- frames
 

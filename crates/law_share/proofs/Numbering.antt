@@ -59,8 +59,8 @@ use Rattle.law_share.specs.Renumbered.{renumbered, IsRenumberedTo, OperationsAre
 use Rattle.law_share.proofs.Allotting.{among-variable, no-argument, registers-have-numbers, written-stay-apart}
 use Rattle.law_share.proofs.Quiet.{IsStoring, quiet-or-stores}
 use Rattle.law_share.proofs.Retyping.{below-there}
-use Rattle.law_share.proofs.SharedTypes.{get-drop}
 use Rattle.law_share.proofs.Types.{IsProper, proper_one, proper_int, all-proper, type_in, variable-type}
+use Rattle.jc_base.proofs.Lists.{slice_get-drop}
 
 -- ---- operations that name no register, and those that read register 0
 
@@ -283,7 +283,7 @@ module _ (v : Linked) (links : IsWorld v) (m : Method) (regs : List Ty) (stacks 
         let first = has.from in
         let at : nargs + (x - nargs) ≡ x = omega (arith, from, first) in
         let found : slice_get regs x ≡ Some (type_in a.variable (x - a.variable.register)) =
-        ap (slice_get regs) (sym at) ∙ (sym (get-drop nargs (x - nargs) regs) ∙ t.1) in
+        ap (slice_get regs) (sym at) ∙ (sym (slice_get-drop nargs (x - nargs) regs) ∙ t.1) in
         sym (get_or_from_slice_get regs x (type_in a.variable (x - a.variable.register)) Top found)
 
     proper-of : (a : Allotted) → Contains given a → IsProper a.variable

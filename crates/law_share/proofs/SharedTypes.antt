@@ -12,7 +12,7 @@ use Rattle.jc_base.specs.declared.record.MethodRec.{MethodRec}
 use Rattle.jc_base.specs.Order.{Below, IsKnown, nothing}
 use Rattle.jc_base.specs.World.{Linked, IsWorld}
 use Rattle.jc_base.proofs.Eaching.{IsAmong-from_Contains}
-use Rattle.jc_base.proofs.Lists.{All-slice_get}
+use Rattle.jc_base.proofs.Lists.{All-slice_get, slice_get-drop}
 use Rattle.jc_control.specs.Method.{Method, IsMethodOf}
 use Rattle.jc_rules.specs.Effect.{reg}
 use Rattle.jc_rules.specs.Flow.{CellsBelow, no_cells, more_cells, IsNotFresh, receiver_of, start_frame}
@@ -26,15 +26,9 @@ use Rattle.law_share.specs.Retyped.{AreRetyped, AreRegistersOf, HasShared, Share
 use Rattle.law_share.proofs.Allotting.{among-variable, arguments-before-end, before-end, no-argument}
 use Rattle.law_share.proofs.Types.{IsProper, all-proper, type_in, variable-type, width-most, types_in, types-length, HoldsTypes, all-hold}
 use Rattle.law_share.proofs.Types.{low-untouched, types-all}
+use Rattle.jc_rules.proofs.Stacks.{take_first}
 
 -- ---- lists
-
-pub get-drop : {X : Type 0} (n k : ℕ) (xs : List X) → slice_get (drop n xs) k ≡ slice_get xs (n + k)
-get-drop zero k xs = ap (slice_get xs) (omega arith)
-get-drop (suc n) k [] = refl
-get-drop (suc n) k (x ∷ xs) =
-    let more : suc n + k ≡ suc (n + k) = omega arith in
-    get-drop n k xs ∙ ap (slice_get (x ∷ xs)) (sym more)
 
 get-first : {X : Type 0} (xs ys : List X) (n : ℕ) (d : X) → n < length xs → get_or (xs ++ ys) n d ≡ get_or xs n d
 get-first [] ys n d lt = absurd (omega (arith, lt))
@@ -64,12 +58,6 @@ parts-below v (x ∷ xs) _ (z ∷ zs) le same (more_cells {ys = ys} a rest) =
     subst (λ n. CellsBelow v.classes (x ∷ (xs ++ replicate n Bottom)) (z ∷ zs)) (sym count)
     (more_cells (subst (Below v.classes x) (sym (same 0 (omega arith))) a)
     (parts-below v xs ys zs (omega (arith, le)) (λ k lt. same (suc k) (omega (arith, lt))) rest))
-
-take-whole : {X : Type 0} (xs ys : List X) (n : ℕ) → length xs ≡ n → take n (xs ++ ys) ≡ xs
-take-whole [] ys zero e = refl
-take-whole [] ys (suc n) e = absurd (omega (arith, e))
-take-whole (x ∷ xs) ys zero e = absurd (omega (arith, e))
-take-whole (x ∷ xs) ys (suc n) e = ap (λ rest. x ∷ rest) (take-whole xs ys n (omega (arith, e)))
 
 module _ (v : Linked) (links : IsWorld v) (m target : Method) (regs : List Ty) (stacks : ℕ → List Ty) (ks : List Variable) (given : List Allotted)
     (f : ℕ → ℕ) (is : IsMethodOf v m) (ty : CardTyping v m regs stacks) (vs : AreVariables m.rec.nargs (drop m.rec.nargs regs) ks)
@@ -122,7 +110,7 @@ module _ (v : Linked) (links : IsWorld v) (m target : Method) (regs : List Ty) (
         let from = t.0 in
         let at : nargs + (k.register - nargs) ≡ k.register = omega (arith, from) in
         let found : slice_get regs k.register ≡ Some k.ty =
-        ap (slice_get regs) (sym at) ∙ (sym (get-drop nargs (k.register - nargs) regs) ∙ (t.1 ∙ ap (λ n. Some (type_in k n)) first)) in
+        ap (slice_get regs) (sym at) ∙ (sym (slice_get-drop nargs (k.register - nargs) regs) ∙ (t.1 ∙ ap (λ n. Some (type_in k n)) first)) in
         All-slice_get P regs k.register k.ty every found
 
     retyped : AreRetyped regs others f
@@ -143,7 +131,7 @@ module _ (v : Linked) (links : IsWorld v) (m target : Method) (regs : List Ty) (
             let low = own.from in
             let at : nargs + (x - nargs) ≡ x = omega (arith, from, low) in
             let found : Some ty_x ≡ Some (type_in k (x - k.register)) =
-            sym e ∙ (ap (slice_get regs) (sym at) ∙ (sym (get-drop nargs (x - nargs) regs) ∙ t.1)) in
+            sym e ∙ (ap (slice_get regs) (sym at) ∙ (sym (slice_get-drop nargs (x - nargs) regs) ∙ t.1)) in
             let type : ty_x ≡ type_in k (x - k.register) = same_Some ty_x (type_in k (x - k.register)) found in
             held a among (x - k.register) (let before = own.before in omega (arith, before, low)) ∙ ap Some (sym type)
           where
@@ -187,7 +175,7 @@ module _ (v : Linked) (links : IsWorld v) (m target : Method) (regs : List Ty) (
     declared : CellsBelow v.classes (start_frame target.rec Bottom).regs others
     declared =
         let first : CellsBelow v.classes handed (take nargs regs) =
-        subst (λ xs. CellsBelow v.classes xs (take nargs regs)) (take-whole handed (replicate m.rec.max_locals Bottom) nargs handed-length)
+        subst (λ xs. CellsBelow v.classes xs (take nargs regs)) (take_first nargs handed (replicate m.rec.max_locals Bottom) handed-length)
         (cells-take v.classes nargs ty.declared) in
         let le = arguments-before-end v m given in
         let below = parts-below v handed (take nargs regs) others (omega (arith, handed-length, size, le))

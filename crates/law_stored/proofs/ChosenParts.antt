@@ -13,6 +13,7 @@ use Rattle.capcheck_core.specs.Loads.{is_required, is_optional, is_asked, ArePar
 use Rattle.capcheck_core.proofs.Loads.{above_none}
 use Rattle.law_package.proofs.Lists.{Each, each_at}
 use Rattle.law_stored.specs.PackedIsInstalled.{HoldTheSame}
+use Rattle.jc_decode.proofs.PoolIndices.{second-op}
 
 -- ---- the tags that a folder may be asked for have a place
 
@@ -57,11 +58,6 @@ is_placed tag most e = by (nat_le 128 tag) refl
     by true high = custom_placed tag (from_128 tag high) most
     by false low = each_at IsPlaced (tags_from 1 12) tag placed_each (has_tag_from 1 12 tag (least_tag tag e) (omega (arith, most_tag tag e low))) e
 
-asked_may : (a b c : Bool) → (a || (b && c)) ≡ true → (a || b) ≡ true
-asked_may true b c e = refl
-asked_may false true c e = refl
-asked_may false false c e = e
-
 -- ---- the parts of a folder
 
 none_either : (b : Bool) (file : Option (List ℕ)) → file ≡ None → (if b then file else None) ≡ file
@@ -95,7 +91,7 @@ module _ (before : Folders) (dir : List ℕ) (parts : List Lent) (loaded : ArePa
 
   held_placed : (tag : ℕ) (bytes : List ℕ) → held parts tag ≡ Some bytes → is_some (place tag) ≡ true
   held_placed tag bytes e =
-      is_placed tag (below tag bytes e) (asked_may (is_required tag) (is_optional tag) _ (held_asked tag bytes e))
+      is_placed tag (below tag bytes e) (second-op (is_required tag) (is_optional tag) _ (held_asked tag bytes e))
 
   -- the components among them are all of them
   pub chosen_same : (chosen : List Lent) → AreComponents parts chosen → HoldTheSame chosen parts

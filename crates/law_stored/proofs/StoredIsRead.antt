@@ -30,7 +30,8 @@ use Rattle.law_stored.specs.StoredIsRead.{StoredIsRead, IsReadAgain, IsApart, wi
 use Rattle.law_stored.proofs.AskedParts.{IsShort, asked_short}
 use Rattle.law_stored.proofs.UnaskedParts.{rises, unasked_none}
 use Rattle.law_stored.proofs.Kept.{SameElsewhere, stored_here, roles_kept, all_kept}
-use Rattle.law_stored.proofs.Ends.{HasLast, last_beside, with_last_beside, one_last, none_beside}
+use Rattle.law_stored.proofs.Ends.{HasLast, last_beside, with_last_beside, none_beside}
+use Rattle.std.proofs.lemmas.List.{same_from_push}
 
 -- ---- the parts that are stored are those that the folder is asked for
 
@@ -94,7 +95,7 @@ module _ (t : OutOfDirsRequest) (before after : Outside) (libraries : List (List
   packages = last_beside StandsFor loaded.front loaded.end h.packages (subst (λ ps. AllZip StandsFor ps h.packages) loaded.are h.stand)
 
   same : (packages.front ≡ made.keeps.libraries) × (packages.end ≡ made.keeps.source)
-  same = one_last packages.front made.keeps.libraries packages.end made.keeps.source (sym packages.are ∙ made.keeps.are)
+  same = same_from_push packages.front made.keeps.libraries packages.end made.keeps.source (sym packages.are ∙ made.keeps.are)
 
   source_stands : StandsFor loaded.end made.keeps.source
   source_stands = subst (StandsFor loaded.end) same.1 packages.at

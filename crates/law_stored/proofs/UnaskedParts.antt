@@ -5,13 +5,10 @@ use Rattle.std.specs.Prelude.{◌==◌, ◌&&◌, ◌||◌, not, nat_le, slice_g
 use Rattle.std.proofs.lemmas.Bool.{cases_eq, eqb-true}
 use Rattle.std.proofs.lemmas.Bool.Decides.{nat_tests}
 use Rattle.cap_bytes.specs.Grammar.{Grammar}
-use Rattle.cap_bytes.specs.Spelling.{Stands, Spells, file_of}
-use Rattle.cap_bytes.proofs.Laws.{reading_where}
-use Rattle.cap_bytes.specs.declared.fault.FormFault.{FormFault}
+use Rattle.cap_bytes.specs.Spelling.{Stands, Spells}
 use Rattle.cap_frame.specs.AppletFormat.{Applet, applets_info}
 use Rattle.cap_frame.specs.Directory.{size_in, custom_size_in}
 use Rattle.cap_frame.specs.DirectoryFormat.{Custom, DirectoryItems, directory_info}
-use Rattle.cap_frame.specs.Frame.{component}
 use Rattle.cap_pool.specs.ExportFormat.{Exported, export_info}
 use Rattle.cap_components.specs.declared.fault.PackFault.{PackFault}
 use Rattle.cap_components.specs.Components.{read_directory, read_part}
@@ -37,6 +34,8 @@ use Rattle.cap_write.proofs.Customs.{has_tag, found_other, found_kept, found_wri
 use Rattle.cap_write.proofs.Told.{tells_sizes, tags_from, has_tag_from}
 use Rattle.capcheck_core.specs.Loads.{is_required, is_optional, is_some_size, is_sized, is_asked, Rise}
 use Rattle.law_stored.proofs.AskedParts.{directory_is}
+use Rattle.cap_write.proofs.Said.{same_info}
+use Rattle.std.proofs.lemmas.List.{nil_from_length}
 
 -- ---- parts rise
 
@@ -60,18 +59,8 @@ none_is : (o : Option (List ℕ)) → IsNone o → o ≡ None
 none_is None h = refl
 none_is (Some bytes) h = absurd cc
 
-one_info : (tag : ℕ) (file xs ys : List ℕ) → Stands (component tag) file xs → Stands (component tag) file ys → xs ≡ ys
-one_info tag file xs ys a b =
-    let e : ◌≡◌ {A = Result (List ℕ) FormFault} (Ok xs) (Ok ys) =
-    sym (reading_where (file_of tag) (component tag) file xs a) ∙ reading_where (file_of tag) (component tag) file ys b in
-    cc
-
 one_directory : (r : Result DirectoryItems PackFault) (x y : DirectoryItems) → r ≡ Ok x → r ≡ Ok y → x ≡ y
 one_directory r x y a b = let e : ◌≡◌ {A = Result DirectoryItems PackFault} (Ok x) (Ok y) = sym a ∙ b in cc
-
-empty : (xs : List ℕ) → length xs ≡ 0 → xs ≡ []
-empty [] e = refl
-empty (x ∷ xs) e = absurd (omega (arith, e))
 
 -- no component without a byte says anything
 no_applets : (xs : List Applet) → Stands applets_info [] xs → ⊥
@@ -88,7 +77,7 @@ not_there parts tag g None never h size = h
 not_there parts tag g (Some x) never h size =
     let c = h.1 in
     let k : IsSizeOf tag 0 (Some c.file) = subst (IsSizeOf tag 0) c.there size in
-    let none : h.0 ≡ [] = one_info tag c.file h.0 k.0 c.framed k.1 ∙ empty k.0 k.2 in
+    let none : h.0 ≡ [] = same_info tag c.file h.0 k.0 c.framed k.1 ∙ nil_from_length k.0 k.2 in
     absurd (never x (subst (λ info. Stands g info x) none c.said))
 
 zero_size : (n : ℕ) → is_some_size (Some n) ≡ false → n ≡ 0

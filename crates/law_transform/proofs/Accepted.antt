@@ -50,7 +50,7 @@ module _ (w : Linked) (laws : AreLaws w) (laid : List (Option Laid)) (are : AreL
     its-typing : (m : Method) → HasLaid r l m → HasCardTyping w m
     its-typing = laid-typed w laws (first + n) r (own-there n r own) its-element.0 l its-element.1
 
-  may-replace : EachMayReplace are.own laid
+  pub may-replace : EachMayReplace are.own laid
   may-replace n r l own at = record {
     filled = (its-element n r l own at).0;
     catches =

@@ -53,10 +53,11 @@ use Rattle.law_alike.proofs.Cells.{renamed-keeps}
 use Rattle.law_alike.proofs.Views.{have-keys}
 use Rattle.law_alike.proofs.Standing.{first-runs, frames-typed}
 use Rattle.law_transform.specs.Counterparts.{IsSameMethod, AreCounterparts}
-use Rattle.law_transform.specs.Beside.{AreTop, top_kept, WaitBeside, wait_kept, AreUnder, more_frames, both_run, both_end}
+use Rattle.law_transform.specs.Beside.{AreTop, top_kept, WaitBeside, wait_kept, AreUnder, more_frames}
 use Rattle.law_transform.proofs.Typed.{AreLaws}
 use Rattle.law_transform.proofs.Settling.{Settles, settled-now, settles-as, under-length, beside, enters, gives, kept-code, kept-room}
 use Rattle.law_transform.proofs.Throwing.{CatchBeside, catch_kept, throws-settle, raises-settle}
+use Rattle.law_alike.specs.Simulation.{both_run, both_end}
 
 -- ---- the same places
 

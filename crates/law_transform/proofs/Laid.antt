@@ -1,8 +1,8 @@
 -- The world of a package that is written with what is laid for its methods: each method with code is kept, or rewritten.
-use Rattle.std.proofs.Common.{◌≡◌, ◌⊎◌, inr, ⊎_elim, ℕ, zero, suc, ◌+◌, ◌-◌, ◌<◌, ◌≤◌, List, [], length, get_or}
+use Rattle.std.proofs.Common.{◌≡◌, ◌⊎◌, ⊎_elim, ℕ, zero, suc, ◌+◌, ◌-◌, ◌<◌, ◌≤◌, List, length, get_or}
 use Rattle.std.proofs.Common.{drop, All, Option, Some, None, option_map, IsSomeAnd, slice_get, refl, sym, ◌∙◌, ap, subst, arith, length-take}
 use Rattle.std.proofs.lemmas.Bool.{cases_lt}
-use Rattle.std.proofs.lemmas.List.Elements.{All-contains, All-weaker}
+use Rattle.std.proofs.lemmas.List.Elements.{All-contains}
 use Rattle.std.proofs.lemmas.Option.{none-some, same_Some, slice_get-get_or}
 use Rattle.jc_base.specs.declared.ty.Ty.{Ty}
 use Rattle.jc_base.specs.declared.ty.Ty.TheVariants.{Bottom, Top}
@@ -21,7 +21,7 @@ use Rattle.jc_rules.specs.Typing.{state_at}
 use Rattle.card_typing.specs.Typing.{HasCardTyping}
 use Rattle.card_typing.specs.Laws.{CardIsFlow}
 use Rattle.law_relink.specs.WorldAgain.{LaidMethodsStand}
-use Rattle.law_relink.specs.Replaced.{AreMethodsOf, HasPoolOf, EachMayReplace, MethodsAreReplaced}
+use Rattle.law_relink.specs.Replaced.{AreMethodsOf, HasPoolOf, MethodsAreReplaced}
 use Rattle.law_sound.specs.Frames.{Typings}
 use Rattle.law_laid.specs.Apart.{IsSameBut}
 use Rattle.law_laid.specs.Laid.{HasLaid}
@@ -42,6 +42,7 @@ use Rattle.law_transform.specs.Counterparts.{IsSameMethod, IsKeptOrRewritten, ke
 use Rattle.law_transform.specs.LikeEndings.{LaidAreCounterparts, CounterpartsEndAlike, LaidEndAlike}
 use Rattle.law_transform.proofs.Filling.{laid-filled}
 use Rattle.law_groups.proofs.Sounding.{can-run}
+use Rattle.law_transform.proofs.Accepted.{may-replace}
 
 -- what is known of the method of a number: the type of its unset registers and its typing, and that it is kept or rewritten by that
 data Goes (v w : Linked) (n : ℕ) : Ty → (ℕ → Option Types) → Type 0 where
@@ -233,16 +234,6 @@ module _ (v : Linked) (laws : AreLaws v) (catches : CatchesByPool) (card : CardI
         typed = λ m mo. (assigned m.number).typed m mo refl;
         methods = λ m mo. of-goes v w by_number m.number ((assigned m.number).goes m mo refl) refl refl;
       }
-
-module _ (v : Linked) (laws : AreLaws v) (laid : List (Option Laid)) (are : AreLaidOf v laid) where
-  may-replace : EachMayReplace are.own laid
-  may-replace k r l own at =
-      let here : slice_get v.methods (length are.libraries + k) ≡ Some r =
-      ap (λ ms. slice_get ms (length are.libraries + k)) are.parts ∙ (slice_get-farther are.libraries are.own k (length are.libraries + k) refl ∙ own) in
-      let its = element-at v (length are.libraries) are.own laid k r (Some l) are.each own at in
-      let live = keeps-live v laws (length are.libraries + k) r here its.0 l its.1 in
-      let pools = pools-laid (method_with v (length are.libraries + k) r) r.handlers its.1.symbols.ranges _ l.handlers live its.1.stands.2.handlers in
-      record { filled = its.0; catches = All-weaker (HasPoolOf r.handlers) (λ h. (h.pool ≡ 0) ⊎ HasPoolOf r.handlers h) (λ h p. inr p) l.handlers pools }
 
 pub laid-are-counterparts :
     (v : Linked) → AreLaws v → CatchesByPool → CardIsFlow v → LaidMethodsStand → GroupsStandAtSteps → MethodsAreKept → OperationsAreKept

@@ -44,13 +44,13 @@ use Rattle.law_groups.specs.Comes.{ComesToGroup, ComesWithin}
 use Rattle.law_transform.specs.Counterparts.{IsSameMethod, IsRewrittenIn, IsKeptOrRewritten, kept, rewritten, AreCounterparts}
 use Rattle.law_transform.specs.Beside.{AreTop, top_kept, top_rewritten, wait_kept, wait_rewritten, AreUnder, no_frames, more_frames}
 use Rattle.law_transform.specs.Beside.{AreBeside}
-use Rattle.law_transform.specs.Beside.{OutcomesBeside, both_run, both_end}
+use Rattle.law_transform.specs.Beside.{OutcomesBeside}
 use Rattle.law_transform.proofs.Typed.{AreLaws, its-method, typed-at}
+use Rattle.law_alike.specs.Simulation.{both_run, both_end, extra_after}
 
 -- how many steps may still follow: an ending comes at once
 abbrev pub extra : Outcome Cell → ℕ
-extra (running s) = 1000
-extra (ended ending s) = 0
+extra = extra_after 1000
 
 -- from what the second world has come to, few steps lead beside what the first has
 pub record Settles (v w : Linked) (typings : Typings) (o p : Outcome Cell) : Type 0 where

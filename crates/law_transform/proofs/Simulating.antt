@@ -1,15 +1,14 @@
--- A step of the first world, and steps of the second that come to the same; and so runs.
-use Rattle.std.proofs.Common.{◌≡◌, ℕ, suc, ◌+◌, ◌*◌, ◌≤◌, List, [], ◌∷◌, drop, refl, sym, ap, ◌∙◌, subst, arith}
+-- A step of the first world, and steps of the second that come to the same.
+use Rattle.std.proofs.Common.{◌≡◌, ℕ, ◌+◌, ◌≤◌, List, ◌∷◌, drop, refl, sym, ap, ◌∙◌, subst, arith}
 use Rattle.jc_base.specs.World.{Linked}
 use Rattle.jc_control.specs.Control.{IsReached}
 use Rattle.jc_control.specs.Method.{Method}
 use Rattle.vm_store.specs.declared.cell.Cell.{Cell}
 use Rattle.vm_store.specs.Cells.{tagged}
 use Rattle.vm_store.specs.State.{Frame, State, arguments, entered, top, other_frames, with_call, without_top}
-use Rattle.vm_step.specs.declared.ending.Ending.{Ending}
 use Rattle.vm_step.specs.declared.ending.Ending.TheVariants as endings
 use Rattle.vm_step.specs.Raising.{Outcome, running, ended, raised, thrown}
-use Rattle.vm_step.specs.Run.{Runs, Continues, stands, stops, steps}
+use Rattle.vm_step.specs.Run.{Runs, stands}
 use Rattle.vm_step.specs.Settled.{given_to}
 use Rattle.vm_step.specs.Step.{Steps}
 use Rattle.vm_step.proofs.Running.{continues-on}
@@ -23,35 +22,25 @@ use Rattle.law_groups.specs.Comes.{group_leaves, group_stays}
 use Rattle.law_alike.proofs.Simulation.{one-step}
 use Rattle.law_laid.proofs.Methods.{method-is}
 use Rattle.law_transform.specs.Counterparts.{IsSameMethod, IsRewrittenIn, AreCounterparts}
-use Rattle.law_transform.specs.Beside.{AreTop, top_kept, top_rewritten, WaitBeside, wait_rewritten, AreUnder, more_frames, AreBeside, OutcomesBeside, both_run}
-use Rattle.law_transform.specs.Beside.{both_end}
+use Rattle.law_transform.specs.Beside.{AreTop, top_kept, top_rewritten, WaitBeside, wait_rewritten, AreUnder, more_frames, AreBeside, OutcomesBeside}
 use Rattle.law_transform.proofs.Typed.{AreLaws, its-method, typed-at, stays-typed, reached-at}
 use Rattle.law_transform.proofs.Settling.{extra, Settles, settled-now, settles-as, beside, equal-but, enters, gives}
 use Rattle.law_transform.proofs.Throwing.{catch_rewritten, throws-settle, raises-settle}
 use Rattle.law_transform.proofs.Keeping.{kept-steps}
-
--- at most so many steps for one step; the last before an ending is short
-abbrev pub most : Outcome Cell → ℕ
-most (running s) = 2000
-most (ended ending s) = 1000
-
-most-is : (o : Outcome Cell) → 1000 + extra o ≡ most o
-most-is (running s) = refl
-most-is (ended ending s) = refl
+use Rattle.law_alike.specs.Simulation.{both_run, both_end}
 
 module _ (v w : Linked) (typings : Typings) (laws : AreLaws v) (pair : AreCounterparts v w typings) where
   abbrev StepComes : Outcome Cell → State Cell → Type 0
-  StepComes o t = ComesWithin w 1 (most o) t (OutcomesBeside v w typings o)
+  StepComes o t = ComesWithin w 1 (1000 + extra o) t (OutcomesBeside v w typings o)
 
   settles-then : (o : Outcome Cell) (t : State Cell) (count : ℕ) (p : Outcome Cell) → 1 ≤ count → count ≤ 1000 → Runs tagged w count t p
       → Settles v w typings o p → StepComes o t
   settles-then o t count p more fewer runs s =
-      let total : 1000 + extra o ≡ most o = most-is o in
       let few : s.count ≤ extra o = s.fewer in
       record {
         count = count + s.count;
         more = omega (arith, more);
-        fewer = omega (arith, fewer, few, total);
+        fewer = omega (arith, fewer, few);
         outcome = s.outcome;
         runs = continues-on tagged w count s.count (running t) p s.outcome runs s.continues;
         comes = s.comes;
@@ -160,61 +149,3 @@ module _ (v w : Linked) (typings : Typings) (laws : AreLaws v) (pair : AreCounte
 
   pub step-comes : (z t : State Cell) → AreBeside v w typings z t → (o : Outcome Cell) → Steps tagged v z o → StepComes o t
   step-comes z t b o step = steps-by z t (top z) (top t) b.tops refl refl b o step (laws.safe typings z o pair.typed b.typed step)
-
-  -- ---- runs
-
-  abbrev least : ℕ → Outcome Cell → ℕ
-  least n (running s) = n
-  least n (ended ending s) = 0
-
-  abbrev last : Outcome Cell → ℕ
-  last (running s) = 0
-  last (ended ending s) = 1000
-
-  least-more : (o : Outcome Cell) (n a b : ℕ) → 1 ≤ a → least n o ≤ b → least (suc n) o ≤ a + b
-  least-more (running s) n a b h g = omega (arith, h, g)
-  least-more (ended ending s) n a b h g = omega arith
-
-  pub record RunComes (n : ℕ) (o : Outcome Cell) (t : State Cell) : Type 0 where
-    pub count : ℕ
-    pub more : least n o ≤ count
-    pub fewer : count + last o ≤ 2000 * n
-    pub outcome : Outcome Cell
-    pub runs : Runs tagged w count t outcome
-    pub comes : OutcomesBeside v w typings o outcome
-
-  pub both-running : {y : State Cell} {p : Outcome Cell} → OutcomesBeside v w typings (running y) p → (u : State Cell) × (p ≡ running u)
-      × AreBeside v w typings y u
-  both-running (both_run {t = u} b) = (u, refl, b)
-
-  pub record IsEndedToo (ending : Ending) (z : State Cell) (p : Outcome Cell) : Type 0 where
-    pub state : State Cell
-    pub is : p ≡ ended ending state
-    pub heap : state.heap ≡ z.heap
-    pub statics : state.statics ≡ z.statics
-
-  pub both-ended : {ending : Ending} {z : State Cell} {p : Outcome Cell} → OutcomesBeside v w typings (ended ending z) p → IsEndedToo ending z p
-  both-ended (both_end ending {t = u} heap statics) = record { state = u; is = refl; heap = heap; statics = statics }
-
-  pub runs-come : {n : ℕ} {z : State Cell} {o : Outcome Cell} → Runs tagged v n z o → (t : State Cell) → AreBeside v w typings z t → RunComes n o t
-  runs-come stands t b =
-      record { count = 0; more = omega arith; fewer = omega arith; outcome = running t; runs = stands; comes = both_run b }
-  runs-come (stops {n = n} {s = s} {z = z} {ending = ending} step) t b =
-      let c = step-comes s t b (ended ending z) step in
-      let few = c.fewer in
-      record { count = c.count; more = omega arith; fewer = omega (arith, few); outcome = c.outcome; runs = c.runs; comes = c.comes }
-  runs-come (steps {n = n} {s = s} {z = y} {o = o} step more) t b =
-      let c = step-comes s t b (running y) step in
-      let u = both-running c.comes in
-      let rest = runs-come more u.0 u.2 in
-      let few = c.fewer in
-      let rest_few = rest.fewer in
-      record {
-        count = c.count + rest.count;
-        more = least-more o n c.count rest.count c.more rest.more;
-        fewer = omega (arith, few, rest_few);
-        outcome = rest.outcome;
-        runs = continues-on tagged w c.count rest.count (running t) c.outcome rest.outcome c.runs
-            (subst (λ x. Continues tagged w rest.count x rest.outcome) (sym u.1) rest.runs);
-        comes = rest.comes;
-      }

@@ -5,10 +5,10 @@ use Rattle.jc_base.specs.World.{Linked}
 use Rattle.jc_control.specs.Control.{IsReached}
 use Rattle.vm_store.specs.declared.cell.Cell.{Cell}
 use Rattle.vm_store.specs.State.{Frame, State, top, other_frames}
-use Rattle.vm_step.specs.declared.ending.Ending.{Ending}
-use Rattle.vm_step.specs.Raising.{Outcome, running, ended}
+use Rattle.vm_step.specs.Raising.{Outcome}
 use Rattle.law_sound.specs.Frames.{Typings}
 use Rattle.law_sound.specs.State.{IsTypedState}
+use Rattle.law_alike.specs.Simulation.{AreBoth}
 use Rattle.xf_homes.specs.Source.{Source}
 use Rattle.law_groups.specs.Beside.{IsAtGroup, IsUnderCall}
 use Rattle.law_transform.specs.Counterparts.{IsSameMethod, IsRewrittenIn}
@@ -52,10 +52,5 @@ pub record AreBeside (v w : Linked) (typings : Typings) (z t : State Cell) : Typ
   pub typed : IsTypedState v typings z
 
 -- what they come to: such states again, or the same ending with equal objects and static fields
-pub data OutcomesBeside (v w : Linked) (typings : Typings) : Outcome Cell → Outcome Cell → Type 0 where
-  both_run : {z t : State Cell} → AreBeside v w typings z t → OutcomesBeside v w typings (running z) (running t)
-  both_end :
-      (ending : Ending) {z t : State Cell}
-      → t.heap ≡ z.heap
-      → t.statics ≡ z.statics
-      → OutcomesBeside v w typings (ended ending z) (ended ending t)
+abbrev pub OutcomesBeside : Linked → Linked → Typings → Outcome Cell → Outcome Cell → Type 0
+OutcomesBeside v w typings = AreBoth (AreBeside v w typings)

@@ -2,7 +2,7 @@
 use Rattle.std.proofs.Common.{◌≡◌, ℕ, ◌+◌, ◌-◌, ◌<◌, ◌≤◌, List, [], ◌∷◌, ◌++◌, length, take, drop, get_or, refl, sym, ap}
 use Rattle.std.proofs.Common.{◌∙◌, arith, length-take, length-drop}
 use Rattle.std.proofs.lemmas.List.{take_at, drop_at, drop-drop, drop-take, drop_more, length-take-le, get_or-append_right, get_or-take}
-use Rattle.vm_store.specs.State.{Frame, State, IsRunning, first_frame, other_frames, top, with_stack, rotated}
+use Rattle.vm_store.specs.State.{Frame, first_frame, other_frames, rotated}
 
 -- they are turned under others
 pub copied_under :
@@ -21,10 +21,6 @@ copied_under cells copied under h =
 pub front : {A : Type 0} (fs : List (Frame A)) → 0 < length fs → first_frame fs ∷ other_frames fs ≡ fs
 front [] h = absurd (omega (arith, h))
 front (f ∷ fs) h = refl
-
--- a state is the one with its own stack
-pub restacked : {A : Type 0} (s : State A) → IsRunning s → with_stack s (top s).stack ≡ s
-restacked {A} s running = let put : List (Frame A) → State A = λ fs. record s { frames = fs } in ap put (front s.frames running)
 
 -- one copy more
 pub copied_more :

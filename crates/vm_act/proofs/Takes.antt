@@ -11,7 +11,7 @@ use Rattle.jc_base.specs.declared.record.Sig.{Sig}
 use Rattle.jc_base.specs.declared.record.ClassRec.{ClassRec}
 use Rattle.jc_base.specs.declared.record.MethodRec.{MethodRec}
 use Rattle.jc_base.specs.Class.{ClassTable, IsClass, IsNextOnChain, is_interface, is_interface_record, object, chain, last}
-use Rattle.jc_base.specs.Order.{Below, is_below, is_on_chain}
+use Rattle.jc_base.specs.Order.{Below, is_on_chain}
 use Rattle.jc_base.specs.Dispatch.{of_record, public_of, dispatched, signature_of, signature_at}
 use Rattle.jc_base.specs.Laws.{RunsPublic}
 use Rattle.jc_base.specs.Linked.{IsMethod, IsLinkedClass, IsImplemented, IsExtended, IsInherited, Dispatches, AreDispatched, receiver_words}
@@ -19,7 +19,7 @@ use Rattle.jc_base.specs.World.{Linked, IsWorld}
 use Rattle.jc_base.proofs.Lists.{All-slice_get}
 use Rattle.jc_base.proofs.Climbs.{climb, on_chain-here, on_above}
 use Rattle.jc_base.proofs.Objects.{public-methods_run}
-use Rattle.jc_base.proofs.Subtypes.{below_decided}
+use Rattle.jc_base.proofs.Subtypes.{below_class}
 use Rattle.jc_ops.specs.declared.operation.Choice.TheVariants as choices
 use Rattle.jc_ops.specs.declared.operation.Callee.{Callee}
 use Rattle.jc_ops.specs.Sound.{IsCalleeOf, IsChosen, IsSpecialCall, IsVirtualCall, IsInterfaceCall}
@@ -166,10 +166,6 @@ module _ (w : Linked) (is : IsWorld w) where
       goes-on c p next before class e h (Some x) found = here c class e x h found
       goes-on c p next before class e h None found = farther interface c p next e (before e (sym (serving-next w.classes interface c p next found) ∙ h))
 
-  below-on : (c d : ℕ) → is_on_chain w.classes d c ≡ true → Below w.classes (Class c) (Class d)
-  unfolding is_below
-  below-on c d on = (below_decided w.classes is.chains (Class c) (Class d)).0 on
-
   -- the method at the public token that serves, by cases on what is found
   public-takes : (c : Callee) (rec : MethodRec) → slice_get w.methods c.method ≡ Some rec → (of above public : ℕ)
       → is_on_chain w.classes above of ≡ true
@@ -178,7 +174,7 @@ module _ (w : Linked) (is : IsWorld w) where
   public-takes c rec at of above public on None e h = absurd (cc)
   public-takes c rec at of above public on (Some n) e h =
       let run : RunsPublic w.classes w.methods of public n = public-methods_run (length w.infos) w.classes w.methods is.chains is.classes of above public n
-      (below-on of above on) e in
+      (below_class w.classes is.chains of above on) e in
       let same : signature_of w.methods run.method ≡ signature_of w.methods c.method = run.signature
       ∙ (h ∙ sym (ap (option_map (λ (x : MethodRec). x.sig)) at)) in
       let takes = alike-takes w is run.method c.method rec at same (slice_get w.methods run.method) refl

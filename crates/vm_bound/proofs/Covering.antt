@@ -5,7 +5,7 @@ use Rattle.std.proofs.lemmas.Bool.{cases_lt, cases_eq, eq-eqb, ne_eqb}
 use Rattle.std.proofs.lemmas.List.Elements.{Contains-append_left, Contains-push, Contains-push_cases}
 use Rattle.jc_decode.proofs.Elements.{nothing-in}
 use Rattle.vm_bound.specs.declared.spread.Block.{Block}
-use Rattle.vm_bound.specs.Blocks.{IsHalf, Under, under_one, under_half, IsPart, IsInPart, IsCovered, AddsRun, with_if}
+use Rattle.vm_bound.specs.Blocks.{IsHalf, Under, under_one, under_half, IsPart, IsInPart, AddsRun, with_if}
 use Rattle.vm_bound.specs.Runs.{IsRun, AreRuns}
 
 -- the nodes from one to before another are still to be taken
@@ -184,14 +184,6 @@ module _ (count from to by : ℕ) (old : List Block) where
       IsCovering count from to by old
       (with_if (with_if new (low % 2) (record { node = low; by = by })) (high % 2) (record { node = high - 1; by = by })) n ((high - high % 2) / 2)) down
       third)
-
-  pub covering-ends : (new : List Block) (low high : ℕ) → high ≤ low → IsCovering count from to by old new low high
-      → IsCovered count from to by old new
-  covering-ends new low high l covering = record {
-    kept = covering.kept;
-    only = covering.only;
-    all = λ p a b. ⊎_elim (λ has. has) (λ has. let m = has.1 in let n = has.2 in absurd (omega (arith, l, m, n))) (covering.all p a b);
-  }
 
 -- ---- runs of positions
 

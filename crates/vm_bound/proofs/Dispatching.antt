@@ -1,20 +1,12 @@
 -- Which classes below a class have the entry that an object runs.
 use Rattle.std.proofs.Common.{◌≡◌, ℕ, ◌-◌, ◌≤◌, Bool, true, false, inl, inr, refl, sym, ap, ◌∙◌, subst, arith}
-use Rattle.std.specs.Prelude.{Some, nat_lt, ◌==◌, ◌||◌, slice_get}
-use Rattle.std.proofs.lemmas.Bool.{eq-eqb, eqb-true, false≢true, or_cases}
-use Rattle.std.proofs.Math.Bool.{or-true}
+use Rattle.std.specs.Prelude.{Some, nat_lt, ◌==◌, slice_get}
+use Rattle.std.proofs.lemmas.Bool.{eq-eqb, eqb-true, false≢true, or_cases, or_left, or_right}
 use Rattle.jc_base.specs.Class.{ClassTable, IsClass, AreClasses, IsNextOnChain}
 use Rattle.jc_base.specs.Dispatch.{package_of, entry_at, nearest_of, visible_in, dispatched}
 use Rattle.jc_base.specs.Order.{is_on_chain}
 use Rattle.jc_base.proofs.Climbs.{chain-front, climb, on_alone, on_next, on_above, on_chain-here, parent_of-class}
 use Rattle.vm_bound.specs.Edges.{shares}
-
-or-left : (a b : Bool) → a ≡ true → (a || b) ≡ true
-or-left true b e = refl
-or-left false b e = absurd (false≢true e)
-
-or-right : (a b : Bool) → b ≡ true → (a || b) ≡ true
-or-right a b e = ap (λ (x : Bool). a || x) e ∙ or-true a
 
 -- the class below another whose own lists have the entry that an object of class r runs for the token
 pub record HasEntry (t : ClassTable) (c token r n : ℕ) : Type 0 where
@@ -79,7 +71,7 @@ module _ (t : ClassTable) (are : AreClasses t) where
     class = r;
     above = on;
     below = on_chain-here t r;
-    shared = or-left (nat_lt token 128) (package_of t r == package_of t c) few;
+    shared = or_left (nat_lt token 128) (package_of t r == package_of t c) few;
     entry = public-entry c r token n few runs;
   }
   entry-by c token r n false far on runs =
@@ -88,7 +80,7 @@ module _ (t : ClassTable) (are : AreClasses t) where
         class = near.class;
         above = near.above;
         below = near.below;
-        shared = or-right (nat_lt token 128) (package_of t near.class == package_of t c)
+        shared = or_right (nat_lt token 128) (package_of t near.class == package_of t c)
             (eq-eqb (package_of t near.class) (package_of t c) near.package_is);
         entry = nearest-entry c r token near.class n far near.found runs;
       }
@@ -109,13 +101,13 @@ module _ (t : ClassTable) (are : AreClasses t) where
   pub shares-between : (c token k p : ℕ) → package_of t c ≤ package_of t p → package_of t p ≤ package_of t k → shares t c token k ≡ true
       → (shares t c token p ≡ true) × (shares t p token k ≡ true)
   shares-between c token k p low high is = elim (or_cases (nat_lt token 128) (package_of t k == package_of t c) is) [
-    | inl few ↦ (or-left (nat_lt token 128) (package_of t p == package_of t c) few, or-left (nat_lt token 128) (package_of t k == package_of t p) few)
+    | inl few ↦ (or_left (nat_lt token 128) (package_of t p == package_of t c) few, or_left (nat_lt token 128) (package_of t k == package_of t p) few)
     | inr alike ↦
         let e = eqb-true (package_of t k) (package_of t c) alike in
         let first : package_of t p ≡ package_of t c = omega (arith, e, low, high) in
         let second : package_of t k ≡ package_of t p = omega (arith, e, low, high) in (
-          or-right (nat_lt token 128) (package_of t p == package_of t c) (eq-eqb (package_of t p) (package_of t c) first),
-          or-right (nat_lt token 128) (package_of t k == package_of t p) (eq-eqb (package_of t k) (package_of t p) second),
+          or_right (nat_lt token 128) (package_of t p == package_of t c) (eq-eqb (package_of t p) (package_of t c) first),
+          or_right (nat_lt token 128) (package_of t k == package_of t p) (eq-eqb (package_of t k) (package_of t p) second),
         )
   ]
 

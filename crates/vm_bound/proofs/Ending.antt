@@ -1,30 +1,16 @@
 -- The ends of classes at and below one, found on one walk over an order.
-use Rattle.std.proofs.Common.{◌≡◌, ℕ, ◌+◌, ◌<◌, ◌≤◌, ◌⊎◌, inl, inr, ⊎_elim, set, List, [], ◌∷◌, ◌++◌, length, replicate, refl, sym, ap, ◌∙◌, subst, arith}
+use Rattle.std.proofs.Common.{◌≡◌, ℕ, ◌+◌, ◌<◌, ◌≤◌, ◌⊎◌, inl, inr, ⊎_elim, set, List, [], ◌∷◌, ◌++◌, length, refl, sym, ◌∙◌, subst, arith}
 use Rattle.std.specs.Prelude.{Option, Some, None, Contains, slice_get}
 use Rattle.std.proofs.lemmas.Bool.{cases_lt, cases_eq}
-use Rattle.std.proofs.lemmas.Option.{same_Some, slice_get_within}
-use Rattle.std.proofs.lemmas.List.{length-set, length-replicate, get_or-set_same, get_or-set_other, get_or-replicate}
+use Rattle.std.proofs.lemmas.Option.{same_Some}
+use Rattle.std.proofs.lemmas.List.{length-set, get_or-set_same, get_or-set_other}
 use Rattle.std.proofs.lemmas.List.Elements.{Contains-append_left, Contains-push, Contains-push_cases}
 use Rattle.jc_base.specs.Class.{ClassTable, parent_of}
 use Rattle.jc_decode.proofs.Elements.{nothing-in}
-use Rattle.vm_bound.specs.Runs.{end_of, IsWithin, IsUnder, IsUnderParent, AreEnds, IsWalk}
+use Rattle.vm_bound.specs.Runs.{end_of, IsWithin, IsUnder, IsUnderParent, IsWalk}
 use Rattle.vm_bound.proofs.Stacks.{last-greatest, front-rises, pushed-rises}
 
 module _ (t : ClassTable) (order : List ℕ) where
-  pub walk-begins : (ends : List ℕ) → ends ≡ replicate (length order) (length order) → IsWalk t order 0 [] ends
-  walk-begins ends e = record {
-    count = ap length e ∙ length-replicate (length order) (length order);
-    own = λ p l. let is = first-end p l in omega (arith, is, l);
-    later = λ p low l. first-end p l;
-    told = λ p c. absurd (nothing-in p c);
-    rising = λ i j less l. absurd (omega (arith, l));
-    apart = λ u p is l. ⊎_elim (λ c. absurd (nothing-in u c)) (λ e. absurd (omega (arith, e, l))) is;
-    under = λ q c l at. absurd (omega (arith, l));
-  }
-    where
-      first-end : (p : ℕ) → p < length order → end_of ends p ≡ length order
-      first-end p l = ap (λ (xs : List ℕ). end_of xs p) e ∙ get_or-replicate (length order) p (length order) 0 l
-
   -- the last begun position is one of the order
   pub last-inside : (at last : ℕ) (begun rest ends : List ℕ) → at < length order → begun ≡ rest ++ last ∷ [] → IsWalk t order at begun ends
       → last < length order
@@ -194,10 +180,3 @@ module _ (t : ClassTable) (order : List ℕ) where
             let high = within.1 in
             ⊎_elim (λ k. absurd (nothing-in p k)) (λ closed. absurd (omega (arith, closed, high))) (walk.apart at p (inr refl) (omega (arith, low, not)))
       ]
-
-  pub walk-ends : (at : ℕ) (begun ends : List ℕ) → length order ≤ at → IsWalk t order at begun ends → AreEnds t order ends
-  walk-ends at begun ends past walk = record {
-    count = walk.count;
-    own = walk.own;
-    under = λ q c here. let l = slice_get_within order q c here in walk.under q c (omega (arith, l, past)) here;
-  }

@@ -1,5 +1,5 @@
 -- The positions of the classes that name an interface, found in one pass over an order.
-use Rattle.std.proofs.Common.{◌≡◌, ℕ, ◌+◌, ◌<◌, ◌≤◌, ◌⊎◌, inl, inr, ⊎_elim, Bool, true, false, List, [], ◌∷◌, ◌++◌, length, replicate, refl, sym, ap}
+use Rattle.std.proofs.Common.{◌≡◌, ℕ, ◌+◌, ◌<◌, ◌≤◌, ◌⊎◌, inl, inr, ⊎_elim, Bool, true, false, List, [], ◌∷◌, ◌++◌, length, refl, sym, ap}
 use Rattle.std.proofs.Common.{◌∙◌, subst, arith}
 use Rattle.std.specs.Prelude.{Some, is_some, Contains, find, slice_get}
 use Rattle.std.specs.List.Sorted.{IsNonDecreasing}
@@ -19,7 +19,7 @@ use Rattle.vm_bound.specs.Rows.{IsAdded}
 use Rattle.vm_bound.specs.Runs.{IsNamed, AreAllNaming, HasEntry, AreAdded}
 use Rattle.vm_bound.proofs.Serving.{named-is}
 use Rattle.vm_bound.proofs.Stacks.{pushed-rising}
-use Rattle.vm_bound.proofs.Subclassing.{empty-next, added-count, added-here, added-there}
+use Rattle.vm_bound.proofs.Subclassing.{added-count, added-here, added-there}
 
 -- ---- a class has an entry for an interface where it names it
 
@@ -130,13 +130,6 @@ pub record AreNamingBelow (t : ClassTable) (order : List ℕ) (at : ℕ) (rows :
   pub rising : (i : ℕ) → IsNonDecreasing (next rows i)
 
 module _ (t : ClassTable) (order : List ℕ) where
-  pub naming-begins : (n : ℕ) → AreNamingBelow t order 0 (replicate n [])
-  naming-begins n = record {
-    only = λ i p h. absurd (nothing-in p (subst (λ (row : List ℕ). Contains row p) (empty-next n i) h));
-    all = λ i p l less is. absurd (omega (arith, less));
-    rising = λ i. subst IsNonDecreasing (sym (empty-next n i)) (λ j k d le l. absurd (omega (arith, l)));
-  }
-
   pub naming-more : (at c : ℕ) (r : ClassRec) (old new : List (List ℕ)) → slice_get order at ≡ Some c → slice_get t.records c ≡ Some r
       → AreAdded old r.implements at new → AreNamingBelow t order at old → AreNamingBelow t order (at + 1) new
   naming-more at c r old new here record-is added before = record {

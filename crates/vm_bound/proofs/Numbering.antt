@@ -1,5 +1,5 @@
 -- Numbers of vertices, as their meanings are met.
-use Rattle.std.proofs.Common.{◌≡◌, ℕ, ◌+◌, ◌-◌, ◌^◌, ◌<◌, ◌≤◌, inl, inr, ⊎_elim, true, List, [], ◌∷◌, ◌++◌, length, refl, sym, ap, ◌∙◌}
+use Rattle.std.proofs.Common.{◌≡◌, ℕ, ◌+◌, ◌-◌, ◌^◌, ◌<◌, ◌≤◌, inl, inr, ⊎_elim, List, [], ◌∷◌, ◌++◌, length, refl, sym, ap, ◌∙◌}
 use Rattle.std.proofs.Common.{subst, arith}
 use Rattle.std.specs.Prelude.{Some, None, All, Contains, slice_get, slice_index_or}
 use Rattle.std.proofs.lemmas.Bool.{cases_lt}
@@ -13,8 +13,7 @@ use Rattle.vm_bound.specs.declared.spread.Spread.{Spread}
 use Rattle.vm_bound.specs.declared.vertex.Meaning.{Meaning}
 use Rattle.vm_bound.specs.declared.vertex.Vertex.{Vertex}
 use Rattle.vm_bound.specs.declared.vertex.Vertex.TheVariants.{Method, Means}
-use Rattle.vm_bound.specs.Vertices.{Stands, Extends, IsFitBelow, same_meaning}
-use Rattle.vm_bound.specs.Keys.{meaning-equal}
+use Rattle.vm_bound.specs.Vertices.{Stands, Extends, IsFitBelow}
 use Rattle.vm_bound.specs.Edges.{Leads}
 use Rattle.vm_bound.specs.Rows.{AreTargets, HasVertex, HasNumber, AreNumbers, AreRows}
 
@@ -22,10 +21,6 @@ use Rattle.vm_bound.specs.Rows.{AreTargets, HasVertex, HasNumber, AreNumbers, Ar
 
 pub extends-on : (a b c : List Meaning) → Extends a b → Extends b c → Extends a c
 extends-on a b c first second = λ k m e. second k m (first k m e)
-
-pub met-there : (new : List Meaning) (place : ℕ) (m k : Meaning) → slice_get new place ≡ Some k → same_meaning m k ≡ true
-    → slice_get new place ≡ Some m
-met-there new place m k at same = at ∙ ap Some (sym (meaning-equal m k same))
 
 pub stands-on : (methods : ℕ) (old new : List Meaning) (v : Vertex) (u : ℕ) → Extends old new → Stands methods old v u → Stands methods new v u
 stands-on methods old new (Method n) u more stands = stands

@@ -1,14 +1,13 @@
 -- Direct subclasses, found in one pass.
-use Rattle.std.proofs.Common.{◌≡◌, ℕ, ◌+◌, ◌<◌, inl, inr, ⊎_elim, set, List, [], ◌∷◌, ◌++◌, length, replicate, refl, sym, ap, ◌∙◌, subst, arith}
+use Rattle.std.proofs.Common.{◌≡◌, ℕ, ◌+◌, ◌<◌, inl, inr, ⊎_elim, set, List, [], ◌∷◌, ◌++◌, length, refl, sym, ap, ◌∙◌, subst, arith}
 use Rattle.std.specs.Prelude.{Option, Some, None, Contains, slice_get}
 use Rattle.std.proofs.lemmas.Bool.{cases_lt, cases_eq}
-use Rattle.std.proofs.lemmas.Option.{same_Some, none-some, slice_get_within, get_or_from_slice_get}
-use Rattle.std.proofs.lemmas.List.{length-set, length-replicate, get_or-set_same, get_or-set_other, get_or-replicate, get_or_past}
+use Rattle.std.proofs.lemmas.Option.{same_Some, slice_get_within, get_or_from_slice_get}
+use Rattle.std.proofs.lemmas.List.{length-set, get_or-set_same, get_or-set_other}
 use Rattle.std.proofs.lemmas.List.Elements.{Contains-append_left, Contains-push, Contains-push_cases}
 use Rattle.jc_base.specs.Class.{ClassTable, IsClass, parent_of}
 use Rattle.jc_base.proofs.Climbs.{parent_of-class}
 use Rattle.digraph.specs.Graph.{next}
-use Rattle.jc_decode.proofs.Elements.{nothing-in}
 use Rattle.vm_bound.specs.Rows.{AreAllSubclasses, IsAdded}
 
 pub added : (c d : ℕ) (old new : List (List ℕ)) (before after : List ℕ) → slice_get old c ≡ Some before → after ≡ before ++ d ∷ []
@@ -40,28 +39,7 @@ pub record AreSubclassesBelow (t : ClassTable) (bound : ℕ) (rows : List (List 
   pub only : (c d : ℕ) → Contains (next rows c) d → parent_of t d ≡ Some c
   pub all : (c d : ℕ) → c < length rows → d < bound → parent_of t d ≡ Some c → Contains (next rows c) d
 
-pub empty-next : (n c : ℕ) → next (replicate n []) c ≡ []
-empty-next n c = elim (cases_lt c n) [
-  | inl inside ↦ get_or-replicate n c [] [] inside
-  | inr past ↦ let e : length (replicate {A = List ℕ} n []) ≡ n = length-replicate n [] in get_or_past (replicate n []) c [] (omega (arith, e, past))
-]
-
 module _ (t : ClassTable) where
-  pub subclasses-none : (n : ℕ) → AreSubclassesBelow t 0 (replicate n [])
-  subclasses-none n = record {
-    only = λ c d h. absurd (nothing-in d (subst (λ (row : List ℕ). Contains row d) (empty-next n c) h));
-    all = λ c d k l link. absurd (omega (arith, l));
-  }
-
-  pub subclasses-not : (d : ℕ) (rows : List (List ℕ)) → parent_of t d ≡ None → AreSubclassesBelow t d rows → AreSubclassesBelow t (d + 1) rows
-  subclasses-not d rows none before = record {
-    only = before.only;
-    all = λ c k l m link. elim (cases_lt k d) [
-      | inl lower ↦ before.all c k l lower link
-      | inr past ↦ let e : k ≡ d = omega arith in absurd (none-some c (sym none ∙ subst (λ (x : ℕ). parent_of t x ≡ Some c) e link))
-    ];
-  }
-
   pub subclasses-is : (d p : ℕ) (old new : List (List ℕ)) → parent_of t d ≡ Some p → IsAdded old p d new → AreSubclassesBelow t d old
       → AreSubclassesBelow t (d + 1) new
   subclasses-is d p old new link is before = record { only = only; all = all }

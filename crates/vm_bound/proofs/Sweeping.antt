@@ -8,18 +8,10 @@ use Rattle.jc_decode.proofs.Elements.{nothing-in}
 use Rattle.vm_bound.specs.declared.spread.Block.{Block}
 use Rattle.vm_bound.specs.Blocks.{AddsRun}
 use Rattle.vm_bound.specs.Runs.{end_of, IsWithin, IsInnermost, IsByInnermost, IsSweep, IsFree}
-use Rattle.vm_bound.proofs.Covering.{runs-none, runs-skip, runs-more}
+use Rattle.vm_bound.proofs.Covering.{runs-skip, runs-more}
 use Rattle.vm_bound.proofs.Stacks.{place-of, last-most, front-rising, pushed-rising}
 
 module _ (order ends naming : List ℕ) where
-  pub sweep-begins : IsSweep order ends naming 0 0 [] []
-  sweep-begins = record {
-    runs = runs-none (length order) (IsByInnermost order ends naming);
-    among = λ p c. absurd (nothing-in p c);
-    ended = λ j l. absurd (omega (arith, l));
-    rising = λ i j d le l. absurd (omega (arith, l));
-  }
-
   -- a naming position that a position is within, where no later one stands before it, is begun
   is-begun : (k from to p q : ℕ) (begun : List ℕ) (blocks : List Block) → IsFree naming k to → IsSweep order ends naming k from begun blocks
       → Contains naming p → IsWithin ends p q → from ≤ q → q < to → Contains begun p

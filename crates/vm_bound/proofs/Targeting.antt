@@ -41,14 +41,6 @@ pub record IsWalked (w : Linked) (m : ℕ) (rec : MethodRec) (left : List Placed
   pub all : (p : Placed) → Contains (listing (code_of w.infos rec)) p → Contains left p ⊎ ((v : Vertex) → target w rec p ≡ Some v → Contains found v)
 
 module _ (w : Linked) (m : ℕ) (rec : MethodRec) (is : slice_get w.methods m ≡ Some rec) where
-  pub walk-begins : (left : List Placed) → left ≡ listing (code_of w.infos rec) → IsWalked w m rec left []
-  walk-begins left e = record {
-    only = none-more (LeadsFromMethod w m);
-    fit = none-more (IsFit w);
-    stand = λ p c. subst (λ (ps : List Placed). Contains ps p) e c;
-    all = λ p c. inl (subst (λ (ps : List Placed). Contains ps p) (sym e) c);
-  }
-
   rest : (p q : Placed) (left : List Placed) → Contains (p ∷ left) q → (p ≡ q) ⊎ Contains left q
   rest p q left c = ⊎_elim (λ is. inl is) (λ more. inr (Contains-from_IsAmong q left more)) (IsAmong-from_Contains q (p ∷ left) c)
 
@@ -97,12 +89,6 @@ module _ (w : Linked) (m : ℕ) (rec : MethodRec) (is : slice_get w.methods m �
 -- ---- a method that an interface describes
 
 module _ (w : Linked) (rec : MethodRec) where
-  pub blocks-none : AreBlockTargets w rec [] []
-  blocks-none = record { only = none-more (LeadsToBlocks w.classes rec []); all = all; fit = none-more (IsFit w) }
-    where
-      all : (v : Vertex) → LeadsToBlocks w.classes rec [] v → Contains [] v
-      all v (leads_block {b = b} among told) = absurd (nothing-in b among)
-
   wider : (seen : List Block) (b : Block) (v : Vertex) → LeadsToBlocks w.classes rec seen v → LeadsToBlocks w.classes rec (seen ++ b ∷ []) v
   wider seen b v (leads_block {b = other} among told) = leads_block (Contains-append_left seen (b ∷ []) other among) told
 

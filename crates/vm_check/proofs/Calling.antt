@@ -1,19 +1,18 @@
 -- The demands of a call, as numbers and as tests.
-use Rattle.std.proofs.Common.{◌≡◌, ℕ, zero, suc, ◌+◌, ◌-◌, ◌<◌, ◌≤◌, Bool, true, false, List, [], ◌∷◌, ◌++◌, length, drop}
+use Rattle.std.proofs.Common.{◌≡◌, ℕ, ◌+◌, ◌-◌, ◌<◌, ◌≤◌, Bool, true, false, List, [], ◌∷◌, ◌++◌, length, drop}
 use Rattle.std.proofs.Common.{get_or, refl, ap, ◌∙◌, arith}
 use Rattle.std.specs.Prelude.{max, reverse, Option, Some, None, if◌then◌else◌, ◌&&◌, nat_lt}
 use Rattle.std.specs.List.{list_all}
 use Rattle.std.proofs.lemmas.Bool.{lt-ltb, le-ltb}
 use Rattle.std.proofs.lemmas.List.{length-reverse, get_or-reverse, drop_more}
 use Rattle.jc_base.specs.declared.ty.Ty.{Ty}
-use Rattle.jc_base.specs.Class.{ClassTable}
 use Rattle.jc_base.specs.World.{Linked}
 use Rattle.jc_ops.specs.declared.want.Want.{Want}
 use Rattle.jc_ops.specs.declared.want.Want.TheVariants.{Value}
 use Rattle.jc_ops.specs.Sound.{receiver_count}
 use Rattle.jc_rules.specs.declared.demand.Demand.{Demand}
 use Rattle.jc_rules.specs.declared.demand.Demand.TheVariants.{Cell}
-use Rattle.jc_rules.specs.Demand.{satisfies, AreKnownDemands, IsKnownDemand}
+use Rattle.jc_rules.specs.Demand.{satisfies}
 use Rattle.jc_rules.specs.Footprint.{registers_asked, cells_asked}
 use Rattle.jc_rules.specs.Rule.{cells_wanted, receiver_wanted, call_demands}
 use Rattle.jc_rules.proofs.Footprints.{receiver-registers}
@@ -22,11 +21,6 @@ use Rattle.vm_store.specs.State.{State, top}
 use Rattle.vm_step.specs.declared.ending.Fault.{Fault}
 use Rattle.vm_step.specs.declared.ending.Fault.TheVariants.{TypeFault, StackFault, LocalFault}
 use Rattle.vm_step.specs.Tests.{types_of, unmet}
-
-pub known-at : (t : ClassTable) (ds : List Demand) (n : ℕ) (d : Demand) → AreKnownDemands t ds → n < length ds → IsKnownDemand t (get_or ds n d)
-known-at t [] n d h lt = absurd (omega (arith, lt))
-known-at t (e ∷ ds) zero d h lt = h.0
-known-at t (e ∷ ds) (suc n) d h lt = known-at t ds n d h.1 (omega (arith, lt))
 
 -- ---- as numbers
 

@@ -3,7 +3,7 @@ mod Tested
 mod Reaching
 mod Finding
 mod Rooming
-mod Sufficing
+pub mod Sufficing
 mod Staying
 mod Shaping
 mod Settling

@@ -11,7 +11,7 @@ use Rattle.jc_base.specs.declared.ty.Ty.TheVariants.{Bottom, IntLow, Class, ArrB
 use Rattle.jc_base.specs.declared.ty.Kind.{Kind}
 use Rattle.jc_base.specs.declared.ty.Kind.TheVariants as fields
 use Rattle.jc_base.specs.declared.record.StaticRec.{StaticRec}
-use Rattle.jc_base.specs.Class.{ClassTable, IsClass, object, class_in_types}
+use Rattle.jc_base.specs.Class.{ClassTable, IsClass, object}
 use Rattle.jc_base.specs.Order.{Below, same, is_below, is_reference, is_above_arrays}
 use Rattle.jc_base.specs.Cell.{width}
 use Rattle.jc_base.specs.Dispatch.{cells_of}
@@ -27,7 +27,7 @@ use Rattle.jc_rules.specs.Rule.{array_wanted}
 use Rattle.vm_store.specs.declared.cell.Cell.{Cell}
 use Rattle.vm_store.specs.declared.cell.Cell.TheVariants as cells
 use Rattle.vm_store.specs.declared.kind.ObjectKind.{ObjectKind}
-use Rattle.vm_store.specs.declared.kind.ObjectKind.TheVariants.{Instance, Booleans, Bytes, Shorts, Ints, References}
+use Rattle.vm_store.specs.declared.kind.ObjectKind.TheVariants.{Instance, Ints, References}
 use Rattle.vm_store.specs.Kind.{element_width, kind_of_handle, type_of_kind}
 use Rattle.vm_store.specs.Typing.{least_type, type_seen, fresh_seen}
 use Rattle.vm_store.specs.Cells.{word_of}

@@ -3,7 +3,7 @@ use Rattle.std.proofs.Common.{◌≡◌, ℕ, ◌+◌, ◌*◌, ◌≤◌, ◌==
 use Rattle.std.specs.Prelude.{ℤ, pos, negsuc, Option, Some, None, All, IfSome, IsSome, MatchBool, if◌then◌else◌, map, unwrap_or, ⊤}
 use Rattle.std.proofs.lemmas.List.{length-map}
 use Rattle.jc_base.specs.declared.ty.Ty.{Ty}
-use Rattle.jc_base.specs.declared.ty.Ty.TheVariants.{Bottom, Short, IntHigh, IntLow, Null, Class, ArrBool, ArrByte, ArrShort, ArrInt, ArrRef, Fresh, Top}
+use Rattle.jc_base.specs.declared.ty.Ty.TheVariants.{Short, IntHigh, Null, Class, ArrRef}
 use Rattle.jc_base.specs.Class.{IsClass}
 use Rattle.jc_base.specs.Order.{Below}
 use Rattle.jc_base.specs.Cell.{width}
@@ -33,7 +33,7 @@ use Rattle.jc_ops.specs.Sound.{IsCalleeOf, IsChosen, IsReceiverOf, IsSpecialCall
 use Rattle.jc_rules.specs.Footprint.{cells_asked}
 use Rattle.jc_rules.specs.Rule.{demands}
 use Rattle.vm_store.specs.declared.kind.ObjectKind.{ObjectKind}
-use Rattle.vm_store.specs.declared.kind.ObjectKind.TheVariants.{Instance, Booleans, Bytes, Shorts, Ints, References}
+use Rattle.vm_store.specs.declared.kind.ObjectKind.TheVariants.{Instance}
 use Rattle.vm_store.specs.Kind.{kind_of_handle, cell_kind}
 use Rattle.vm_store.specs.Cells.{Cells, zero_cell}
 use Rattle.vm_store.specs.State.{State, IsRunning, top, nth, with_stack}

@@ -26,7 +26,7 @@ use Rattle.jc_rules.specs.Rule.{demands}
 use Rattle.vm_store.specs.declared.cell.Cell.{Cell}
 use Rattle.vm_store.specs.declared.cell.Cell.TheVariants as cells
 use Rattle.vm_store.specs.declared.kind.ObjectKind.{ObjectKind}
-use Rattle.vm_store.specs.declared.kind.ObjectKind.TheVariants.{Instance, Booleans, Bytes, Shorts, Ints, References}
+use Rattle.vm_store.specs.declared.kind.ObjectKind.TheVariants.{Instance, References}
 use Rattle.vm_store.specs.Kind.{type_of_kind}
 use Rattle.vm_store.specs.Typing.{least_type, type_seen, fresh_seen}
 use Rattle.vm_store.specs.Cells.{tagged}
@@ -103,7 +103,7 @@ decoded-at code place i e =
     let found = found-in place (listing code) i e in
     subst (λ n. decoded code n ≡ Ok i.insn) found.1 ((all-are-listed code).decodes i found.0)
 
-top-shaped : {A : Type 0} (w : Linked) (fs : List (Frame A)) → 0 < length fs → All (IsShapedFrame w) fs → IsShapedFrame w (first_frame fs)
+pub top-shaped : {A : Type 0} (w : Linked) (fs : List (Frame A)) → 0 < length fs → All (IsShapedFrame w) fs → IsShapedFrame w (first_frame fs)
 top-shaped w [] lt h = absurd (omega (arith, lt))
 top-shaped w (f ∷ fs) lt h = All-head (IsShapedFrame w) f fs h
 

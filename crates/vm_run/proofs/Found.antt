@@ -1,7 +1,7 @@
 -- The instruction that is found at a place of a code.
 use Rattle.std.proofs.Common.{◌≡◌, ◌<◌, ◌≤◌, ◌+◌, ℕ, zero, suc, Bool, true, false, List, [], ◌∷◌, ◌++◌, length, refl, sym, ap}
 use Rattle.std.proofs.Common.{◌∙◌, subst, arith, rules, Contains, Option, Some, None, ◌⊎◌, ⊎_elim}
-use Rattle.std.specs.Prelude.{find, All, ◌==◌, if◌then◌else◌, IsSome, IfSome, slice_get, Ok, ℤ, pos, negsuc, ◌≤ℤ◌, ◌<ℤ◌}
+use Rattle.std.specs.Prelude.{find, All, ◌==◌, IsSome, IfSome, slice_get, Ok, ℤ, pos, negsuc, ◌≤ℤ◌, ◌<ℤ◌}
 use Rattle.std.proofs.lemmas.Int.{ints}
 use Rattle.std.proofs.lemmas.Bool.{false≢true, eqb-true, eq-eqb, ne_eqb}
 use Rattle.std.proofs.lemmas.List.Elements.{All-head, All-tail, All-contains_itself, All-weaker}
@@ -13,31 +13,26 @@ use Rattle.jc_control.specs.WellFormed.{HasInstruction, IsPlace}
 use Rattle.jc_decode.specs.Laws.{AreListed}
 use Rattle.vm_step.specs.Methods.{instruction_at}
 use Rattle.vm_step.specs.Settled.{is_there, is_target_place}
+use Rattle.vm_act.proofs.Climbing.{find-yes, find-no}
 
 -- ---- the first of a list that passes a test
 
 module _ {X : Type 0} (p : X → Bool) where
-  passes-here : (y : X) (ys : List X) → p y ≡ true → find p (y ∷ ys) ≡ Some y
-  passes-here y ys h = ap (λ b. if b then Some y else find p ys) h
-
-  passes-later : (y : X) (ys : List X) → p y ≡ false → find p (y ∷ ys) ≡ find p ys
-  passes-later y ys h = ap (λ b. if b then Some y else find p ys) h
-
   one-or-later : (y x : X) (ys : List X) (b : Bool) → p y ≡ b → (p y ≡ true → y ≡ x) → find p ys ≡ Some x → find p (y ∷ ys) ≡ Some x
-  one-or-later y x ys true e one rest = passes-here y ys e ∙ ap Some (one e)
-  one-or-later y x ys false e one rest = passes-later y ys e ∙ rest
+  one-or-later y x ys true e one rest = find-yes p y ys e ∙ ap Some (one e)
+  one-or-later y x ys false e one rest = find-no p y ys e ∙ rest
 
   -- where none but one passes, it is found
   pub only-found : (xs : List X) (x : X) → All (λ y. p y ≡ true → y ≡ x) xs → Contains xs x → p x ≡ true → find p xs ≡ Some x
   only-found [] x one (k, lt, is) h = absurd (omega arith)
-  only-found (y ∷ ys) x one (zero, lt, is) h = passes-here y ys (ap p is ∙ h) ∙ ap Some is
+  only-found (y ∷ ys) x one (zero, lt, is) h = find-yes p y ys (ap p is ∙ h) ∙ ap Some is
   only-found (y ∷ ys) x one (suc k, lt, is) h =
       one-or-later y x ys (p y) refl (All-head (λ z. p z ≡ true → z ≡ x) y ys one)
       (only-found ys x (All-tail (λ z. p z ≡ true → z ≡ x) y ys one) (k, omega arith, is) h)
 
   pub none-found : (xs : List X) → All (λ y. p y ≡ false) xs → find p xs ≡ None
   none-found [] none = refl
-  none-found (y ∷ ys) none = passes-later y ys (All-head (λ z. p z ≡ false) y ys none) ∙ none-found ys (All-tail (λ z. p z ≡ false) y ys none)
+  none-found (y ∷ ys) none = find-no p y ys (All-head (λ z. p z ≡ false) y ys none) ∙ none-found ys (All-tail (λ z. p z ≡ false) y ys none)
 
   pub Passes : List X → X → Type 0
   Passes xs x = Contains xs x × (p x ≡ true)
@@ -50,8 +45,8 @@ module _ {X : Type 0} (p : X → Bool) where
       → Passes (y ∷ ys) x
   unfolding Passes
   here-or-later y x ys true h e rest =
-      let both : Some y ≡ Some x = sym (passes-here y ys h) ∙ e in let same : y ≡ x = cc in ((0, omega arith, same), ap p (sym same) ∙ h)
-  here-or-later y x ys false h e rest = later-passes y x ys (rest (sym (passes-later y ys h) ∙ e))
+      let both : Some y ≡ Some x = sym (find-yes p y ys h) ∙ e in let same : y ≡ x = cc in ((0, omega arith, same), ap p (sym same) ∙ h)
+  here-or-later y x ys false h e rest = later-passes y x ys (rest (sym (find-no p y ys h) ∙ e))
 
   -- what is found stands in the list and passes
   pub found-passes : (xs : List X) (x : X) → find p xs ≡ Some x → Passes xs x

@@ -3,7 +3,7 @@ use Rattle.std.proofs.Common.{◌≡◌, ◌<◌, ◌≤◌, ◌+◌, ℕ, Bool,
 use Rattle.std.proofs.Common.{refl, sym, ap, ◌∙◌, subst, arith, Some, None}
 use Rattle.std.specs.Prelude.{filter, if◌then◌else◌, ℤ, slice_get}
 use Rattle.std.proofs.lemmas.Bool.{false≢true}
-use Rattle.std.proofs.lemmas.List.{length-append, drop_more}
+use Rattle.std.proofs.lemmas.List.{length-append, drop_more, drop_all}
 use Rattle.jc_base.specs.declared.ty.Ty.{Ty}
 use Rattle.jc_base.specs.declared.ty.Ty.TheVariants as types
 use Rattle.jc_base.specs.Cell.{AreWhole, no_cells, whole_int, one_cell, IsNoHalf}
@@ -11,11 +11,11 @@ use Rattle.jc_ops.specs.declared.operation.Width.TheVariants as widths
 use Rattle.vm_store.specs.Cells.{Cells}
 use Rattle.vm_store.specs.State.{Frame, State, IsRunning, top, first_frame, other_frames, with_top}
 use Rattle.vm_store.specs.Layout.{overwritten}
-use Rattle.vm_run.proofs.Drops.{drop-at}
-use Rattle.vm_run.proofs.WritesInOrder.{overwritten-append, past-all}
+use Rattle.vm_run.proofs.WritesInOrder.{overwritten-append}
 use Rattle.vm_step.specs.Numbers.{number_cells}
 use Rattle.vm_step.specs.Arguments.{Argument, number, null, bytes}
 use Rattle.vm_step.specs.Start.{argument_cells, arrays_made, cells_handed, first_misfit, fits, is_parameter}
+use Rattle.jc_decode.proofs.Elements.{drop-here}
 
 -- the first argument fits where none is a misfit
 pub first-fits : (n : ℕ) (arg : Argument) (args : List Argument) (ty : Ty) (tys : List Ty) → first_misfit n (arg ∷ args) (ty ∷ tys) ≡ None
@@ -107,20 +107,20 @@ module _ {A : Type 0} (k : Cells A) (args : List Argument) (tys : List Ty) (n i 
       ≡ argument_cells k made arg (get_or tys i types.Bottom) ++ cells_handed k (made + arrays_made arg) (drop (n + 1) args)
       (filter is_parameter (drop (i + 1) tys))
   handed-next =
-      ap (λ (xs : List Argument). cells_handed k made xs (filter is_parameter (drop i tys))) (drop-at args n arg there)
+      ap (λ (xs : List Argument). cells_handed k made xs (filter is_parameter (drop i tys))) (drop-here args n arg there)
       ∙ ap (λ (ts : List Ty). cells_handed k made (arg ∷ drop (n + 1) args) ts) (next-parameter tys i inside begins)
 
   pub fits-next : first_misfit n (drop n args) (filter is_parameter (drop i tys)) ≡ None
       → (fits arg (get_or tys i types.Bottom) ≡ true) × (first_misfit (n + 1) (drop (n + 1) args) (filter is_parameter (drop (i + 1) tys)) ≡ None)
   fits-next fit =
       first-fits n arg (drop (n + 1) args) (get_or tys i types.Bottom) (filter is_parameter (drop (i + 1) tys))
-      (sym (ap (λ (xs : List Argument). first_misfit n xs (filter is_parameter (drop i tys))) (drop-at args n arg there)
+      (sym (ap (λ (xs : List Argument). first_misfit n xs (filter is_parameter (drop i tys))) (drop-here args n arg there)
       ∙ ap (λ (ts : List Ty). first_misfit n (arg ∷ drop (n + 1) args) ts) (next-parameter tys i inside begins)) ∙ fit)
 
   pub count-next : length (drop n args) ≡ length (filter is_parameter (drop i tys))
       → length (drop (n + 1) args) ≡ length (filter is_parameter (drop (i + 1) tys))
   count-next e =
-      let a = ap length (drop-at args n arg there) in let b = ap length (next-parameter tys i inside begins) in omega (arith, a, b)
+      let a = ap length (drop-here args n arg there) in let b = ap length (next-parameter tys i inside begins) in omega (arith, a, b)
 
   -- the argument's cells have room
   pub room-next : (x : ℕ) → x + length (cells_handed k made (drop n args) (filter is_parameter (drop i tys))) ≡ length tys
@@ -193,7 +193,7 @@ misfit-none n args tys e = ap (first_misfit n args) e ∙ go args where
   go (x ∷ xs) = refl
 
 pub none-left : (tys : List Ty) (i : ℕ) → length tys ≤ i → filter is_parameter (drop i tys) ≡ []
-none-left tys i le = ap (filter is_parameter) (past-all tys i le)
+none-left tys i le = ap (filter is_parameter) (drop_all i tys le)
 
 -- ---- misfits, one argument more
 
@@ -202,7 +202,7 @@ module _ (args : List Argument) (tys : List Ty) (n i : ℕ) (arg : Argument) (th
   both-next : first_misfit n (drop n args) (filter is_parameter (drop i tys)) ≡ first_misfit n (arg ∷ drop (n + 1) args)
       (get_or tys i types.Bottom ∷ filter is_parameter (drop (i + 1) tys))
   both-next =
-      ap (λ (xs : List Argument). first_misfit n xs (filter is_parameter (drop i tys))) (drop-at args n arg there)
+      ap (λ (xs : List Argument). first_misfit n xs (filter is_parameter (drop i tys))) (drop-here args n arg there)
       ∙ ap (λ (ts : List Ty). first_misfit n (arg ∷ drop (n + 1) args) ts) (next-parameter tys i inside begins)
 
   pub misfit-found : fits arg (get_or tys i types.Bottom) ≡ false → first_misfit n (drop n args) (filter is_parameter (drop i tys)) ≡ Some n

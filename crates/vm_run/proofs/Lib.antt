@@ -3,7 +3,6 @@ pub mod Frames
 pub mod Unwound
 pub mod Taken
 pub mod Performing
-pub mod Drops
 pub mod Sums
 pub mod WritesInOrder
 pub mod Elements

@@ -2,7 +2,7 @@
 use Rattle.std.proofs.Common.{◌≡◌, ◌<◌, ◌≤◌, ℕ, true, List, [], ◌∷◌, length, refl, sym, ap, ◌∙◌, subst, arith, rules, Option}
 use Rattle.std.proofs.Common.{Some, None}
 use Rattle.std.specs.Prelude.{All, IsSome, IsSomeAnd, slice_get, Ok, Err}
-use Rattle.std.proofs.lemmas.List.Elements.{All-nil, All-cons, All-head, All-tail, All-map, All-weaker}
+use Rattle.std.proofs.lemmas.List.Elements.{All-nil, All-cons, All-tail, All-map, All-weaker}
 use Rattle.jc_base.specs.declared.record.MethodRec.{MethodRec}
 use Rattle.jc_base.specs.World.{Linked}
 use Rattle.jc_decode.specs.declared.insn.Placed.{Placed}
@@ -10,7 +10,7 @@ use Rattle.jc_ops.specs.declared.fault.RuleFault.{RuleFault}
 use Rattle.jc_ops.specs.declared.operation.Operation.{Operation}
 use Rattle.jc_ops.specs.Resolve.{Resolves}
 use Rattle.vm_store.specs.declared.kind.ObjectKind.{ObjectKind}
-use Rattle.vm_store.specs.declared.kind.ObjectKind.TheVariants.{Instance, Booleans, Bytes, Shorts, Ints, References}
+use Rattle.vm_store.specs.declared.kind.ObjectKind.TheVariants.{Instance}
 use Rattle.vm_store.specs.Cells.{Cells}
 use Rattle.vm_store.specs.State.{Frame, State, Object, IsRunning, top, first_frame, other_frames, with_place, without_top, without_frames}
 use Rattle.vm_store.specs.Objects.{kinds}
@@ -37,10 +37,8 @@ use Rattle.vm_run.specs.Known.{KnowPlaces, KnowsAt, CanResume}
 use Rattle.vm_run.specs.Turn.{AreMethods, IsOfClass}
 use Rattle.vm_run.specs.Leading.{LeadsOn}
 use Rattle.vm_run.specs.Verified.{HasRoomToCatch, AreVerified}
-
-pub some-and : {X : Type 0} (o : Option X) (P : X → Type 0) → IsSomeAnd o P → (x : X) × (o ≡ Some x) × P x
-some-and None P h = absurd h
-some-and (Some x) P h = (x, refl, h)
+use Rattle.jc_base.proofs.Lists.{IsSomeAnd-some}
+use Rattle.vm_check.proofs.Sufficing.{top-shaped}
 
 of-class : (w : Linked) (kind : ObjectKind) (count : ℕ) → IsShapedFor w.classes kind count → IsOfClass w.classes kind
 of-class w (Instance c) count h = h.0
@@ -51,16 +49,12 @@ two-cells (values.Int n) = omega arith
 two-cells value = omega arith
 
 module _ {A : Type 0} (w : Linked) where
-  head-frame : (fs : List (Frame A)) → All (IsShapedFrame w) fs → 0 < length fs → IsShapedFrame w (first_frame fs)
-  head-frame [] all h = absurd (omega arith)
-  head-frame (f ∷ fs) all h = All-head (IsShapedFrame w) f fs all
-
   rest-frames : (fs : List (Frame A)) → All (IsShapedFrame w) fs → All (IsShapedFrame w) (other_frames fs)
   rest-frames [] all = all
   rest-frames (f ∷ fs) all = All-tail (IsShapedFrame w) f fs all
 
   pub top-frame : (s : State A) → IsShaped w s → IsRunning s → IsShapedFrame w (top s)
-  top-frame s shaped runs = head-frame s.frames shaped.frames runs
+  top-frame s shaped runs = top-shaped w s.frames runs shaped.frames
 
   pub can-test : (k : Cells A) (s : State A) → IsShaped w s → HasKnownTypes k w.classes s → IsRunning s → CanTest k w s
   can-test k s shaped known runs = record { running = runs; frame = top-frame s shaped runs; types = known }
@@ -96,7 +90,7 @@ module _ {A : Type 0} (w : Linked) where
       → IsSomeAnd (slice_get w.methods (top s).method) (λ m. Resolves w m i.place i.insn (Ok op)) → fault_before k w op s ≡ None
       → Reaches room k w i.insn op s
   reaches-by k room keeps law s i op kept runs there most names none =
-      let m = some-and (slice_get w.methods (top s).method) (λ m. Resolves w m i.place i.insn (Ok op)) names in
+      let m = IsSomeAnd-some (λ m. Resolves w m i.place i.insn (Ok op)) (slice_get w.methods (top s).method) names in
       law s m.0 i op kept (fetched s m.0 i runs m.1 there) most m.2 none
 
   -- ---- what the lead rests on
@@ -109,7 +103,7 @@ module _ {A : Type 0} (w : Linked) where
       → KnowsAt w known (top (without_top s)).method (top (without_top s)).place
       → IsRunning (without_top s) → CanResume room w known (value_width value) (without_top s)
   tested-resumes room s value known shaped enough call runs =
-      let f = head-frame (other_frames s.frames) (rest-frames s.frames shaped.frames) runs in
+      let f = top-shaped w (other_frames s.frames) runs (rest-frames s.frames shaped.frames) in
       let two = two-cells value in
       record { method = f.known; call = call; room_is = λ most. let deep = f.cells in omega arith }
 

@@ -16,7 +16,7 @@ use Rattle.vm_step.specs.declared.ending.Plain.TheVariants.{HeapFull}
 use Rattle.vm_step.specs.declared.ending.Ending.TheVariants.{Plain}
 use Rattle.vm_step.specs.Act.{role_of}
 use Rattle.vm_step.specs.Calls.{class_with_methods, class_of}
-use Rattle.vm_step.specs.Raising.{Outcome, ends, handler_for, caught_by, caught_or, unwound, thrown, raised}
+use Rattle.vm_step.specs.Raising.{Outcome, ends, handler_for, caught_or, unwound, thrown, raised}
 
 module _ {A : Type 0} (k : Cells A) (w : Linked) (class n : ℕ) where
   by-handler : (s : State A) (gs : List (Frame A)) (f : Frame A) (fs : List (Frame A)) (x y : Outcome A) (o : Option Handler)
@@ -28,15 +28,6 @@ module _ {A : Type 0} (k : Cells A) (w : Linked) (class n : ℕ) where
   over_same s gs [] = refl
   over_same s gs (f ∷ fs) =
       by-handler s gs f fs (unwound k w class n (record s { frames = gs }) fs) (unwound k w class n s fs) (handler_for w class f) (over_same s gs fs)
-
-  -- the frame on top has a handler, or is dropped
-  pub unwound_caught : (s : State A) (h : Handler) → IsRunning s → handler_for w class (top s) ≡ Some h
-      → unwound k w class n s s.frames ≡ caught_by k w h n s (top s) (other_frames s.frames)
-  unwound_caught s h runs e = go s.frames runs e where
-    go : (fs : List (Frame A)) → 0 < length fs → handler_for w class (first_frame fs) ≡ Some h
-        → unwound k w class n s fs ≡ caught_by k w h n s (first_frame fs) (other_frames fs)
-    go [] r e = absurd (omega arith)
-    go (f ∷ fs) r e = ap (caught_or k w n s f fs (unwound k w class n s fs)) e
 
   pub unwound_dropped : (s : State A) → IsRunning s → handler_for w class (top s) ≡ None
       → unwound k w class n (without_top s) (without_top s).frames ≡ unwound k w class n s s.frames

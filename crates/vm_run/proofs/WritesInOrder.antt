@@ -1,8 +1,8 @@
 -- Cells that are written one after another, in lists and in the object that was made last.
-use Rattle.std.proofs.Common.{◌≡◌, ◌<◌, ◌≤◌, ◌+◌, ℕ, zero, suc, List, [], ◌∷◌, ◌++◌, length, take, drop, set, refl}
+use Rattle.std.proofs.Common.{◌≡◌, ◌<◌, ◌≤◌, ◌+◌, ℕ, suc, List, [], ◌∷◌, ◌++◌, length, take, drop, set, refl}
 use Rattle.std.proofs.Common.{sym, ap, ◌∙◌, arith, add-one, length-take, length-append, Some}
 use Rattle.std.specs.Prelude.{slice_get}
-use Rattle.std.proofs.lemmas.List.{append-nil, append_assoc, take_at, drop_at, drop-drop, length-drop}
+use Rattle.std.proofs.lemmas.List.{append-nil, append_assoc, take_at, drop_at, drop-drop, length-drop, drop_all}
 use Rattle.vm_store.specs.declared.kind.ObjectKind.{ObjectKind}
 use Rattle.vm_store.specs.State.{State, Object}
 use Rattle.vm_store.specs.Objects.{object_cells, cells_in, write_object, with_object, with_object_cell}
@@ -35,16 +35,10 @@ module _ {A : Type 0} where
       ∙ (append_assoc (take at xs) ys (zs ++ drop (at + length (ys ++ zs)) xs)
       ∙ ap (λ ws. take at xs ++ ws) (sym (append_assoc ys zs (drop (at + length (ys ++ zs)) xs))))))
 
-  pub past-all : (xs : List A) (n : ℕ) → length xs ≤ n → drop n xs ≡ []
-  past-all [] zero h = refl
-  past-all [] (suc n) h = refl
-  past-all (x ∷ xs) zero h = absurd (omega arith)
-  past-all (x ∷ xs) (suc n) h = past-all xs n (omega arith)
-
   -- all cells are written
   pub overwritten-whole : (xs ys : List A) → length ys ≡ length xs → overwritten xs 0 ys ≡ ys
   overwritten-whole xs ys e =
-      let none : drop (0 + length ys) xs ≡ [] = past-all xs (0 + length ys) (omega arith) in ap (λ ws. ys ++ ws) none ∙ append-nil ys
+      let none : drop (0 + length ys) xs ≡ [] = drop_all (0 + length ys) xs (omega arith) in ap (λ ws. ys ++ ws) none ∙ append-nil ys
 
   pub length-overwritten : (xs ys : List A) (at : ℕ) → at + length ys ≤ length xs → length (overwritten xs at ys) ≡ length xs
   length-overwritten xs ys at le =

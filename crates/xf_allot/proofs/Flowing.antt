@@ -1,6 +1,6 @@
 -- What is live in the flow graph of a method is live in the method.
 use Rattle.std.proofs.Common.{◌≡◌, ℕ, zero, suc, ◌+◌, ◌<◌, ◌≤◌, ◌⊎◌, inl, inr, List, length, refl, sym, ◌∙◌, subst, arith}
-use Rattle.std.specs.Prelude.{Contains, Ok, Some, pos, slice_get, Result}
+use Rattle.std.specs.Prelude.{Contains, Ok, Some, pos, slice_get}
 use Rattle.std.proofs.lemmas.Bool.{cases_eq, cases_lt}
 use Rattle.std.proofs.lemmas.List.Elements.{All-contains}
 use Rattle.jc_base.specs.declared.record.Handler.{Handler}
@@ -13,7 +13,6 @@ use Rattle.jc_control.specs.Control.{IsSuccessor, falls_through, jumped, Covers}
 use Rattle.jc_control.specs.Method.{Method}
 use Rattle.jc_control.specs.WellFormed.{HasInstruction, IsHandlerOf, IsTargetPlace, IsWellFormed}
 use Rattle.jc_control.proofs.PlacesWithin.{place-inside, target-place}
-use Rattle.jc_ops.specs.declared.fault.RuleFault.{RuleFault}
 use Rattle.jc_ops.specs.declared.operation.Operation.{Operation}
 use Rattle.jc_ops.specs.Resolve.{Resolves}
 use Rattle.law_share.specs.Live.{Operates, Writes, MayLeadTo, leads_on, leads_off, IsLiveAt, live_read, live_on}
@@ -28,17 +27,14 @@ use Rattle.xf_allot.specs.Graph.{caught_at, IsBound, bound_first, bound_start, b
 use Rattle.xf_allot.specs.Graph.{out_jump, out_caught}
 use Rattle.xf_allot.specs.Graph.{IsCatch, catch_before, catch_entry, IsEdgeAt, edge_out, edge_catch, IsGraphOf}
 use Rattle.xf_allot.specs.Graph.{AreApart, apart_forth, apart_back, apart_first, AreFound}
-
--- an operation is that of its place
-ok-one : (a b : Operation) → ◌≡◌ {A = Result Operation RuleFault} (Ok a) (Ok b) → a ≡ b
-ok-one a b e = cc
+use Rattle.jc_rules.proofs.Decides.{ok-same}
 
 pub operation-one : (w : Linked) (m : Method) → AreListed m.code → (i j : Placed) (a b : Operation) → Operates w m i a → Operates w m j b
     → i.place ≡ j.place → a ≡ b
 operation-one w m listed i j a b x y at =
     let same : j ≡ i = listed.one j i y.stands x.stands (sym at) in
     let here : Resolves w m.rec i.place i.insn (Ok b) = subst (λ (k : Placed). Resolves w m.rec k.place k.insn (Ok b)) same y.resolves in
-    ok-one a b (x.resolves ∙ sym here)
+    ok-same (x.resolves ∙ sym here)
 
 module _ (w : Linked) (m : Method) (listed : AreListed m.code) (formed : IsWellFormed m) (uses : List Uses) (edges : List Edge)
     (graph : IsGraphOf w m uses edges) where

@@ -7,13 +7,11 @@ use Rattle.std.proofs.lemmas.List.{length-set}
 use Rattle.jc_base.specs.declared.record.MethodRec.{MethodRec}
 use Rattle.jc_base.specs.World.{Linked}
 use Rattle.jc_base.proofs.Lists.{slice_get-set_here, slice_get-set_other}
-use Rattle.jc_decode.specs.declared.insn.CodeEnd.{CodeEnd}
 use Rattle.jc_decode.specs.declared.insn.Insn.{Insn}
 use Rattle.jc_decode.specs.declared.insn.Placed.{Placed}
-use Rattle.jc_decode.specs.Decoding.{decoded}
 use Rattle.jc_decode.specs.Laws.{AreListed}
 use Rattle.jc_control.specs.Method.{Method, IsMethodOf}
-use Rattle.jc_control.specs.WellFormed.{HasInstruction, IsPlace}
+use Rattle.jc_control.specs.WellFormed.{HasInstruction}
 use Rattle.jc_ops.specs.declared.fault.RuleFault.{RuleFault}
 use Rattle.jc_ops.specs.declared.operation.Operation.{Operation}
 use Rattle.jc_ops.specs.Resolve.{Resolves, ResolvesAt}
@@ -69,21 +67,6 @@ place-one w m i op u old new listed awaited operates are uses adds = record {
     }
 
 -- ---- what stands there
-
--- the instruction that is decoded at a place of one
-pub stands-there : (m : Method) (place : ℕ) (insn : Insn) → AreListed m.code → IsPlace m.code place → decoded m.code place ≡ Ok insn
-    → HasInstruction m.code (record { place = place; insn = insn })
-stands-there m place insn listed here e =
-    let i : Placed = here.0 in
-    let is : decoded m.code place ≡ Ok i.insn = ap (decoded m.code) (sym here.2) ∙ listed.decodes i here.1 in
-    let same : i.insn ≡ insn = ok-one i.insn insn (sym is ∙ e) in
-    subst (HasInstruction m.code) (placed-is i place insn here.2 same) here.1
-  where
-    ok-one : (x y : Insn) → ◌≡◌ {A = Result Insn CodeEnd} (Ok x) (Ok y) → x ≡ y
-    ok-one x y e = cc
-
-    placed-is : (i : Placed) (place : ℕ) (insn : Insn) → i.place ≡ place → i.insn ≡ insn → i ≡ record { place = place; insn = insn }
-    placed-is i place insn p q = ap (λ n. record i { place = n }) p ∙ ap (λ (x : Insn). record { place = place; insn = x }) q
 
 its-record : (w : Linked) (m : Method) (P : MethodRec → Type 0) → IsMethodOf w m → IsSomeAnd (slice_get w.methods m.number) P → P m.rec
 its-record w m P is h = rw is.rec at h

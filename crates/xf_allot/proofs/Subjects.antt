@@ -1,6 +1,5 @@
 -- A method of a world that has a card typing is a subject.
 use Rattle.std.proofs.Common.{◌≡◌, ℕ, ◌≤◌, List, length, sym, ◌∙◌, subst, arith}
-use Rattle.std.specs.Prelude.{Result, Ok}
 use Rattle.jc_base.specs.declared.record.MethodRec.{MethodRec}
 use Rattle.jc_base.specs.declared.ty.Ty.{Ty}
 use Rattle.jc_base.specs.Linked.{IsMethod, lacks_code}
@@ -8,7 +7,6 @@ use Rattle.jc_base.specs.World.{Linked, IsWorld}
 use Rattle.jc_base.proofs.Lists.{All-slice_get}
 use Rattle.jc_base.proofs.CodeLengths.{length-short}
 use Rattle.jc_control.specs.Method.{Method, IsMethodOf}
-use Rattle.jc_ops.specs.declared.fault.RuleFault.{RuleFault}
 use Rattle.jc_ops.specs.declared.operation.Operation.{Operation}
 use Rattle.jc_rules.specs.Footprint.{registers_asked}
 use Rattle.jc_rules.specs.Rule.{demands}
@@ -18,6 +16,7 @@ use Rattle.card_typing.proofs.Own.{start-length}
 use Rattle.card_typing.specs.Typing.{CardTyping, frame_at}
 use Rattle.law_share.specs.Renamed.{register_total}
 use Rattle.xf_allot.specs.Subject.{AsksFew}
+use Rattle.jc_rules.proofs.Decides.{ok-same}
 
 -- ---- a method with a card typing
 
@@ -35,13 +34,10 @@ module _ (w : Linked) (links : IsWorld w) (m : Method) (is : IsMethodOf w m) (re
     pub its-few : length regs ≤ 255
     its-few = let count = its-count in let few = its-record.registers in omega (arith, count, few)
 
-    ok-one : (a b : Operation) → ◌≡◌ {A = Result Operation RuleFault} (Ok a) (Ok b) → a ≡ b
-    ok-one a b e = cc
-
     pub asks-few : AsksFew w m
     asks-few i op operates =
         let rule = (ty.typed i operates.stands).applies.1 in
-        let same : rule.operation ≡ op = ok-one rule.operation op (rule.resolves ∙ sym operates.resolves) in
+        let same : rule.operation ≡ op = ok-same (rule.resolves ∙ sym operates.resolves) in
         let ds = demands w rule.operation in
         let asked = (asked-is-there (length regs) (length (stacks i.place)) ds).registers (met-is-there w (frame_at regs stacks i.place) ds rule.does.asked) in
         let few = its-few in

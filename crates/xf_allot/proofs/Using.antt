@@ -1,7 +1,6 @@
 -- The registers that operations read and write lie one after the other.
-use Rattle.std.proofs.Common.{◌≡◌, ◌↔◌, ℕ, zero, suc, ◌+◌, ◌<◌, ◌≤◌, inl, inr, ⊎_elim, max, List, [], ◌∷◌, ◌++◌, length, reverse, refl, sym, ◌∙◌, subst, arith}
+use Rattle.std.proofs.Common.{◌≡◌, ◌↔◌, ℕ, zero, suc, ◌+◌, ◌<◌, ◌≤◌, inl, inr, ⊎_elim, List, [], ◌∷◌, ◌++◌, length, reverse, refl, sym, ◌∙◌, subst, arith}
 use Rattle.std.proofs.lemmas.Bool.{cases_eq}
-use Rattle.std.proofs.Math.Nat.{le-max_left}
 use Rattle.std.specs.Prelude.{Contains, Option, Some, None, slice_get}
 use Rattle.jc_base.specs.declared.ty.Ty.{Ty}
 use Rattle.jc_base.specs.declared.ty.Ty.TheVariants as types
@@ -24,7 +23,7 @@ use Rattle.jc_ops.specs.declared.operation.Operation.TheVariants as ops
 use Rattle.jc_ops.specs.declared.operation.Sort.TheVariants as sorts
 use Rattle.jc_ops.specs.declared.operation.Width.{Width}
 use Rattle.jc_ops.specs.declared.operation.Width.TheVariants as widths
-use Rattle.jc_rules.specs.Footprint.{footprint, registers_asked, registers_read}
+use Rattle.jc_rules.specs.Footprint.{footprint, registers_read}
 use Rattle.jc_rules.specs.Rule.{demands, args_at, arithmetic_demands, array_write_demands, branch_demands, cells_wanted, move_demands, number}
 use Rattle.jc_rules.specs.Rule.{receiver_wanted, two_numbers, value_size, value_wanted}
 use Rattle.jc_rules.specs.declared.demand.Demand.{Demand}
@@ -180,21 +179,6 @@ writes-in w op x = ⊎_elim quiet stores (quiet-or-stores w op)
         )
 
 -- ---- and they are asked for
-
-first-most : (a b : ℕ) → a ≤ max a b
-first-most a b = le-max_left a b
-
-pub read-asked : (w : Linked) (op : Operation) → (read_by op).first + (read_by op).count ≤ registers_asked (demands w op)
-read-asked w (ops.Load sorts.Reference x) = first-most (x + 1) _
-read-asked w (ops.Load sorts.Short x) = first-most (x + 1) _
-read-asked w (ops.Load sorts.Int x) = first-most (x + 2) _
-read-asked w (ops.Increment widths.Short x amount) = first-most (x + 1) _
-read-asked w (ops.Increment widths.Int x amount) = first-most (x + 2) _
-read-asked w (ops.FieldRead field holders.This) = first-most 1 1
-read-asked w (ops.FieldWrite field holders.This) = first-most 1 (registers_asked (value_wanted field.ty ++ Held 0 (types.Class field.class) ∷ []))
-read-asked w (ops.FieldRead field holders.Stack) = omega arith
-read-asked w (ops.FieldWrite field holders.Stack) = omega arith
-read-asked w _ = omega arith
 
 -- so what has them has what the operation uses
 pub both-uses :

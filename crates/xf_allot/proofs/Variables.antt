@@ -4,7 +4,7 @@ use Rattle.std.proofs.Common.{All, get_or, append_assoc}
 use Rattle.std.specs.Prelude.{Bool, true, false, not, MatchBool, Option, Some, slice_get}
 use Rattle.std.proofs.Math.ListN.{drop_of_length-le}
 use Rattle.std.proofs.lemmas.Option.{slice_get_within}
-use Rattle.std.proofs.Math.Nat.{max-le, le-max_right}
+use Rattle.std.proofs.Math.Nat.{le-max_right}
 use Rattle.std.proofs.Math.Seq.{drop-cons, drop-nil}
 use Rattle.std.proofs.lemmas.Bool.{cases_lt}
 use Rattle.std.proofs.lemmas.List.{append-nil, length-append, length-drop, map-append}
@@ -319,11 +319,6 @@ module _ (w : Linked) (m : Method) where
         numbered = is.numbered;
       }
 
-  -- no variable stands where the walk has come to
-  pub none-there : (types : List Ty) (s : Allotment) → IsAllottedTo w m types s → HasNone (length s.numbers.items) (drop (length s.numbers.items) types)
-      → HasNone m.rec.nargs (drop m.rec.nargs types)
-  none-there types s is none vs are = let r = is.rest vs are in none r.0 r.1
-
 -- ---- what is found of two registers
 
 module _ (w : Linked) (m : Method) (found : Interference) (are : AreFound w m found) where
@@ -382,11 +377,6 @@ unfit w m k at a after before same (fits_before le) = before le
 unfit w m k at a after before same (fits_with here width ty apart) = same here width ty apart
 
 -- ---- where they end
-
-pub end-before : (nargs x : ℕ) (given : List Allotted) → nargs ≤ x → All (LiesBefore x) given → end_of nargs (map allotted_of given) ≤ x
-end-before nargs x [] le all = le
-end-before nargs x (a ∷ given) le all =
-    max-le (All-head (LiesBefore x) a given all).given (end-before nargs x given le (All-tail (LiesBefore x) a given all))
 
 pub end-from : (nargs : ℕ) (given : List sharing.Allotted) → nargs ≤ end_of nargs given
 end-from nargs [] = omega arith

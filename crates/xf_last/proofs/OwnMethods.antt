@@ -9,14 +9,12 @@ use Rattle.std.proofs.Math.ListN.{drop_of_length-le}
 use Rattle.cap_package.specs.PackageRecord.{PackageRecord}
 use Rattle.jc_base.specs.declared.record.MethodRec.{MethodRec}
 use Rattle.jc_base.specs.World.{Linked}
-use Rattle.jc_base.proofs.Eaching.{All-from_Each}
-use Rattle.jc_base.proofs.Lists.{All-slice_get, IsSomeAnd-some, slice_get-farther, slice_get-front, slice_get-some}
+use Rattle.jc_base.proofs.Eaching.{All-from_Each, Each-map}
+use Rattle.jc_base.proofs.Lists.{All-slice_get, IsSomeAnd-some, slice_get-farther, slice_get-front, slice_get-some, slice_get-drop, slice_get-take}
 use Rattle.jc_decode.proofs.Elements.{drop-here}
 use Rattle.jc_resolve.specs.NamedMethods.{named_method}
 use Rattle.jc_resolve.specs.Numbering.{numbered_methods}
 use Rattle.jc_link.specs.World.{IsLinked}
-use Rattle.law_package.proofs.Handlers.{get_drop, get_take}
-use Rattle.law_package.proofs.Lists.{each_map}
 use Rattle.law_relink.specs.Last.{and_last}
 use Rattle.law_relink.specs.Replaced.{AreMethodsOf}
 use Rattle.law_relink.proofs.Apart.{named_split, own_methods}
@@ -38,7 +36,7 @@ module _ (ps : List PackageRecord) (p : PackageRecord) (roles : List ℕ) where
   unfolding named_method
   own-homes =
       All-from_Each (λ (r : MethodRec). r.package ≡ length ps) own_of
-      (each_map (λ (r : MethodRec). r.package ≡ length ps) (named_method (and_last ps p) roles) (own_methods ps p)
+      (Each-map (λ (r : MethodRec). r.package ≡ length ps) (named_method (and_last ps p) roles) (own_methods ps p)
       (homes_classes (length ps) p 0 p.description.items.classes))
 
   module _ (w : Linked) (linked : IsLinked (and_last ps p) roles w) where
@@ -80,9 +78,9 @@ module _ (w : Linked) (first : ℕ) (is : BeginsLast w first) where
     earlier = λ n d lt.
         let at = slice_get-get_or (take first w.methods) n d lt in
         let below = taken_below first n w.methods _ at in
-        is.before n _ (sym (get_take first n w.methods below) ∙ at) below;
+        is.before n _ (sym (slice_get-take first n w.methods below) ∙ at) below;
     last = λ n d lt.
-        is.last (first + n) _ (sym (get_drop first n w.methods) ∙ slice_get-get_or (drop first w.methods) n d lt) (omega arith);
+        is.last (first + n) _ (sym (slice_get-drop first n w.methods) ∙ slice_get-get_or (drop first w.methods) n d lt) (omega arith);
   }
 
   pub own-is : (ps : List PackageRecord) (p : PackageRecord) (roles : List ℕ) → IsLinked (and_last ps p) roles w

@@ -1,6 +1,6 @@
 -- Renumbered code is such as is laid.
 use Rattle.std.proofs.Common.{◌≡◌, ℕ, ◌+◌, ◌*◌, ◌<◌, ◌≤◌, Bool, true, false, if◌then◌else◌, inl, inr, List, [], ◌∷◌, All}
-use Rattle.std.proofs.Common.{length, map, Result, Ok, Err, refl, sym, ap, ◌∙◌, subst, arith}
+use Rattle.std.proofs.Common.{length, map, Ok, refl, sym, ap, ◌∙◌, subst, arith}
 use Rattle.std.specs.Prelude.{ℤ, pos, negsuc, ◌||◌, slice_index_or, ◌-◌, ◌/◌, ◌%◌}
 use Rattle.std.proofs.lemmas.List.{length-map}
 use Rattle.std.proofs.lemmas.List.Elements.{All-map, All-weaker, All-head}
@@ -11,18 +11,13 @@ use Rattle.jc_base.proofs.Eaching.{All-from_Each, Contains-from_IsAmong}
 use Rattle.jc_base.specs.declared.record.Handler.{Handler}
 use Rattle.jc_control.specs.WellFormed.{HasInstruction, IsHandlerOf, IsTargetPlace}
 use Rattle.jc_decode.specs.declared.insn.Case.{Case}
-use Rattle.jc_decode.specs.declared.insn.CodeEnd.{CodeEnd}
 use Rattle.jc_decode.specs.declared.insn.Insn.{Insn}
 use Rattle.jc_decode.specs.declared.insn.Placed.{Placed}
-use Rattle.jc_decode.specs.declared.layout.Layout.{Layout}
-use Rattle.jc_decode.specs.declared.layout.Operand.{Operand}
-use Rattle.jc_decode.specs.declared.layout.Operand.TheVariants.{U2, S2, S4}
 use Rattle.jc_decode.specs.declared.symbols.Item.TheVariants.{Plain, Branch, Switch, Label}
 use Rattle.jc_decode.specs.Cases.{cases, is_switch, with_default}
 use Rattle.cap_bytes.specs.Bytes.{AreBytes}
 use Rattle.jc_decode.specs.Decoding.{decoded}
-use Rattle.jc_decode.specs.Forms.{bytes_by, is_load_n, is_register_move, is_store_n, length_of, plain_length, wide, with_operand}
-use Rattle.jc_decode.specs.Layout.{layout_of, operand_width}
+use Rattle.jc_decode.specs.Forms.{is_load_n, is_store_n, plain_length, wide, with_operand}
 use Rattle.jc_decode.specs.Listing.{is_branch, jumps, listing, listing_end, Lists, target, targets}
 use Rattle.jc_decode.specs.Symbols.{IsItem, IsOnce, IsRange, plain_bytes, plain_size}
 use Rattle.jc_decode.proofs.Decoded.{IsWithin-decoded}
@@ -34,34 +29,10 @@ use Rattle.vm_step.specs.Settled.{place_number}
 use Rattle.xf_share.specs.Numbering.{IsReadable}
 use Rattle.xf_share.proofs.Labels.{IsLabelIn, boundary-label, listing-rises, once, place-label, places-rise}
 use Rattle.xf_share.proofs.Operands.{branch-wide, plain-suits}
-
-or-second : (a b : Bool) → b ≡ true → (a || b) ≡ true
-or-second true b e = refl
-or-second false b e = e
+use Rattle.jc_decode.proofs.PlainLengths.{own-length, plain-length}
+use Rattle.std.proofs.lemmas.Bool.{or_right}
 
 -- ---- sizes
-
-operand-width : (o : Operand) → operand_width o ≤ 4
-operand-width S4 = omega arith
-operand-width U2 = omega arith
-operand-width S2 = omega arith
-operand-width o = omega arith
-
-own-length : (i : Insn) → length_of i ≤ i.len + 13
-own-length i = by (is_switch i.op) (layout_of i.op)
-  where
-    by : (b : Bool) (l : Result Layout CodeEnd) → (if b then i.len else bytes_by l) ≤ i.len + 13
-    by true l = omega arith
-    by false (Ok l) = omega (arith, operand-width l.x, operand-width l.y, operand-width l.z)
-    by false (Err e) = omega arith
-
-plain-length : (i : Insn) → plain_length i ≤ i.len + 13
-plain-length i = by (is_register_move i.op) (is_branch i.op)
-  where
-    by : (a b : Bool) → (if a then 2 else if b then 3 else length_of i) ≤ i.len + 13
-    by true b = omega arith
-    by false true = omega arith
-    by false false = own-length i
 
 operand-long : (i : Insn) → (with_operand i).len ≡ i.len
 operand-long i = by (is_load_n i.op) (is_store_n i.op)
@@ -185,7 +156,7 @@ module _ (code : List ℕ) (reg : ℕ → ℕ) where
               else if b then Branch (wide i.insn.op) (slice_index_or (labels_of code i) 0 0)
               else Plain (renumbered_instruction reg i.insn))
           by true b e f =
-              let jump : jumps i.insn.op ≡ true = or-second (is_branch i.insn.op) (is_switch i.insn.op) e in
+              let jump : jumps i.insn.op ≡ true = or_right (is_branch i.insn.op) (is_switch i.insn.op) e in
               (e, ap (with_default i.insn.x) d, labels-count i jump, labels-once i stands)
           by false true e f =
               let jump : jumps i.insn.op ≡ true = ap (λ b. b || is_switch i.insn.op) f in

@@ -17,6 +17,7 @@ use Rattle.jc_decode.specs.Listing.{is_branch, listing, listing_end, end_from, L
 use Rattle.jc_decode.specs.Symbols.{IsOnce, is_label, place_of, steps_in}
 use Rattle.law_renumbered.specs.Instruction.{renumbered_instruction}
 use Rattle.law_renumbered.specs.Symbols.{item_of, items_from, labels_of}
+use Rattle.law_renumbered.proofs.Items.{one-behind}
 
 -- ---- places that rise
 
@@ -84,14 +85,6 @@ module _ (code : List ℕ) (reg : ℕ → ℕ) where
   item-no-label l i = by (is_switch i.insn.op) (is_branch i.insn.op)
     where
       by : (a b : Bool) → is_label l (chosen a b i) ≡ false
-      by true b = refl
-      by false true = refl
-      by false false = refl
-
-  item-place : (l : ℕ) (i : Placed) (rest : List Item) → place_of l (item_of code reg i ∷ rest) ≡ suc (place_of l rest)
-  item-place l i rest = by (is_switch i.insn.op) (is_branch i.insn.op)
-    where
-      by : (a b : Bool) → place_of l (chosen a b i ∷ rest) ≡ suc (place_of l rest)
       by true b = refl
       by false true = refl
       by false false = refl
@@ -170,7 +163,7 @@ module _ (code : List ℕ) (reg : ℕ → ℕ) where
       → place_of l (items_from code reg (i ∷ is)) ≡ suc (place_of l (items_from code reg is))
   place-past l i is other =
       ap (λ b. if b then 0 else place_of l (item_of code reg i ∷ items_from code reg is)) (ne_eqb i.place l other)
-      ∙ item-place l i (items_from code reg is)
+      ∙ one-behind code reg l i (items_from code reg is)
 
   abbrev first_or : Bool → ℕ → ℕ
   first_or b n = if b then 0 else n

@@ -7,45 +7,16 @@ use Rattle.jc_decode.specs.declared.insn.Insn.{Insn}
 use Rattle.jc_decode.specs.declared.insn.CodeEnd.{CodeEnd}
 use Rattle.jc_decode.specs.declared.layout.Layout.{Layout}
 use Rattle.jc_decode.specs.declared.layout.Operand.{Operand}
-use Rattle.jc_decode.specs.declared.layout.Operand.TheVariants.{Absent, U1, U2, S1, S2, S4, DupWords, SwapWords, ArrayType, TestedType}
 use Rattle.jc_decode.specs.Encoding.{Allows, AllowsBy, IsAllowed}
 use Rattle.jc_decode.specs.Forms.{is_load_n, is_store_n, is_wide_jump, wide, with_operand}
 use Rattle.jc_decode.specs.Layout.{layout_of, opcode}
 use Rattle.jc_decode.specs.Listing.{is_branch, jumps}
-use Rattle.jc_decode.proofs.Passed.{passed-at}
+use Rattle.jc_decode.proofs.Passed.{passed-at, or-rest}
 use Rattle.jc_ops.specs.Resolve.{byte_of}
 use Rattle.law_renumbered.specs.Instruction.{uses_register, renumbered_instruction}
+use Rattle.jc_decode.proofs.Formed.{is_absent, first_byte, absent-one, byte-allows, other-register}
 
 -- ---- by opcode
-
-abbrev is_u1 : Operand → Bool
-is_u1 U1 = true
-is_u1 Absent = false
-is_u1 U2 = false
-is_u1 S1 = false
-is_u1 S2 = false
-is_u1 S4 = false
-is_u1 DupWords = false
-is_u1 SwapWords = false
-is_u1 ArrayType = false
-is_u1 TestedType = false
-
-abbrev is_absent : Operand → Bool
-is_absent Absent = true
-is_absent U1 = false
-is_absent U2 = false
-is_absent S1 = false
-is_absent S2 = false
-is_absent S4 = false
-is_absent DupWords = false
-is_absent SwapWords = false
-is_absent ArrayType = false
-is_absent TestedType = false
-
--- the first operand is a byte; there is no second and no third one
-abbrev first_u1 : Result Layout CodeEnd → Bool
-first_u1 (Ok l) = is_u1 l.x
-first_u1 (Err e) = false
 
 abbrev no_rest : Result Layout CodeEnd → Bool
 no_rest (Ok l) = is_absent l.y && is_absent l.z
@@ -63,7 +34,7 @@ rest_stays op =
     else with_operand_op op == op
 
 abbrev has_operand : ℕ → Bool
-has_operand op = first_u1 (layout_of (with_operand_op op)) && (not (jumps (with_operand_op op)) && rest_stays op)
+has_operand op = first_byte (layout_of (with_operand_op op)) && (not (jumps (with_operand_op op)) && rest_stays op)
 
 abbrev suits_register : ℕ → Bool
 suits_register op = not (uses_register op) || has_operand op
@@ -78,66 +49,30 @@ registers-all = refl
 branches-all : map suits_branch (range_with_len 0 256) ≡ replicate 256 true
 branches-all = refl
 
-rest-of-or : (a b : Bool) → (not a || b) ≡ true → a ≡ true → b ≡ true
-rest-of-or true b h e = h
-rest-of-or false b h e = absurd (cc)
-
 register-suits : (op : ℕ) → op < 256 → uses_register op ≡ true → has_operand op ≡ true
-register-suits op lt e = rest-of-or (uses_register op) (has_operand op) (passed-at suits_register registers-all op lt) e
+register-suits op lt e = or-rest (uses_register op) (has_operand op) (passed-at suits_register registers-all op lt) e
 
 pub branch-wide : (op : ℕ) → op < 256 → is_branch op ≡ true → is_wide_jump (wide op) ≡ true
-branch-wide op lt e = rest-of-or (is_branch op) (is_wide_jump (wide op)) (passed-at suits_branch branches-all op lt) e
+branch-wide op lt e = or-rest (is_branch op) (is_wide_jump (wide op)) (passed-at suits_branch branches-all op lt) e
 
 -- ---- operands
 
-u1-allows : (o : Operand) (r : ℕ) → is_u1 o ≡ true → r < 256 → Allows o (pos r)
-u1-allows U1 r e lt = (lt, refl)
-u1-allows Absent r e lt = absurd (cc)
-u1-allows U2 r e lt = absurd (cc)
-u1-allows S1 r e lt = absurd (cc)
-u1-allows S2 r e lt = absurd (cc)
-u1-allows S4 r e lt = absurd (cc)
-u1-allows DupWords r e lt = absurd (cc)
-u1-allows SwapWords r e lt = absurd (cc)
-u1-allows ArrayType r e lt = absurd (cc)
-u1-allows TestedType r e lt = absurd (cc)
-
-absent-is : (o : Operand) → is_absent o ≡ true → o ≡ Absent
-absent-is Absent e = refl
-absent-is U1 e = absurd (cc)
-absent-is U2 e = absurd (cc)
-absent-is S1 e = absurd (cc)
-absent-is S2 e = absurd (cc)
-absent-is S4 e = absurd (cc)
-absent-is DupWords e = absurd (cc)
-absent-is SwapWords e = absurd (cc)
-absent-is ArrayType e = absurd (cc)
-absent-is TestedType e = absurd (cc)
-
 other-absent : (o p : Operand) (v : ℤ) → is_absent o ≡ true → is_absent p ≡ true → Allows o v → Allows p v
-other-absent o p v e f a = subst (λ q. Allows q v) (absent-is o e ∙ sym (absent-is p f)) a
+other-absent o p v e f a = subst (λ q. Allows q v) (absent-one o e ∙ sym (absent-one p f)) a
 
 -- another opcode and another first operand
-other-both : (i : Insn) (op r : ℕ) → no_rest (layout_of i.op) ≡ true → no_rest (layout_of op) ≡ true → first_u1 (layout_of op) ≡ true → r < 256
+other-both : (i : Insn) (op r : ℕ) → no_rest (layout_of i.op) ≡ true → no_rest (layout_of op) ≡ true → first_byte (layout_of op) ≡ true → r < 256
     → IsAllowed i → IsAllowed (record i { op = op; x = pos r })
 other-both i op r e f g lt a = by (layout_of i.op) (layout_of op) e f g a
   where
-    by : (l k : Result Layout CodeEnd) → no_rest l ≡ true → no_rest k ≡ true → first_u1 k ≡ true → AllowsBy i l
+    by : (l k : Result Layout CodeEnd) → no_rest l ≡ true → no_rest k ≡ true → first_byte k ≡ true → AllowsBy i l
         → AllowsBy (record i { op = op; x = pos r }) k
     by (Ok l) (Ok k) e f g a =
         let first = and_parts (is_absent l.y) (is_absent l.z) e in
         let other = and_parts (is_absent k.y) (is_absent k.z) f in
-        (u1-allows k.x r g lt, other-absent l.y k.y i.y first.0 other.0 a.1, other-absent l.z k.z i.z first.1 other.1 a.2)
+        (byte-allows k.x r g lt, other-absent l.y k.y i.y first.0 other.0 a.1, other-absent l.z k.z i.z first.1 other.1 a.2)
     by (Ok l) (Err t) e f g a = absurd (cc)
     by (Err s) k e f g a = absurd (cc)
-
--- another first operand
-other-first : (i : Insn) (r : ℕ) → first_u1 (layout_of i.op) ≡ true → r < 256 → IsAllowed i → IsAllowed (record i { x = pos r })
-other-first i r e lt a = by (layout_of i.op) e a
-  where
-    by : (l : Result Layout CodeEnd) → first_u1 l ≡ true → AllowsBy i l → AllowsBy (record i { x = pos r }) l
-    by (Ok l) e a = (u1-allows l.x r e lt, a.1, a.2)
-    by (Err s) e a = absurd (cc)
 
 -- ---- an instruction with another register
 
@@ -154,9 +89,9 @@ with-first i x = by (is_load_n i.op) (is_store_n i.op)
     by false false = refl
 
 module _ (i : Insn) (r : ℕ) (small : i.op < 256) (lt : r < 256) (named : uses_register i.op ≡ true) where
-  parts : (first_u1 (layout_of (with_operand_op i.op)) ≡ true) × ((not (jumps (with_operand_op i.op)) && rest_stays i.op) ≡ true)
+  parts : (first_byte (layout_of (with_operand_op i.op)) ≡ true) × ((not (jumps (with_operand_op i.op)) && rest_stays i.op) ≡ true)
   parts =
-      and_parts (first_u1 (layout_of (with_operand_op i.op))) (not (jumps (with_operand_op i.op)) && rest_stays i.op)
+      and_parts (first_byte (layout_of (with_operand_op i.op))) (not (jumps (with_operand_op i.op)) && rest_stays i.op)
       (register-suits i.op small named)
 
   rest : (not (jumps (with_operand_op i.op)) ≡ true) × (rest_stays i.op ≡ true)
@@ -173,7 +108,7 @@ module _ (i : Insn) (r : ℕ) (small : i.op < 256) (lt : r < 256) (named : uses_
       by false e =
           let same : with_operand_op i.op ≡ i.op = eqb-true (with_operand_op i.op) i.op e in
           subst (λ op. IsAllowed (record i { op = op; x = pos r })) (sym same)
-          (other-first i r (subst (λ op. first_u1 (layout_of op) ≡ true) same parts.0) lt a)
+          (other-register i r (subst (λ op. first_byte (layout_of op) ≡ true) same parts.0) lt a)
 
   named-plain : IsAllowed i → IsAllowed (record (with_operand i) { x = pos r }) × IsTrue (not (jumps (with_operand i).op))
   named-plain a = (

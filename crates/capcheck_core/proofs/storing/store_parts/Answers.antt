@@ -1,12 +1,12 @@
 -- one store more, or the first that fails
 use Rattle.std.proofs.Common.{◌+◌, sym, subst, ◌∙◌, ap, ◌++◌, take, drop}
 use Rattle.std.proofs.lemmas.List.{take-append-drop}
-use Rattle.cap_index.proofs.Listing.{next-take}
 use Rattle.cap_package.specs.Parts.{Lent}
 use Rattle.cap_package.proofs.Given.{drop_here}
 use Rattle.capcheck_core.specs.Stores.{AreStored}
 use Rattle.capcheck_core.proofs.Stores.{none_stored, one_stored, one_broken}
 use Rattle.capcheck_core.proofs.storing.store_parts.Goals as goal
+use Rattle.jc_decode.proofs.Elements.{next-take}
 
 pub parts-init : goal.parts-init
 parts-init g c = none_stored c.args.dir.now (g.F.Folder.folders c.args.folder.now)

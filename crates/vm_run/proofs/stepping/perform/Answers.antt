@@ -7,7 +7,8 @@ use Rattle.vm_step.specs.declared.ending.Fault.{Fault}
 use Rattle.vm_step.specs.Settled.{unless_fault, settled}
 use Rattle.vm_act.specs.Lead.{told}
 use Rattle.vm_step.specs.Performed.{act}
-use Rattle.vm_run.proofs.Performing.{some-and, top-frame, can-test, methods-after, fetched, reaches-by, leads-on, same-outcome}
+use Rattle.jc_base.proofs.Lists.{IsSomeAnd-some}
+use Rattle.vm_run.proofs.Performing.{top-frame, can-test, methods-after, fetched, reaches-by, leads-on, same-outcome}
 use Rattle.vm_run.proofs.stepping.perform.Goals as goal
 
 pub stack_limit-requires-clause-method : goal.stack_limit-requires-clause-method
@@ -45,7 +46,7 @@ settle-requires-clause-leads g c =
     let k = g.M.Cell.CellForm.cells in
     let s : State g.row.M-Cell.Denot = g.M.Store.state c.args.store.now in
     let z : State g.row.M-Cell.Denot = g.M.Store.state c.act-lead.new.store in
-    let m = some-and (slice_get w.methods (top s).method) (λ m. Resolves w m c.args.placed.place c.args.placed.insn (Ok c.args.operation))
+    let m = IsSomeAnd-some (λ m. Resolves w m c.args.placed.place c.args.placed.insn (Ok c.args.operation)) (slice_get w.methods (top s).method)
     c.requires.resolves in
     leads-on w k g.M.Store.stack_room (g.M.Machine.keeps w) s z m.0 c.args.placed c.args.operation c.requires.keeps
     (c.tests_suffice.ensures.shape s c.requires.keeps) c.requires.running

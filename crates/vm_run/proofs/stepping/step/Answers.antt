@@ -6,7 +6,8 @@ use Rattle.vm_store.specs.State.{State, top}
 use Rattle.vm_step.specs.Methods.{code_at, instruction_at}
 use Rattle.vm_step.specs.Step.{Steps, misplaced, unresolved, performs}
 use Rattle.vm_run.specs.Known.{KnowsAt}
-use Rattle.vm_run.proofs.Performing.{some-and, top-frame, fetched, knows-here, none-tests, fault-tests}
+use Rattle.jc_base.proofs.Lists.{IsSomeAnd-some}
+use Rattle.vm_run.proofs.Performing.{top-frame, fetched, knows-here, none-tests, fault-tests}
 use Rattle.vm_run.proofs.stepping.step.Goals as goal
 
 pub fetch-requires-clause-method : goal.fetch-requires-clause-method
@@ -51,7 +52,7 @@ returns-in-Err-clause-steps g c =
     ∙ ap (λ (p : ℕ). instruction_at (code_at w (top s).method) p) c.place.ensures)) in
     let names = subst (λ (n : ℕ). IsSomeAnd (slice_get w.methods n) (λ m. Resolves w m i.place i.insn (Err c.in-Err.field-0))) c.method-method.ensures
     c.in-Err.ensures.resolves in
-    let m = some-and (slice_get w.methods (top s).method) (λ m. Resolves w m i.place i.insn (Err c.in-Err.field-0)) names in
+    let m = IsSomeAnd-some (λ m. Resolves w m i.place i.insn (Err c.in-Err.field-0)) (slice_get w.methods (top s).method) names in
     let fetches = fetched w s m.0 i c.requires.running m.1 there in
     subst (Steps k w s) (sym c.finish-in-Err.ensures.outcome)
     (unresolved (fault-tests w k g.M.Store.stack_room (g.M.Machine.keeps w) s c.args.known m.0 i c.in-Err.field-0 c.requires.keeps c.requires.running
@@ -91,5 +92,5 @@ returns-in-Ok-clause-steps g c =
     ∙ ap (λ (p : ℕ). instruction_at (code_at w (top s).method) p) c.place.ensures)) in
     let names = subst (λ (n : ℕ). IsSomeAnd (slice_get w.methods n) (λ m. Resolves w m i.place i.insn (Ok c.in-Ok.operation))) c.method-method.ensures
     c.in-Ok.ensures.resolves in
-    let m = some-and (slice_get w.methods (top s).method) (λ m. Resolves w m i.place i.insn (Ok c.in-Ok.operation)) names in
+    let m = IsSomeAnd-some (λ m. Resolves w m i.place i.insn (Ok c.in-Ok.operation)) (slice_get w.methods (top s).method) names in
     performs (fetched w s m.0 i c.requires.running m.1 there) c.in-Ok.operation m.2 c.perform.ensures.outcome
