@@ -15,7 +15,7 @@ use Rattle.cap_package.specs.PackageRecord.{PackageRecord}
 use Rattle.jc_resolve.specs.declared.place.RecordPlace.{RecordPlace}
 use Rattle.jc_resolve.specs.Named.{IsAgreed}
 use Rattle.jc_resolve.specs.Numbering.{NumberedClass, numbered_class, numbered_classes_of, classes_after, place_of_class, class_places}
-use Rattle.jc_resolve.proofs.Pairwise.{each-map, Pairwise, pairwise-append, one-place}
+use Rattle.jc_resolve.proofs.Pairwise.{Pairwise, pairwise-append, one-place}
 use Rattle.jc_resolve.specs.Numbering.{numbered_classes}
 use Rattle.jc_resolve.proofs.Repeats.{goes_on}
 

@@ -27,10 +27,9 @@ use Rattle.law_homes.specs.Edges.{insns, IsBeside, AreMoved, CellsRun, StartsHol
 use Rattle.law_homes.specs.Held.{HoldsValue, slots}
 use Rattle.law_homes.specs.Moves.{letter_of, InstructionsStandFrom, IsAtStep}
 use Rattle.law_homes.proofs.Beside.{each-among, among-each, own, register-inside, register-small}
-use Rattle.law_homes.proofs.Beside.{cells-valued, held-as, get-left, placed-state}
+use Rattle.law_homes.proofs.Beside.{cells-valued, held-as, placed-state}
 use Rattle.law_homes.specs.Premises.{AreMoveLaws}
 use Rattle.law_homes.proofs.Valued.{asked_types, CellsAt}
-use Rattle.law_homes.specs.Premises.{AreLaws}
 use Rattle.law_homes.proofs.Carrying.{same-letter, same-or-reference, ArePairs, no_pairs, more_pairs, cells-run}
 use Rattle.law_homes.proofs.Edging.{home-same}
 use Rattle.jc_base.proofs.Lists.{slice_get-left}

@@ -36,8 +36,7 @@ use Rattle.law_homes.proofs.StackStores.{piled, piled-append, piled-from}
 use Rattle.law_homes.proofs.Leading.{insns-loads}
 use Rattle.law_homes.proofs.Beside.{each-among, among-each, typed, count-registers, count-stack, stack-fits, cells-valued, register-small}
 use Rattle.law_homes.specs.Premises.{AreMoveLaws}
-use Rattle.law_homes.proofs.Beside.{held-can-load, get-left}
-use Rattle.law_homes.specs.Premises.{AreLaws}
+use Rattle.law_homes.proofs.Beside.{held-can-load}
 use Rattle.jc_base.proofs.Lists.{slice_get-left}
 
 -- ---- values that are loaded

@@ -50,7 +50,7 @@ use Rattle.law_rewritten_typing.proofs.Running.{IsRecordFor, IsRun}
 use Rattle.law_rewritten_typing.proofs.Leading.{fit-at, cells-are, cells-stand, spill-at, named-at}
 use Rattle.law_rewritten_typing.proofs.Leading.{goto-flows, is-kept, below-lesser, emptied_there}
 use Rattle.law_rewritten_typing.proofs.Leading.{falls_there, FallsInto, fall-arrives}
-use Rattle.law_rewritten_typing.proofs.ForkTypings.{each-left, all-right, empty-is, named-all, fork}
+use Rattle.law_rewritten_typing.proofs.ForkTypings.{each-left, all-right, named-all, fork}
 use Rattle.law_rewritten_typing.proofs.ForkTypings.{depth-is, keeps-over, cut-at, stand-cut}
 
 module _ (new : ℕ → ℕ) (apart : (a b : ℕ) → new a ≡ new b → a ≡ b) (s : Source) (l : AreTypingLaws s.world) (ready : IsReady s) (r : MethodRec)

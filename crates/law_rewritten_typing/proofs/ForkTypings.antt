@@ -43,7 +43,6 @@ use Rattle.xf_emission.proofs.RowByRow.{resolved-elsewhere}
 use Rattle.law_rewritten_typing.specs.Typed.{registers_of}
 use Rattle.law_rewritten_typing.proofs.Walks.{holding, left, Asked, Turn, Flows, flow_step}
 use Rattle.law_rewritten_typing.proofs.Walks.{flow_end, flows-append, Goes, goes-append, count}
-use Rattle.law_rewritten_typing.proofs.Moves.{same-cells}
 use Rattle.law_rewritten_typing.proofs.Stacks.{Stands, loads-go}
 use Rattle.law_rewritten_typing.proofs.Ready.{IsReady}
 use Rattle.law_rewritten_typing.proofs.Renames.{named}

@@ -47,7 +47,7 @@ use Rattle.xf_emission.specs.Mnemonics.{pop, pop2}
 use Rattle.law_rewritten_typing.specs.Typed.{registers_of}
 use Rattle.law_rewritten_typing.proofs.Walks.{holding, Asked, Turn, Flows, flow_plain, flow_end, Goes, goes-append, goes-nowhere}
 use Rattle.law_rewritten_typing.proofs.Moves.{Holds, IsPlainValue, cells_on, applies-by, turn-by, store-turn}
-use Rattle.law_rewritten_typing.proofs.Moves.{same-cells, set-below, set-same, held, there}
+use Rattle.law_rewritten_typing.proofs.Moves.{set-below, set-same, held, there}
 use Rattle.law_rewritten_typing.proofs.Moves.{two-there}
 use Rattle.law_rewritten_typing.proofs.Stacks.{Stands}
 use Rattle.law_rewritten_typing.proofs.Ready.{IsReady, IsValueAt, value-is, local-stands, needed-are, needed-served, found}
@@ -59,7 +59,6 @@ use Rattle.law_rewritten_typing.proofs.Rows.{increased-at, pop-is, pop-two-is}
 use Rattle.law_rewritten_typing.specs.Premises.{AreTypingLaws}
 use Rattle.law_rewritten_typing.proofs.Running.{IsRecordFor, IsRun, IsPassed, has-room, is-reference}
 use Rattle.law_rewritten_typing.proofs.Running.{found-below, value-one, value-int, local-at}
-use Rattle.law_rewritten_typing.specs.Premises.{AreLaws}
 use Rattle.jc_rules.proofs.CellLists.{cells-same}
 use Rattle.law_rewritten_typing.proofs.Below.{top-only}
 
