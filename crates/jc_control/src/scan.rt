@@ -51,7 +51,6 @@ pub fn instruction_places(alloc: Global, code: View<'_>) -> Result<Flags, AllocE
 /// handler in the table's order.
 pub fn find_flaw(subject: Subject<'_>, places: Places<'_>) -> Result<(), Flaw>
     requires known { KnowPlaces subject.code.bytes.now places }
-    requires few { length subject.rec.now.handlers ≤ 255 }
     ensures formed { OnOk result (IsWellFormed (method subject.entry)) }
     ensures flawed { IfErr result (λ flaw. IsFirstFlaw (method subject.entry) flaw) }
 {

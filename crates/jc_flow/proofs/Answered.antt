@@ -1,11 +1,8 @@
 -- What is answered for a method of the world.
-use Rattle.std.proofs.Common.{◌≡◌, ℕ, ◌<◌, ◌≤◌, List, length, Option, IsSomeAnd, slice_get, sym, ◌∙◌, ap, subst}
-use Rattle.std.proofs.Common.{arith, length-take}
+use Rattle.std.proofs.Common.{◌≡◌, ℕ, ◌<◌, List, length, Option, IsSomeAnd, slice_get, sym, subst}
 use Rattle.std.proofs.lemmas.Option.{slice_get_within}
 use Rattle.jc_base.specs.declared.ty.Ty.TheVariants.{Top, Bottom}
-use Rattle.jc_base.specs.Linked.{lacks_code}
 use Rattle.jc_base.specs.World.{Linked}
-use Rattle.jc_base.proofs.CodeLengths.{length-short}
 use Rattle.jc_rules.specs.FlowLaws.{AreRules, TopIsBottom}
 use Rattle.jc_control.specs.Method.{Method, IsMethodOf}
 use Rattle.jc_rules.specs.Demand.{Frame}
@@ -17,7 +14,7 @@ use Rattle.jc_control.specs.declared.flaw.ControlEnd.TheVariants.{Flawed, Memory
 use Rattle.jc_control.specs.Flaw.{IsFirstFlaw}
 use Rattle.jc_control.specs.ControlFlow.{TellsFlaw}
 use Rattle.jc_control.specs.Laws.{FlawsDecide}
-use Rattle.jc_flow.proofs.Derived.{some_to, some_map, of_world}
+use Rattle.jc_flow.proofs.Derived.{some_to, some_map}
 use Rattle.jc_flow.specs.declared.end.FlowEnd.{FlowEnd}
 use Rattle.jc_flow.specs.declared.end.FlowEnd.TheVariants.{NoTyping, Code, BadTarget, FallsOff, BadHandler, Memory}
 use Rattle.jc_flow.specs.Fails.{IsFailure}
@@ -26,12 +23,6 @@ use Rattle.jc_flow.proofs.Never.{none-where-fails, none-where-falls}
 
 pub number-below : {X : Type 0} (P : X → Type 0) (xs : List X) (n : ℕ) → IsSomeAnd (slice_get xs n) P → n < length xs
 number-below P xs n h = some_to P (n < length xs) (slice_get xs n) (λ x e p. slice_get_within xs n x e) h
-
-pub code-short : (w : Linked) (m : Method) → AreRules w → IsMethodOf w m → length m.code ≤ 32767
-code-short w m is mo =
-    let most : m.rec.code_len ≤ 32767 = length-short (lacks_code w.classes m.rec) m.rec.code_len (of_world w is m mo).code in
-    let size : length m.code ≡ _ = ap length mo.code ∙ length-take m.rec.code_len _ in
-    omega arith
 
 flaw-none : FlawsDecide → (w : Linked) (m : Method) (f : Flaw) → IsFirstFlaw m f → ¬ (HasFlowTyping w m Top)
 flaw-none decide w m f first has = (decide m).0 has.typing.formed first.spot f first.flaw

@@ -1,5 +1,5 @@
 -- What a visit of a place brings about.
-use Rattle.std.specs.Prelude.{◌≡◌, ℕ, ◌+◌, ◌<◌, ◌≤◌, length, All, IsTrue, ℤ, pos, negsuc, Some, Ok}
+use Rattle.std.specs.Prelude.{◌≡◌, ℕ, ◌+◌, ◌<◌, length, All, IsTrue, ℤ, pos, negsuc, Some, Ok}
 use Rattle.jc_base.specs.declared.record.Handler.{Handler}
 use Rattle.jc_base.specs.World.{Linked}
 use Rattle.jc_rules.specs.FlowLaws.{AreRules}
@@ -7,7 +7,8 @@ use Rattle.jc_decode.specs.declared.insn.Insn.{Insn}
 use Rattle.jc_decode.specs.Decoding.{decoded}
 use Rattle.jc_decode.specs.Listing.{falls, jumps}
 use Rattle.jc_rules.specs.Demand.{Frame}
-use Rattle.jc_control.specs.Method.{Method, IsMethodOf}
+use Rattle.jc_control.specs.Method.{Method}
+use Rattle.jc_control.specs.Subject as subjects
 use Rattle.jc_control.specs.Control.{Covers}
 use Rattle.jc_rules.specs.Flow.{IsNotFresh, FlowSteps, At, FrameBelow, caught_frame}
 use Rattle.jc_rules.specs.Typing.{state_at}
@@ -24,17 +25,15 @@ use Rattle.jc_flow.specs.declared.end.FlowEnd.TheVariants.{NoTyping, Memory as N
 
 -- the method that is analysed
 abbrev pub analysed : Analysis → Method
-analysed s = record { number = s.number; rec = s.rec.now; code = s.code.bytes.now }
+analysed s = subjects.method s.subject
 
 abbrev pub world_of : Analysis → Linked
-world_of s = s.world.now
+world_of s = subjects.world_of s.subject
 
 -- an analysis of a well-formed method of the world, in which it is known where control goes
 pub record IsAnalysis (s : Analysis) : Type 0 where
-  pub rules : AreRules s.world.now
-  pub method : IsMethodOf s.world.now (analysed s)
+  pub rules : AreRules (world_of s)
   pub control : IsControlFlow (analysed s) s.control.now
-  pub short : length s.code.bytes.now ≤ 32767
 
 -- a table grows, and its frames may stand where they stand
 pub record Goes (w : Linked) (m : Method) (old new : Found) : Type 0 where

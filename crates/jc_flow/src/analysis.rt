@@ -11,9 +11,8 @@ ghost use Rattle.jc_flow.specs.Visit.{analysed, world_of, IsAnalysis, Raised, Ha
 use crate::end::FlowEnd;
 use crate::scratch::Scratch;
 use crate::table::{PutEnd, StateTable};
-use cap_bytes::View;
-use jc_base::{MethodRec, Ty, World};
-use jc_control::ControlFlow;
+use jc_base::Ty;
+use jc_control::{ControlFlow, Subject};
 use jc_decode::Insn;
 use jc_ops::RuleFault;
 use jc_rules::Site;
@@ -21,10 +20,7 @@ use jc_rules::Site;
 /// The dataflow analysis of a well-formed method.
 #[derive(Clone, Copy)]
 pub struct Analysis<'a> {
-    pub world: &'a World<'a>,
-    pub number: u16,
-    pub rec: &'a MethodRec,
-    pub code: View<'a>,
+    pub subject: Subject<'a>,
     pub control: &'a ControlFlow,
 }
 
@@ -45,10 +41,10 @@ impl Analysis<'_> {
             (λ _.
             Raised (world_of self.now) (analysed self.now) table.old table.new to
             (record { regs = regs.now; stack = reverse stack.now }))
-            (Prevents self.now.world.now.classes table.old to
+            (Prevents (world_of self.now).classes table.old to
             (record { regs = regs.now; stack = reverse stack.now })) }
     {
-        table.put(self.world.classes(), to, regs, stack)
+        table.put(self.subject.world.classes(), to, regs, stack)
     }
 
     /// Whether an uninitialised object on the stack would come to a leader.
@@ -65,20 +61,20 @@ impl Analysis<'_> {
     pub fn step(&self, place: u16, frame: &mut Scratch) -> Result<Insn, FlowEnd>
         requires analysis { IsAnalysis self.now }
         requires here { IsHeld (world_of self.now) (analysed self.now) place frame.old.frame }
-        requires suits { SuitsMethod frame.old self.now.rec.now }
+        requires suits { SuitsMethod frame.old (analysed self.now).rec }
         ensures stepped { IfOk result (HasStepped (world_of self.now) (analysed self.now) place frame.old.frame frame.new.frame) }
-        ensures suits { OnOk result (SuitsMethod frame.new self.now.rec.now) }
+        ensures suits { OnOk result (SuitsMethod frame.new (analysed self.now).rec) }
         ensures failed { IfErr result (IsFailure (world_of self.now) (analysed self.now)) }
     {
-        let insn = match self.control.insn(self.code, place) {
+        let insn = match self.control.insn(self.subject.code, place) {
             Ok(insn) => insn,
             Err(end) => return Err(FlowEnd::Code(place, end)),
         };
         let site = Site {
-            method: self.number,
+            method: self.subject.number,
             place,
         };
-        if let Err(fault) = frame.apply(self.world, site, insn) {
+        if let Err(fault) = frame.apply(self.subject.world, site, insn) {
             return Err(FlowEnd::NoTyping(place, fault));
         }
         if jumps_with_fresh(insn, frame.stack()) {
@@ -93,10 +89,11 @@ impl Analysis<'_> {
     /// Whether control falls past the end of the code after the instruction.
     fn falls_off(&self, place: u16, insn: Insn) -> bool
         ensures { MatchBool result
-            (IsTrue (falls insn.op) × (length self.now.code.bytes.now ≤ place + insn.len))
-            (IsTrue (falls insn.op) → place + insn.len < length self.now.code.bytes.now) }
+            (IsTrue (falls insn.op) × (length (analysed self.now).code ≤ place + insn.len))
+            (IsTrue (falls insn.op) → place + insn.len < length (analysed self.now).code) }
     {
-        insn.falls() && self.code.bytes.len() as u64 <= u64::from(place) + u64::from(insn.len)
+        insn.falls()
+            && self.subject.code.bytes.len() as u64 <= u64::from(place) + u64::from(insn.len)
     }
 }
 

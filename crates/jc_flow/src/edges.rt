@@ -46,7 +46,7 @@ impl Analysis<'_> {
         requires analysis { IsAnalysis self.now }
         requires held { AreHeld (world_of self.now) (analysed self.now) table.old }
         requires step { IsStep (world_of self.now) (analysed self.now) step }
-        requires listed { Contains self.now.rec.now.handlers handler }
+        requires listed { Contains (analysed self.now).rec.handlers handler }
         ensures goes { OnOk result (Goes (world_of self.now) (analysed self.now) table.old table.new) }
         ensures caught { OnOk result (CaughtIsBelow (world_of self.now) step.entry.place step.entry.before.now.frame table.new handler) }
         ensures failed { IfErr result (IsFailure (world_of self.now) (analysed self.now)) }
@@ -54,7 +54,7 @@ impl Analysis<'_> {
         if !covers(handler, step.place) {
             return Ok(());
         }
-        if self.rec.max_stack == 0 {
+        if self.subject.rec.max_stack == 0 {
             return Err(FlowEnd::NoTyping(step.place, RuleFault::Overflow));
         }
         let caught = [Ty::Class(handler.class)];
@@ -96,7 +96,7 @@ impl Analysis<'_> {
         requires analysis { IsAnalysis self.now }
         requires held { AreHeld (world_of self.now) (analysed self.now) table.old }
         requires step { IsStep (world_of self.now) (analysed self.now) step }
-        requires listed { Contains (targets self.now.code.bytes.now (record { place = step.place; insn = step.insn })) target }
+        requires listed { Contains (targets (analysed self.now).code (record { place = step.place; insn = step.insn })) target }
         ensures goes { OnOk result (Goes (world_of self.now) (analysed self.now) table.old table.new) }
         ensures reached { OnOk result (IsAtTarget (world_of self.now) step.entry.after.now.frame table.new target) }
         ensures failed { IfErr result (IsFailure (world_of self.now) (analysed self.now)) }
@@ -117,10 +117,10 @@ impl Analysis<'_> {
         ensures caught { OnOk result
             (All
             (CaughtIsBelow (world_of self.now) step.entry.place step.entry.before.now.frame
-            table.new) self.now.rec.now.handlers) }
+            table.new) (analysed self.now).rec.handlers) }
         ensures failed { IfErr result (IsFailure (world_of self.now) (analysed self.now)) }
     {
-        'handlers: for handler in self.rec.handlers.as_slice() {
+        'handlers: for handler in self.subject.rec.handlers.as_slice() {
             if let Err(end) = self.raise_handler(table, step, *handler) {
                 return Err(end);
             }
@@ -137,7 +137,7 @@ impl Analysis<'_> {
         ensures reached { OnOk result
             (All
             (IsAtTarget (world_of self.now) step.entry.after.now.frame table.new)
-            (targets self.now.code.bytes.now
+            (targets (analysed self.now).code
             (record { place = step.entry.place; insn = step.entry.insn }))) }
         ensures failed { IfErr result (IsFailure (world_of self.now) (analysed self.now)) }
     {
@@ -145,7 +145,7 @@ impl Analysis<'_> {
             place: step.place,
             insn: step.insn,
         };
-        'targets: for target in Targets::of(self.code, placed) {
+        'targets: for target in Targets::of(self.subject.code, placed) {
             if let Err(end) = self.raise_target(table, step, target) {
                 return Err(end);
             }

@@ -13,9 +13,8 @@ use crate::edges::broken;
 use crate::end::FlowEnd;
 use crate::scratch::Scratch;
 use crate::table::StateTable;
-use cap_bytes::View;
 use jc_base::{MethodRec, Ty, World};
-use jc_control::{ControlEnd, Flaw, control_flow, flaws_decide};
+use jc_control::{ControlEnd, Flaw, Subject, flaws_decide};
 use jc_rules::{Typing, rule_laws, typing_laws};
 use std::alloc::{AllocError, Global};
 
@@ -42,19 +41,17 @@ pub fn infer(alloc: Global, world: &World<'_>, method: u16) -> Result<Typing, Fl
     ensures none { IsSomeAnd (method_in world.now method) (λ m. IfErr result (LacksTyping world.now m)) }
     ensures end { IsSomeAnd (method_in world.now method) (λ m. IfErr result (TellsEnd world.now m)) }
 {
+    let subject = Subject::of(world, method);
     // The facts that hold of each world and of its rules, and of each method.
-    rule_laws(world);
+    rule_laws(subject.world);
     flaws_decide();
-    typing_laws(world);
-    let control = match control_flow(alloc, world, method) {
+    typing_laws(subject.world);
+    let control = match subject.control_flow(alloc) {
         Ok(control) => control,
         Err(end) => return Err(unformed(end)),
     };
     let analysis = Analysis {
-        world,
-        number: method,
-        rec: world.method(method),
-        code: View::of(world.code(method)),
+        subject,
         control: &control,
     };
     match analysis.settled(alloc) {
@@ -105,15 +102,15 @@ impl Analysis<'_> {
         requires analysis { IsAnalysis self.now }
         requires empty { table.old
             ≡ record
-            { states = replicate (length self.now.code.bytes.now) None; pending = replicate (length self.now.code.bytes.now) false } }
+            { states = replicate (length (analysed self.now).code) None; pending = replicate (length (analysed self.now).code) false } }
         ensures held { OnOk result (AreHeld (world_of self.now) (analysed self.now) table.new) }
         ensures closed { OnOk result (AreClosed (world_of self.now) (analysed self.now) table.new) }
         ensures start { OnOk result
             (At (state_at table.new.states) 0
-            (FrameBelow self.now.world.now.classes (start_frame self.now.rec.now Top))) }
+            (FrameBelow (world_of self.now).classes (start_frame (analysed self.now).rec Top))) }
         ensures failed { IfErr result (IsFailure (world_of self.now) (analysed self.now)) }
     {
-        let regs = match start_regs(alloc, self.rec) {
+        let regs = match start_regs(alloc, self.subject.rec) {
             Ok(regs) => regs,
             Err(_) => return Err(FlowEnd::Memory),
         };
@@ -133,10 +130,10 @@ impl Analysis<'_> {
         ensures known { IfOk result (λ t. HaveKnownTypes (world_of self.now) t.states) }
         ensures failed { IfErr result (IsFailure (world_of self.now) (analysed self.now)) }
     {
-        let registers = self.rec.nargs + self.rec.max_locals;
-        let mut table = StateTable::new(alloc, self.code.bytes.len())?;
-        let mut before = Scratch::new(alloc, registers, self.rec.max_stack)?;
-        let mut after = Scratch::new(alloc, registers, self.rec.max_stack)?;
+        let registers = self.subject.rec.nargs + self.subject.rec.max_locals;
+        let mut table = StateTable::new(alloc, self.subject.code.bytes.len())?;
+        let mut before = Scratch::new(alloc, registers, self.subject.rec.max_stack)?;
+        let mut after = Scratch::new(alloc, registers, self.subject.rec.max_stack)?;
         self.begin(alloc, &mut table)?;
         self.settle(&mut table, &mut before, &mut after)?;
         Ok(table)

@@ -22,11 +22,11 @@ impl Analysis<'_> {
     fn keep(&self, state: HeldFrame<'_>, before: &mut Scratch)
         requires registers { length (lent state).regs ≡ length before.old.frame.regs }
         requires room { length (lent state).stack ≤ before.old.room }
-        ensures kept { 0 < length self.now.rec.now.handlers → before.new.frame ≡ lent state.entry }
+        ensures kept { 0 < length (analysed self.now).rec.handlers → before.new.frame ≡ lent state.entry }
         ensures registers { length before.new.frame.regs ≡ length before.old.frame.regs }
         ensures room { before.new.room ≡ before.old.room }
     {
-        if self.rec.handlers.len() > 0 {
+        if self.subject.rec.handlers.len() > 0 {
             before.load(state);
         }
     }
@@ -41,11 +41,11 @@ impl Analysis<'_> {
     ) -> Result<(), FlowEnd>
         requires analysis { IsAnalysis self.now }
         requires held { AreHeld (world_of self.now) (analysed self.now) table.old }
-        requires before { SuitsMethod before.old self.now.rec.now }
-        requires after { SuitsMethod after.old self.now.rec.now }
+        requires before { SuitsMethod before.old (analysed self.now).rec }
+        requires after { SuitsMethod after.old (analysed self.now).rec }
         ensures visited { OnOk result (IsVisited (world_of self.now) (analysed self.now) place table.old table.new) }
-        ensures before { OnOk result (SuitsMethod before.new self.now.rec.now) }
-        ensures after { OnOk result (SuitsMethod after.new self.now.rec.now) }
+        ensures before { OnOk result (SuitsMethod before.new (analysed self.now).rec) }
+        ensures after { OnOk result (SuitsMethod after.new (analysed self.now).rec) }
         ensures failed { IfErr result (IsFailure (world_of self.now) (analysed self.now)) }
     {
         match table.state(place) {
@@ -78,9 +78,10 @@ impl Analysis<'_> {
         requires analysis { IsAnalysis self.now }
         requires held { AreHeld (world_of self.now) (analysed self.now) table.old }
         requires closed { AreClosed (world_of self.now) (analysed self.now) table.old }
-        requires start { At (state_at table.old.states) 0 (FrameBelow self.now.world.now.classes (start_frame self.now.rec.now Top)) }
-        requires before { SuitsMethod before.old self.now.rec.now }
-        requires after { SuitsMethod after.old self.now.rec.now }
+        requires start { At (state_at table.old.states) 0
+            (FrameBelow (world_of self.now).classes (start_frame (analysed self.now).rec Top)) }
+        requires before { SuitsMethod before.old (analysed self.now).rec }
+        requires after { SuitsMethod after.old (analysed self.now).rec }
         ensures settled { OnOk result (IsLeastTyping (world_of self.now) (analysed self.now) Top (state_at table.new.states)) }
         ensures reached { OnOk result (AreReached (analysed self.now) table.new.states) }
         ensures registers { OnOk result (HaveRegisters (analysed self.now) table.new.states) }

@@ -19,17 +19,17 @@ pub place_of-to-requires-clause-low : goal.place_of-to-requires-clause-low
 place_of-to-requires-clause-low c =
     let fits : FitsSigned w32 c.args.target = search rules in
     rw (to_z-of_z w32 c.args.target fits)
-    ((target-ranges c.args.self.now.world.now c.requires.analysis.rules (analysed c.args.self.now) c.requires.analysis.method
+    ((target-ranges c.args.self.now.subject.world.now c.requires.analysis.rules (analysed c.args.self.now) c.args.self.now.subject.there
     c.requires.analysis.control.formed c.args.step.place c.requires.step.from c.args.step.after.now.frame c.args.step.insn c.requires.step.here
-    c.requires.step.stepped c.args.target c.requires.analysis.short c.requires.listed).0)
+    c.requires.step.stepped c.args.target c.args.self.now.subject.short c.requires.listed).0)
 
 pub place_of-to-requires-clause-high : goal.place_of-to-requires-clause-high
 place_of-to-requires-clause-high c =
     let fits : FitsSigned w32 c.args.target = search rules in
     rw (to_z-of_z w32 c.args.target fits)
-    ((target-ranges c.args.self.now.world.now c.requires.analysis.rules (analysed c.args.self.now) c.requires.analysis.method
+    ((target-ranges c.args.self.now.subject.world.now c.requires.analysis.rules (analysed c.args.self.now) c.args.self.now.subject.there
     c.requires.analysis.control.formed c.args.step.place c.requires.step.from c.args.step.after.now.frame c.args.step.insn c.requires.step.here
-    c.requires.step.stepped c.args.target c.requires.analysis.short c.requires.listed).1)
+    c.requires.step.stepped c.args.target c.args.self.now.subject.short c.requires.listed).1)
 
 pub raise-requires-clause-frame : goal.raise-requires-clause-frame
 raise-requires-clause-frame c =
@@ -37,11 +37,11 @@ raise-requires-clause-frame c =
     let same : c.args.target ≡ pos c.place_of-to.result = sym (c.place_of-to.ensures ∙ to_z-of_z w32 c.args.target fits) in
     let fr : ◌≡◌ {A = Frame} (record { regs = c.regs.result.now; stack = reverse c.stack.result.now }) c.args.step.after.now.frame = frame-is
     c.regs.result.now (reverse c.stack.result.now) c.args.step.after.now.frame c.regs.ensures c.stack.ensures.is in
-    subst (λ f. IsHeld c.args.self.now.world.now (analysed c.args.self.now) c.place_of-to.result f) (sym fr)
-    (target-held c.args.self.now.world.now c.requires.analysis.rules (analysed c.args.self.now) c.requires.analysis.method
+    subst (λ f. IsHeld c.args.self.now.subject.world.now (analysed c.args.self.now) c.place_of-to.result f) (sym fr)
+    (target-held c.args.self.now.subject.world.now c.requires.analysis.rules (analysed c.args.self.now) c.args.self.now.subject.there
     c.requires.analysis.control.formed c.args.step.place c.requires.step.from c.args.step.after.now.frame c.args.step.insn c.requires.step.here
     c.requires.step.stepped c.place_of-to.result
-    (subst (Contains (targets c.args.self.now.code.bytes.now (record { place = c.args.step.place; insn = c.args.step.insn }))) same c.requires.listed))
+    (subst (Contains (targets c.args.self.now.subject.code.bytes.now (record { place = c.args.step.place; insn = c.args.step.insn }))) same c.requires.listed))
 
 pub returns-in-Ok-clause-reached : goal.returns-in-Ok-clause-reached
 returns-in-Ok-clause-reached c =
@@ -49,8 +49,8 @@ returns-in-Ok-clause-reached c =
     let same : c.args.target ≡ pos c.place_of-to.result = sym (c.place_of-to.ensures ∙ to_z-of_z w32 c.args.target fits) in
     let fr : ◌≡◌ {A = Frame} (record { regs = c.regs.result.now; stack = reverse c.stack.result.now }) c.args.step.after.now.frame = frame-is
     c.regs.result.now (reverse c.stack.result.now) c.args.step.after.now.frame c.regs.ensures c.stack.ensures.is in
-    subst (IsAtTarget c.args.self.now.world.now c.args.step.after.now.frame c.raise.new.table) (sym same)
-    (subst (λ f. At (state_at c.raise.new.table.states) c.place_of-to.result (FrameBelow c.args.self.now.world.now.classes f)) fr
+    subst (IsAtTarget c.args.self.now.subject.world.now c.args.step.after.now.frame c.raise.new.table) (sym same)
+    (subst (λ f. At (state_at c.raise.new.table.states) c.place_of-to.result (FrameBelow c.args.self.now.subject.world.now.classes f)) fr
     c.in-Ok.ensures.above)
 
 pub returns-in-Err-clause-failed : goal.returns-in-Err-clause-failed
@@ -59,10 +59,10 @@ returns-in-Err-clause-failed c =
     let same : c.args.target ≡ pos c.place_of-to.result = sym (c.place_of-to.ensures ∙ to_z-of_z w32 c.args.target fits) in
     let fr : ◌≡◌ {A = Frame} (record { regs = c.regs.result.now; stack = reverse c.stack.result.now }) c.args.step.after.now.frame = frame-is
     c.regs.result.now (reverse c.stack.result.now) c.args.step.after.now.frame c.regs.ensures c.stack.ensures.is in
-    subst (IsFailure c.args.self.now.world.now (analysed c.args.self.now)) (sym c.broken.ensures)
-    (edge-broken c.args.self.now.world.now c.requires.analysis.rules (analysed c.args.self.now) c.requires.analysis.method
+    subst (IsFailure c.args.self.now.subject.world.now (analysed c.args.self.now)) (sym c.broken.ensures)
+    (edge-broken c.args.self.now.subject.world.now c.requires.analysis.rules (analysed c.args.self.now) c.args.self.now.subject.there
     c.requires.analysis.control.formed c.args.step.place c.requires.step.from c.args.step.after.now.frame c.args.step.insn c.requires.step.here
     c.requires.step.stepped c.args.table.now c.requires.held c.place_of-to.result
-    (jumped (subst (Contains (targets c.args.self.now.code.bytes.now (record { place = c.args.step.place; insn = c.args.step.insn }))) same
+    (jumped (subst (Contains (targets c.args.self.now.subject.code.bytes.now (record { place = c.args.step.place; insn = c.args.step.insn }))) same
     c.requires.listed)) c.in-Err.end
-    (subst (λ f. Prevents c.args.self.now.world.now.classes c.args.table.now c.place_of-to.result f c.in-Err.end) fr c.in-Err.ensures))
+    (subst (λ f. Prevents c.args.self.now.subject.world.now.classes c.args.table.now c.place_of-to.result f c.in-Err.end) fr c.in-Err.ensures))

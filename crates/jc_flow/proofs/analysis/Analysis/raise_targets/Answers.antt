@@ -16,7 +16,7 @@ use Rattle.jc_flow.proofs.analysis.Analysis.raise_targets.Goals as goal
 pub targets-init : goal.targets-init
 targets-init c =
     record {
-      goes = goes-same c.args.self.now.world.now c.requires.analysis.rules.order (analysed c.args.self.now) c.args.table.now c.requires.held;
+      goes = goes-same c.args.self.now.subject.world.now c.requires.analysis.rules.order (analysed c.args.self.now) c.args.table.now c.requires.held;
       reached = λ k d lt. absurd (omega arith);
       whole = search rules;
     }
@@ -28,7 +28,7 @@ pub raise_target-requires-clause-listed : goal.raise_target-requires-clause-list
 raise_target-requires-clause-listed c =
     let t = c.in-Some.target in
     let fits : FitsSigned w32 t = search rules in
-    let all = targets c.args.self.now.code.bytes.now (record { place = c.args.step.place; insn = c.args.step.insn }) in
+    let all = targets c.args.self.now.subject.code.bytes.now (record { place = c.args.step.place; insn = c.args.step.insn }) in
     let whole : c.targets.yielded ++ t ∷ rest_of c.next.new.self ≡ all = ap (λ r. c.targets.yielded ++ r) (sym c.in-Some.ensures.steps)
     ∙ c.targets.invariant.whole in
     subst (λ (x : ℤ). Contains all x) (sym (to_z-of_z w32 t fits))
@@ -38,18 +38,18 @@ pub targets-preserved : goal.targets-preserved
 targets-preserved c =
     let t = c.in-Some.target in
     let fits : FitsSigned w32 t = search rules in
-    let all = targets c.args.self.now.code.bytes.now (record { place = c.args.step.place; insn = c.args.step.insn }) in
+    let all = targets c.args.self.now.subject.code.bytes.now (record { place = c.args.step.place; insn = c.args.step.insn }) in
     let whole : c.targets.yielded ++ t ∷ rest_of c.next.new.self ≡ all = ap (λ r. c.targets.yielded ++ r) (sym c.in-Some.ensures.steps)
     ∙ c.targets.invariant.whole in
-    let here : IsAtTarget c.args.self.now.world.now c.args.step.after.now.frame c.raise_target.new.table t = subst
-    (IsAtTarget c.args.self.now.world.now c.args.step.after.now.frame c.raise_target.new.table) (to_z-of_z w32 t fits) c.in_default.ensures.reached in
+    let here : IsAtTarget c.args.self.now.subject.world.now c.args.step.after.now.frame c.raise_target.new.table t = subst
+    (IsAtTarget c.args.self.now.subject.world.now c.args.step.after.now.frame c.raise_target.new.table) (to_z-of_z w32 t fits) c.in_default.ensures.reached in
     record {
       goes =
-          goes-on c.args.self.now.world.now c.requires.analysis.rules.order (analysed c.args.self.now) c.args.table.now c.targets.table
+          goes-on c.args.self.now.subject.world.now c.requires.analysis.rules.order (analysed c.args.self.now) c.args.table.now c.targets.table
           c.raise_target.new.table c.targets.invariant.goes c.in_default.ensures.goes;
       reached =
-          All-push (IsAtTarget c.args.self.now.world.now c.args.step.after.now.frame c.raise_target.new.table) c.targets.yielded t
-          (targets-on c.args.self.now.world.now c.requires.analysis.rules.order (analysed c.args.self.now) c.args.step.after.now.frame c.targets.table
+          All-push (IsAtTarget c.args.self.now.subject.world.now c.args.step.after.now.frame c.raise_target.new.table) c.targets.yielded t
+          (targets-on c.args.self.now.subject.world.now c.requires.analysis.rules.order (analysed c.args.self.now) c.args.step.after.now.frame c.targets.table
           c.raise_target.new.table c.in_default.ensures.goes c.targets.yielded c.targets.invariant.reached) here;
       whole = append_assoc c.targets.yielded (t ∷ []) (rest_of c.next.new.self) ∙ whole;
     }
@@ -59,7 +59,7 @@ returns-clause-goes c = c.targets.invariant.goes
 
 pub returns-clause-reached : goal.returns-clause-reached
 returns-clause-reached c =
-    let all = targets c.args.self.now.code.bytes.now (record { place = c.args.step.place; insn = c.args.step.insn }) in
+    let all = targets c.args.self.now.subject.code.bytes.now (record { place = c.args.step.place; insn = c.args.step.insn }) in
     let whole : c.targets.yielded ≡ all = sym (append-nil c.targets.yielded) ∙ ap (λ r. c.targets.yielded ++ r) (sym c.in-None.ensures.steps.0)
     ∙ c.targets.invariant.whole in
-    subst (All (IsAtTarget c.args.self.now.world.now c.args.step.after.now.frame c.targets.table)) whole c.targets.invariant.reached
+    subst (All (IsAtTarget c.args.self.now.subject.world.now c.args.step.after.now.frame c.targets.table)) whole c.targets.invariant.reached

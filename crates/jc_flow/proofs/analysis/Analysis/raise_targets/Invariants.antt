@@ -8,5 +8,5 @@ abbrev pub invariant-targets : goal.invariant-targets
 invariant-targets l = record {
   goes : Goes (world_of l.self) (analysed l.self) l.initial.table l.table;
   reached : All (IsAtTarget (world_of l.self) l.step.after.now.frame l.table) l.yielded;
-  whole : l.yielded ++ rest_of l.target-iterator ≡ targets l.self.code.bytes.now (record { place = l.step.place; insn = l.step.insn });
+  whole : l.yielded ++ rest_of l.target-iterator ≡ targets l.self.subject.code.bytes.now (record { place = l.step.place; insn = l.step.insn });
 }

@@ -10,10 +10,10 @@ abbrev pub invariant-places : goal.invariant-places
 invariant-places l = record {
   held : AreHeld (world_of l.self) (analysed l.self) l.table;
   closed : AreClosed (world_of l.self) (analysed l.self) l.table;
-  start : At (state_at l.table.states) 0 (FrameBelow l.self.world.now.classes (start_frame l.self.rec.now Top));
-  before : SuitsMethod l.before l.self.rec.now;
-  after : SuitsMethod l.after l.self.rec.now;
+  start : At (state_at l.table.states) 0 (FrameBelow l.self.subject.world.now.classes (start_frame l.self.subject.rec.now Top));
+  before : SuitsMethod l.before l.self.subject.rec.now;
+  after : SuitsMethod l.after l.self.subject.rec.now;
 }
 
 abbrev pub decreases-places : goal.decreases-places
-decreases-places l = work l.self.world.now.classes (most_rises l.self.world.now.classes (analysed l.self)) l.table
+decreases-places l = work l.self.subject.world.now.classes (most_rises l.self.subject.world.now.classes (analysed l.self)) l.table

@@ -8,31 +8,31 @@ use Rattle.jc_flow.proofs.analysis.Analysis.step.Goals as goal
 
 pub returns-in-Err-clause-failed : goal.returns-in-Err-clause-failed
 returns-in-Err-clause-failed c =
-    decodes-always c.args.self.now.code.bytes.now (c.requires.analysis.rules.listed c.args.self.now.code.bytes.now) c.args.place c.requires.here.place
+    decodes-always c.args.self.now.subject.code.bytes.now c.args.self.now.subject.listed c.args.place c.requires.here.place
     (sym c.in-Err.ensures.value)
 
 pub apply-requires-clause-regs_known : goal.apply-requires-clause-regs_known
 apply-requires-clause-regs_known c =
-    (derived-fine c.args.self.now.world.now c.requires.analysis.rules (analysed c.args.self.now) c.requires.analysis.method
+    (derived-fine c.args.self.now.subject.world.now c.requires.analysis.rules (analysed c.args.self.now) c.args.self.now.subject.there
     c.requires.here.derived).known.regs
 
 pub apply-requires-clause-stack_known : goal.apply-requires-clause-stack_known
 apply-requires-clause-stack_known c =
-    (derived-fine c.args.self.now.world.now c.requires.analysis.rules (analysed c.args.self.now) c.requires.analysis.method
+    (derived-fine c.args.self.now.subject.world.now c.requires.analysis.rules (analysed c.args.self.now) c.args.self.now.subject.there
     c.requires.here.derived).known.stack
 
 pub returns-in-Err-apply-clause-failed : goal.returns-in-Err-apply-clause-failed
 returns-in-Err-apply-clause-failed c =
-    fail-rule c.args.self.now.world.now (analysed c.args.self.now) (c.requires.analysis.rules.listed c.args.self.now.code.bytes.now) c.args.place
+    fail-rule c.args.self.now.subject.world.now (analysed c.args.self.now) c.args.self.now.subject.listed c.args.place
     c.args.frame.now.frame c.requires.here c.in-Ok.insn (sym c.in-Ok.ensures.value) c.in-Err-apply.fault
-    (refuses-of-site c.args.self.now.world.now (analysed c.args.self.now) c.requires.analysis.method c.in-Err-apply.ensures.stepped)
+    (refuses-of-site c.args.self.now.subject.world.now (analysed c.args.self.now) c.args.self.now.subject.there c.in-Err-apply.ensures.stepped)
 
 pub returns-then-jumps_with_fresh-clause-failed : goal.returns-then-jumps_with_fresh-clause-failed
 returns-then-jumps_with_fresh-clause-failed c =
-    fail-jump c.args.self.now.world.now (analysed c.args.self.now) (c.requires.analysis.rules.listed c.args.self.now.code.bytes.now) c.args.place
+    fail-jump c.args.self.now.subject.world.now (analysed c.args.self.now) c.args.self.now.subject.listed c.args.place
     c.args.frame.now.frame c.requires.here c.in-Ok.insn (sym c.in-Ok.ensures.value) c.apply.new.self.frame (
       c.in_default.ensures.stepped.0,
-      of-site c.args.self.now.world.now (analysed c.args.self.now) c.requires.analysis.method
+      of-site c.args.self.now.subject.world.now (analysed c.args.self.now) c.args.self.now.subject.there
           c.in_default.ensures.stepped.1,
     )
     c.if-jumps_with_fresh.ensures.0
@@ -40,10 +40,10 @@ returns-then-jumps_with_fresh-clause-failed c =
 
 pub returns-then-falls_off-clause-failed : goal.returns-then-falls_off-clause-failed
 returns-then-falls_off-clause-failed c =
-    fall-past c.args.self.now.world.now (analysed c.args.self.now) (c.requires.analysis.rules.listed c.args.self.now.code.bytes.now) c.args.place
+    fall-past c.args.self.now.subject.world.now (analysed c.args.self.now) c.args.self.now.subject.listed c.args.place
     c.args.frame.now.frame c.requires.here c.in-Ok.insn (sym c.in-Ok.ensures.value) c.apply.new.self.frame (
       c.in_default.ensures.stepped.0,
-      of-site c.args.self.now.world.now (analysed c.args.self.now) c.requires.analysis.method
+      of-site c.args.self.now.subject.world.now (analysed c.args.self.now) c.args.self.now.subject.there
           c.in_default.ensures.stepped.1,
     )
     (λ j. all-of_slice IsNotFresh c.stack.result.now c.apply.new.self.frame.stack c.stack.ensures.is (c.if-jumps_with_fresh.ensures j))
@@ -54,7 +54,7 @@ returns-clause-stepped c = record {
   decodes = sym c.in-Ok.ensures.value;
   steps = (
     c.in_default.ensures.stepped.0,
-    of-site c.args.self.now.world.now (analysed c.args.self.now) c.requires.analysis.method
+    of-site c.args.self.now.subject.world.now (analysed c.args.self.now) c.args.self.now.subject.there
         c.in_default.ensures.stepped.1,
   );
   ready = λ j. all-of_slice IsNotFresh c.stack.result.now c.apply.new.self.frame.stack c.stack.ensures.is (c.if-jumps_with_fresh.ensures j);
