@@ -1,19 +1,16 @@
 -- An instruction has no more cases than its code has bytes.
 use Rattle.std.proofs.Common.{◌≡◌, ◌≤◌, ◌+◌, ◌*◌, ◌-◌, ℕ, Ok, List, [], ◌++◌, length, drop, refl, sym}
 use Rattle.std.proofs.Common.{ap, ◌∙◌, arith, append_assoc}
-use Rattle.std.specs.Prelude.{unsigned_abs, slice_get, Some, None}
+use Rattle.std.specs.Prelude.{slice_get, Some, None}
 use Rattle.std.proofs.lemmas.List.{drop_all, append-nil}
 use Rattle.std.proofs.lemmas.List.FromFn.{length-map-range_with_len}
 use Rattle.jc_decode.specs.declared.layout.Operand.{Operand}
-use Rattle.jc_decode.specs.declared.layout.Operand.TheVariants.{Absent, U1, U2, S1, S2, S4, DupWords, SwapWords, ArrayType, TestedType}
 use Rattle.jc_decode.specs.declared.layout.Cases.{Cases}
-use Rattle.jc_decode.specs.declared.layout.Cases.TheVariants.{Range, Pairs}
-use Rattle.jc_decode.specs.declared.layout.Cases.TheVariants.{Absent as NoCases}
 use Rattle.jc_decode.specs.declared.insn.Insn.{Insn}
 use Rattle.jc_decode.specs.declared.insn.Case.{Case}
 use Rattle.jc_decode.specs.Layout.{total_width}
-use Rattle.jc_decode.specs.Decoding.{decoded, range_count, pair_width}
-use Rattle.jc_decode.specs.Cases.{cases, cases_in, range_case, pair_case}
+use Rattle.jc_decode.specs.Decoding.{decoded, pair_width}
+use Rattle.jc_decode.specs.Cases.{cases, cases_in}
 use Rattle.jc_decode.proofs.Decoded.{Begins-decoded, table_end-ok}
 use Rattle.jc_decode.proofs.Elements.{drop-here, drop-past}
 use Rattle.jc_decode.proofs.ReadBack.{FitsTable, fits-table}
@@ -22,22 +19,10 @@ use Rattle.cap_listing.specs.Numbers.{shown, shown_case, shown_cases}
 use Rattle.cap_listing.proofs.Appending.{shown-append}
 
 pairs-wide : (key : Operand) (n m : ℕ) → m ≡ pair_width key * n → n ≤ m
-pairs-wide Absent n m e = omega (arith, e)
-pairs-wide U1 n m e = omega (arith, e)
-pairs-wide U2 n m e = omega (arith, e)
-pairs-wide S1 n m e = omega (arith, e)
-pairs-wide S2 n m e = omega (arith, e)
-pairs-wide S4 n m e = omega (arith, e)
-pairs-wide DupWords n m e = omega (arith, e)
-pairs-wide SwapWords n m e = omega (arith, e)
-pairs-wide ArrayType n m e = omega (arith, e)
-pairs-wide TestedType n m e = omega (arith, e)
+pairs-wide x n m e = grind (arith)
 
 cases-length : (k : Cases) (xs : List ℕ) (t : ℕ) (i : Insn) (m : ℕ) → FitsTable k i.y i.z m → length (cases_in k xs t i) ≤ m
-cases-length NoCases xs t i m size = omega arith
-cases-length Range xs t i m size = omega (arith, size, length-map-range_with_len (range_case xs t i.y) 0 (range_count i.y i.z))
-cases-length (Pairs key) xs t i m size =
-    omega (arith, pairs-wide key (unsigned_abs i.y) m size, length-map-range_with_len (pair_case xs t key) 0 (unsigned_abs i.y))
+cases-length x xs t i m size = grind (arith, length-map-range_with_len, pairs-wide)
 
 pub cases-few : (code : List ℕ) (at : ℕ) (i : Insn) → decoded code at ≡ Ok i → length (cases code at i) ≤ length code
 cases-few code at i h =
@@ -55,10 +40,7 @@ cases-few code at i h =
 -- a case is shown, and then those after it
 pub case-shown : (k : Cases) (place : ℕ) (cs : List Case) (n : ℕ) (c : Case) (out : List ℕ) → slice_get cs n ≡ Some c
     → (out ++ shown (shown_case k place c)) ++ shown (shown_cases k place (drop (n + 1) cs)) ≡ out ++ shown (shown_cases k place (drop n cs))
-case-shown k place cs n c out there =
-    append_assoc out (shown (shown_case k place c)) (shown (shown_cases k place (drop (n + 1) cs)))
-    ∙ ap (λ (s : List ℕ). out ++ s) (sym (shown-append (shown_case k place c) (shown_cases k place (drop (n + 1) cs))))
-    ∙ ap (λ (ds : List Case). out ++ shown (shown_cases k place ds)) (sym (drop-here cs n c there))
+case-shown k place cs n c out there = grind (arith, append_assoc, shown-append, drop-here)
 
 pub none-shown-after : (k : Cases) (place : ℕ) (cs : List Case) (n : ℕ) (out : List ℕ) → slice_get cs n ≡ None
     → out ≡ out ++ shown (shown_cases k place (drop n cs))

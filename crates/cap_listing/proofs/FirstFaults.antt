@@ -1,6 +1,6 @@
 -- The first fault is found in one pass over the methods.
 use Rattle.std.proofs.Common.{◌≡◌, ◌≢◌, ◌<◌, ◌≤◌, ◌+◌, ℕ, Bool, true, false, cond, min, List, [], ◌∷◌, ◌++◌, length, drop, get_or}
-use Rattle.std.proofs.Common.{Result, Ok, Err, refl, sym, ap, subst, ◌∙◌, arith}
+use Rattle.std.proofs.Common.{Result, Ok, Err, refl, ap, ◌∙◌, arith}
 use Rattle.std.proofs.lemmas.List.{drop_more, drop_all, length-drop}
 use Rattle.jc_decode.specs.declared.symbols.LaidHandler.{LaidHandler}
 use Rattle.cap_listing.specs.declared.method.ListedMethod.{ListedMethod}
@@ -15,12 +15,10 @@ refused-not : (r : Result (Unit {0}) AsmFault) (f : AsmFault) → r ≡ Err f �
 refused-not r f e g = absurd (cc)
 
 pub refused-after : (xs ys : List AsmFault) → first_refused xs ≡ Ok (tt {0}) → first_refused (xs ++ ys) ≡ first_refused ys
-refused-after [] ys e = refl
-refused-after (x ∷ xs) ys e = absurd (refused-not (first_refused (x ∷ xs)) x refl e)
+refused-after x ys e = grind (arith, refused-not)
 
 pub refused-before : (xs ys : List AsmFault) (f : AsmFault) → first_refused xs ≡ Err f → first_refused (xs ++ ys) ≡ Err f
-refused-before [] ys f e = absurd (refused-not (first_refused []) f e refl)
-refused-before (x ∷ xs) ys f e = e
+refused-before x ys f e = grind (arith, refused-not)
 
 -- ---- methods that are not the package's own
 
@@ -30,9 +28,7 @@ module _ (n : ℕ) (ms owns : List ListedMethod) (m own : ListedMethod) (h : n <
   later = other_faults (n + 1) (drop (n + 1) ms) (drop (n + 1) owns)
 
   here : other_faults n (drop n ms) (drop n owns) ≡ cond (is_same m own) later (OtherMethod n ∷ later)
-  here =
-      ap (λ (xs : List ListedMethod). other_faults n xs (drop n owns)) (drop_more ms n m h ∙ ap (λ (x : ListedMethod). x ∷ drop (n + 1) ms) (sym is))
-      ∙ ap (other_faults n (m ∷ drop (n + 1) ms)) (drop_more owns n own k ∙ ap (λ (x : ListedMethod). x ∷ drop (n + 1) owns) (sym it))
+  here = grind (arith, drop_more)
 
   pub same-passed : is_same m own ≡ true → first_refused (other_faults n (drop n ms) (drop n owns)) ≡ first_refused later
   same-passed e = ap first_refused (here ∙ ap (λ (b : Bool). cond b later (OtherMethod n ∷ later)) e)
@@ -49,10 +45,7 @@ one-missing n (x ∷ xs) (y ∷ ys) apart h = absurd (omega (arith, h))
 
 pub missing-refused : (n j : ℕ) (ms owns : List ListedMethod) → n ≡ min (length ms) (length owns) → j ≡ n → length ms ≢ length owns
     → first_refused (other_faults n (drop n ms) (drop n owns)) ≡ Err (OtherMethod j)
-missing-refused n j ms owns h same apart =
-    subst (λ (k : ℕ). first_refused (other_faults n (drop n ms) (drop n owns)) ≡ Err (OtherMethod k)) (sym same)
-    (one-missing n (drop n ms) (drop n owns) (λ e. apart (omega (arith, e, h, length-drop n ms, length-drop n owns)))
-    (omega (arith, h, length-drop n ms, length-drop n owns)))
+missing-refused n j ms owns h same apart = grind (arith, one-missing, length-drop)
 
 -- ---- handlers
 
@@ -61,8 +54,7 @@ module _ (n size k : ℕ) (hs : List LaidHandler) (h : LaidHandler) (lt : k < le
   rest = range_faults n size (k + 1) (drop (k + 1) hs)
 
   handler-here : range_faults n size k (drop k hs) ≡ cond (lies_in h size) rest (HandlerRange n k ∷ rest)
-  handler-here =
-      ap (range_faults n size k) (drop_more hs k h lt ∙ ap (λ (x : LaidHandler). x ∷ drop (k + 1) hs) (sym is))
+  handler-here = grind (arith, drop_more)
 
   pub handler-passed : lies_in h size ≡ true → first_refused (range_faults n size k (drop k hs)) ≡ first_refused rest
   handler-passed e = ap first_refused (handler-here ∙ ap (λ (b : Bool). cond b rest (HandlerRange n k ∷ rest)) e)
@@ -74,8 +66,7 @@ module _ (n size k : ℕ) (hs : List LaidHandler) (h : LaidHandler) (lt : k < le
 
 module _ (c : Condition) (n : ℕ) (ms : List ListedMethod) (m : ListedMethod) (lt : n < length ms) (is : m ≡ get_or ms n m) where
   method-here : faults_from c n (drop n ms) ≡ own_faults c n m ++ faults_from c (n + 1) (drop (n + 1) ms)
-  method-here =
-      ap (faults_from c n) (drop_more ms n m lt ∙ ap (λ (x : ListedMethod). x ∷ drop (n + 1) ms) (sym is))
+  method-here = grind (arith, drop_more)
 
   pub method-passed : first_refused (own_faults c n m) ≡ Ok (tt {0})
       → first_refused (faults_from c n (drop n ms)) ≡ first_refused (faults_from c (n + 1) (drop (n + 1) ms))
