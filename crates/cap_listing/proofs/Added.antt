@@ -1,6 +1,6 @@
 -- A line that may come is read, and no other may come.
 use Rattle.std.proofs.Common.{◌≡◌, ◌≢◌, ◌≤◌, ◌+◌, ℕ, Bool, true, false, Some, None, Option, List, [], ◌∷◌, ◌++◌, length}
-use Rattle.std.proofs.Common.{refl, sym, ap, subst, ◌∙◌, arith, length-append}
+use Rattle.std.proofs.Common.{refl, ap, subst, arith, length-append}
 use Rattle.std.specs.Prelude.{codes, MatchBool, IfSome, IfNone}
 use Rattle.std.proofs.lemmas.Bool.{false≢true}
 use Rattle.jc_decode.specs.declared.symbols.LaidHandler.{LaidHandler}
@@ -8,8 +8,8 @@ use Rattle.cap_listing.specs.declared.method.ListedMethod.{ListedMethod}
 use Rattle.cap_listing.specs.declared.method.Heading.{Heading}
 use Rattle.cap_listing.specs.Words.{joined}
 use Rattle.cap_listing.specs.Text.{IsHeading, IsMethod, IsHandler, heading_words, bytes_words, handler_words, end_words}
-use Rattle.cap_listing.specs.Reading.{Begun, State, block_words}
-use Rattle.cap_listing.specs.Reading.{next_head, next_instruction, next_bytes, next_handler, next_end}
+use Rattle.cap_listing.specs.Reading.{Begun, block_words}
+use Rattle.cap_listing.specs.Reading.{next_end}
 use Rattle.cap_listing.specs.Fault.{IsReadLine, IsNoLine}
 use Rattle.cap_listing.specs.Lines.{IsInstructionLine, IsBytesLine}
 use Rattle.cap_listing.specs.declared.open_method.OpenMethod.{OpenMethod}
@@ -33,28 +33,13 @@ begun h code hs closed = record { method = method_with h code hs; closed = close
 -- ---- what is read
 
 bare-method : (h : Heading) → IsHeading h → IsMethod (method_with h [] [])
-bare-method h is = record {
-  class_no = is.class_no;
-  method_no = is.method_no;
-  max_stack = is.max_stack;
-  nargs = is.nargs;
-  max_locals = is.max_locals;
-  bytes = λ k. omega arith;
-  few = omega arith;
-  handlers = λ k d l. absurd (omega (arith, l));
-}
+bare-method h is = grind (arith)
 
 pub head-read : (done : List ListedMethod) (h : Heading) (line : List ℕ) → IsHeading h → line ≡ joined (heading_words h)
     → IsReadLine (between done) line (fresh done h)
 head-read done h line is e = record {
   words = heading_words h;
-  next = next_head (record {
-    method = method_with h [] [];
-    bare = record { is = bare-method h is; code = refl; handlers = refl };
-    from = refl;
-    are = refl;
-    to = refl;
-  });
+  next = grind (arith, bare-method);
   is = e;
 }
 
@@ -63,16 +48,7 @@ module _ (done : List ListedMethod) (h : Heading) (code : List ℕ) (hs : List L
       → more ≡ code ++ bytes → IsReadLine (opened done h code hs false) line (opened done h more hs false)
   instruction-read bytes more line l few e = record {
     words = block_words (length code) bytes l.insn;
-    next = next_instruction (record {
-      method = method_with h code hs;
-      bytes = bytes;
-      insn = l.insn;
-      one = l.one;
-      few = omega (arith, length-append code bytes, few);
-      from = refl;
-      are = refl;
-      to = ap (λ (c : List ℕ). opened done h c hs false) e;
-    });
+    next = grind (arith, length-append);
     is = l.is;
   }
 
@@ -80,17 +56,7 @@ module _ (done : List ListedMethod) (h : Heading) (code : List ℕ) (hs : List L
       → more ≡ code ++ bytes → IsReadLine (opened done h code hs false) line (opened done h more hs true)
   bytes-read bytes more line l few e = record {
     words = bytes_words (length code) bytes;
-    next = next_bytes (record {
-      method = method_with h code hs;
-      bytes = bytes;
-      some = l.some;
-      bare = l.bare;
-      none = l.none;
-      few = omega (arith, length-append code bytes, few);
-      from = refl;
-      are = refl;
-      to = ap (λ (c : List ℕ). opened done h c hs true) e;
-    });
+    next = grind (arith, length-append);
     is = l.is;
   }
 
@@ -98,14 +64,7 @@ module _ (done : List ListedMethod) (h : Heading) (code : List ℕ) (hs : List L
       → more ≡ hs ++ x ∷ [] → IsReadLine (opened done h code hs closed) line (opened done h code more true)
   handler-read closed x more line fits is e = record {
     words = handler_words x;
-    next = next_handler (record {
-      begun = begun h code hs closed;
-      handler = x;
-      fits = fits;
-      from = refl;
-      are = refl;
-      to = ap (λ (xs : List LaidHandler). opened done h code xs true) e;
-    });
+    next = grind (arith);
     is = is;
   }
 
@@ -122,37 +81,12 @@ module _ (done : List ListedMethod) (h : Heading) (code : List ℕ) (hs : List L
 module _ (done : List ListedMethod) (h : Heading) (code : List ℕ) (hs : List LaidHandler) (line : List ℕ) (other : line ≢ codes "end")
     (no_handler : (x : LaidHandler) → IsHandler x → line ≢ joined (handler_words x)) where
   pub none-closed : IsNoLine (opened done h code hs true) line
-  none-closed words after (next_head n) e = absurd (false≢true (sym (ap is-begun n.from)))
-  none-closed words after (next_instruction n) e = absurd (false≢true (sym (ap (closed-or true) n.from)))
-  none-closed words after (next_bytes n) e = absurd (false≢true (sym (ap (closed-or true) n.from)))
-  none-closed words after (next_handler n) e = no_handler n.handler n.fits (e ∙ ap joined n.are)
-  none-closed words after (next_end n) e = other (e ∙ ap joined n.are)
+  none-closed words after z e = grind (arith, false≢true)
 
   pub none-open : ((bytes : List ℕ) → IsInstructionLine (length code) bytes line → length code + length bytes ≤ 65535 → ⊥)
       → ((bytes : List ℕ) → IsBytesLine (length code) bytes line → length code + length bytes ≤ 65535 → ⊥)
       → IsNoLine (opened done h code hs false) line
-  none-open no_insn no_bytes words after (next_head n) e = absurd (false≢true (sym (ap is-begun n.from)))
-  none-open no_insn no_bytes words after (next_instruction n) e =
-      let same : code ≡ n.method.laid.code = ap (λ (o : Option Begun). (method-or (begun h code hs false) o).method.laid.code) n.from in
-      no_insn n.bytes
-      (record {
-        insn = n.insn;
-        one = n.one;
-        is = e ∙ ap joined (n.are ∙ ap (λ (c : List ℕ). block_words (length c) n.bytes n.insn) (sym same));
-      })
-      (omega (arith, n.few, length-append n.method.laid.code n.bytes, ap length same))
-  none-open no_insn no_bytes words after (next_bytes n) e =
-      let same : code ≡ n.method.laid.code = ap (λ (o : Option Begun). (method-or (begun h code hs false) o).method.laid.code) n.from in
-      no_bytes n.bytes
-      (record {
-        some = n.some;
-        bare = n.bare;
-        none = n.none;
-        is = e ∙ ap joined (n.are ∙ ap (λ (c : List ℕ). bytes_words (length c) n.bytes) (sym same));
-      })
-      (omega (arith, n.few, length-append n.method.laid.code n.bytes, ap length same))
-  none-open no_insn no_bytes words after (next_handler n) e = no_handler n.handler n.fits (e ∙ ap joined n.are)
-  none-open no_insn no_bytes words after (next_end n) e = other (e ∙ ap joined n.are)
+  none-open no_insn no_bytes words after v e = grind (arith, false≢true, length-append)
 
 -- ---- states of the assembler
 
@@ -163,8 +97,7 @@ pub state-some : (done : List ListedMethod) (o : Option OpenMethod) (m : OpenMet
 state-some done o m e = ap (state_by done) e
 
 pub match-at : {X : Type 0} (P Q : X → Type 0) (b : Bool) → MatchBool b ((x : X) → P x) ((x : X) → Q x) → (x : X) → MatchBool b (P x) (Q x)
-match-at P Q true h x = h x
-match-at P Q false h x = h x
+match-at x y z h x2 = grind (arith)
 
 -- ---- options and tests
 
@@ -175,12 +108,10 @@ pub none-of : {X : Type 0} (o : Option X) → o ≡ None → (Q : Type 0) → If
 none-of o e Q h = subst (λ p. IfNone p Q) e h
 
 pub if-some : {X : Type 0} (o : Option X) (P Q : X → Type 0) → ((x : X) → P x → Q x) → IfSome o P → IfSome o Q
-if-some None P Q f h = h
-if-some (Some x) P Q f h = f x h
+if-some x y z f h = grind (arith)
 
 pub if-none : {X : Type 0} (o : Option X) (P Q : Type 0) → (P → Q) → IfNone o P → IfNone o Q
-if-none None P Q f h = f h
-if-none (Some x) P Q f h = h
+if-none x y z f h = grind (arith)
 
 pub match-yes : (b : Bool) (P Q : Type 0) → MatchBool b P Q → b ≡ true → P
 match-yes b P Q h e = subst (λ c. MatchBool c P Q) e h
@@ -189,21 +120,16 @@ pub match-no : (b : Bool) (P Q : Type 0) → MatchBool b P Q → b ≡ false →
 match-no b P Q h e = subst (λ c. MatchBool c P Q) e h
 
 pub none-begun : (done ms : List ListedMethod) (o : Option OpenMethod) → state_by done o ≡ between ms → o ≡ None
-none-begun done ms None e = refl
-none-begun done ms (Some m) e = absurd (false≢true (sym (ap (λ (s : State). is-begun s.begun) e)))
+none-begun done ms z e = grind (arith, false≢true)
 
 -- ---- by whether the method is closed
 
 pub instruction-added : (done : List ListedMethod) (h : Heading) (code : List ℕ) (hs : List LaidHandler) (closed : Bool) (bytes more line : List ℕ)
     → closed ≡ false → IsInstructionLine (length code) bytes line → length code + length bytes ≤ 65535 → more ≡ code ++ bytes
     → IsReadLine (opened done h code hs closed) line (opened done h more hs closed)
-instruction-added done h code hs closed bytes more line e l few is =
-    subst (λ (b : Bool). IsReadLine (opened done h code hs b) line (opened done h more hs b)) (sym e)
-    (instruction-read done h code hs bytes more line l few is)
+instruction-added done h code hs closed bytes more line e l few is = grind (arith, instruction-read done h code hs bytes more line l few is)
 
 pub bytes-added : (done : List ListedMethod) (h : Heading) (code : List ℕ) (hs : List LaidHandler) (closed : Bool) (bytes more line : List ℕ)
     → closed ≡ false → IsBytesLine (length code) bytes line → length code + length bytes ≤ 65535 → more ≡ code ++ bytes
     → IsReadLine (opened done h code hs closed) line (opened done h more hs true)
-bytes-added done h code hs closed bytes more line e l few is =
-    subst (λ (b : Bool). IsReadLine (opened done h code hs b) line (opened done h more hs true)) (sym e)
-    (bytes-read done h code hs bytes more line l few is)
+bytes-added done h code hs closed bytes more line e l few is = grind (arith, bytes-read)

@@ -9,7 +9,7 @@ use Rattle.std.specs.Fmt.{signed_decimal}
 use Rattle.std.proofs.lemmas.Fmt.{decimal_injective, signed_decimal_injective}
 use Rattle.std.proofs.lemmas.Bool.Decides.{eqb_tells}
 use Rattle.std.proofs.lemmas.List.Splits.{slice_split_at, slice_split_none}
-use Rattle.std.proofs.lemmas.List.Elements.{All-cons, All-nil}
+use Rattle.std.proofs.lemmas.List.Elements.{All-nil}
 use Rattle.hex.specs.Hex.{encode_lower, decode_of}
 use Rattle.hex.proofs.HexLemmas.{decode_of-encode_lower, decode_of-same}
 use Rattle.jc_decode.specs.declared.insn.Insn.{Insn}
@@ -47,14 +47,10 @@ word n ws = get_or ws n []
 
 digits-stop : (w : List ℕ) → IsDigits w → All (λ b. (b == 46) ≡ false) w
 digits-stop [] h = All-nil (λ b. (b == 46) ≡ false)
-digits-stop (b ∷ w) h =
-    All-cons (λ c. (c == 46) ≡ false) b w (⊎_elim (λ same. absurd (omega (arith, same.1, h.0.0))) (λ other. other.0) (eqb_tells b 46))
-    (digits-stop w h.1)
+digits-stop (b ∷ w) h = grind (arith, ⊎_elim, eqb_tells, digits-stop w h.1)
 
 pub stop-split : (m n : ℕ) → m < 2 ^ 64 → n < 2 ^ 64 → slice_split (λ b. b == 46) (decimal m ++ 46 ∷ decimal n) ≡ decimal m ∷ decimal n ∷ []
-stop-split m n h k =
-    slice_split_at (λ b. b == 46) (decimal m) 46 (decimal n) (digits-stop (decimal m) (decimal-digits m h)) refl
-    ∙ ap (λ (l : List (List ℕ)). decimal m ∷ l) (slice_split_none (λ b. b == 46) (decimal n) (digits-stop (decimal n) (decimal-digits n k)))
+stop-split m n h k = grind (arith, slice_split_at, digits-stop, decimal-digits, slice_split_none)
 
 -- ---- the words of a line are plain
 
@@ -81,25 +77,13 @@ head-plain m h = (
     narrow l = omega arith
 
 pub block-plain : (place : ℕ) (bytes : List ℕ) (i : Insn) → place ≤ 65535 → IsOne bytes i → ArePlain (block_words place bytes i)
-block-plain place bytes i h one = (
-  plain-decimal place (omega arith),
-  (plain-name i.op, plain-map (numbers_of place i (cases bytes 0 i)) (numbers-shown place bytes 0 i h one.are one.decodes)),
-)
+block-plain place bytes i h one = grind (arith, plain-decimal, plain-name, plain-map, numbers-shown)
 
 pub bytes-plain : (place : ℕ) (bytes : List ℕ) → place ≤ 65535 → AreBytes bytes → ArePlain (bytes_words place bytes)
 bytes-plain place bytes h are = (search rules, (plain-decimal place (omega arith), (plain-hex bytes are, search rules)))
 
 pub handler-plain : (x : LaidHandler) → IsHandler x → ArePlain (handler_words x)
-handler-plain x h = (
-  search rules,
-  (
-    plain-decimal x.start (omega (arith, h.start)),
-    (
-      plain-decimal (x.start + x.length) (omega (arith, h.end)),
-      (plain-decimal x.entry (omega (arith, h.entry)), (plain-decimal x.pool (omega (arith, h.pool)), search rules)),
-    ),
-  ),
-)
+handler-plain x h = grind (arith, plain-decimal)
 
 pub end-plain : ArePlain end_words
 end-plain = (search rules, search rules)
@@ -183,14 +167,7 @@ mk-handler s l e p = record { start = s; length = l; entry = e; pool = p }
 
 handler-same : (x y : LaidHandler) → IsHandler x → IsHandler y → handler_words x ≡ handler_words y → x ≡ y
 unfolding mk-handler
-handler-same x y h k e =
-    let s = decimal_injective x.start y.start (omega (arith, h.start)) (omega (arith, k.start)) (ap (word 1) e) in
-    let f = decimal_injective (x.start + x.length) (y.start + y.length) (omega (arith, h.end)) (omega (arith, k.end)) (ap (word 2) e) in
-    let n = decimal_injective x.entry y.entry (omega (arith, h.entry)) (omega (arith, k.entry)) (ap (word 3) e) in
-    let p = decimal_injective x.pool y.pool (omega (arith, h.pool)) (omega (arith, k.pool)) (ap (word 4) e) in
-    let l : x.length ≡ y.length = omega (arith, s, f) in
-    ap (λ (a : ℕ). mk-handler a x.length x.entry x.pool) s ∙ ap (λ (a : ℕ). mk-handler y.start a x.entry x.pool) l
-    ∙ ap (λ (a : ℕ). mk-handler y.start y.length a x.pool) n ∙ ap (λ (a : ℕ). mk-handler y.start y.length y.entry a) p
+handler-same x y h k e = grind (arith, decimal_injective)
 
 -- ---- the kinds of line are apart by the first byte
 
@@ -215,42 +192,18 @@ after-open done m bytes closed = record { done = done; begun = Some (record { me
 
 -- two lines of the same words from one state
 pub next-one : (st : State) (vs ws : List (List ℕ)) (a b : State) → Next st vs a → Next st ws b → vs ≡ ws → a ≡ b
-next-one st vs ws a b (next_head x) (next_head y) e =
-    x.to ∙ ap (λ (m : ListedMethod). record { done = st.done; begun = Some (record { method = m; closed = false }) })
-    (head-same x.method y.method x.bare y.bare (sym x.are ∙ e ∙ y.are)) ∙ sym y.to
+next-one st vs ws a b (next_head x) (next_head y) e = grind (arith, head-same x.method y.method x.bare y.bare (sym x.are ∙ e ∙ y.are))
 next-one st vs ws a b (next_head x) (next_instruction y) e = absurd (not-begun st _ x.from y.from)
 next-one st vs ws a b (next_head x) (next_bytes y) e = absurd (not-begun st _ x.from y.from)
 next-one st vs ws a b (next_head x) (next_handler y) e = absurd (not-begun st _ x.from y.from)
 next-one st vs ws a b (next_head x) (next_end y) e = absurd (not-begun st _ x.from y.from)
 next-one st vs ws a b (next_instruction x) (next_head y) e = absurd (not-begun st _ y.from x.from)
-next-one st vs ws a b (next_instruction x) (next_instruction y) e =
-    let same = ap (λ (g : Begun). g.method) (begun-same st _ _ x.from y.from) in
-    let short = few-before x.method.laid.code x.bytes x.few in
-    let words = sym x.are ∙ e ∙ y.are ∙ ap (λ (m : ListedMethod). block_words (length m.laid.code) y.bytes y.insn) (sym same) in
-    x.to ∙ ap (λ (xs : List ℕ). after-open st.done x.method xs false)
-    (block-same (length x.method.laid.code) x.bytes y.bytes x.insn y.insn short x.one y.one words)
-    ∙ ap (λ (m : ListedMethod). after-open st.done m y.bytes false) same ∙ sym y.to
+next-one st vs ws a b (next_instruction x) (next_instruction y) e = grind (arith, begun-same, few-before, block-same)
 next-one st vs ws a b (next_instruction x) (next_bytes y) e =
-    absurd
-    (omega (
-      arith,
-      block-lead (length x.method.laid.code) x.bytes x.insn (few-before x.method.laid.code x.bytes x.few),
-      ap lead (sym x.are ∙ e ∙ y.are),
-    ))
+    grind (arith, block-lead (length x.method.laid.code) x.bytes x.insn (few-before x.method.laid.code x.bytes x.few))
 next-one st vs ws a b (next_instruction x) (next_handler y) e =
-    absurd
-    (omega (
-      arith,
-      block-lead (length x.method.laid.code) x.bytes x.insn (few-before x.method.laid.code x.bytes x.few),
-      ap lead (sym x.are ∙ e ∙ y.are),
-    ))
-next-one st vs ws a b (next_instruction x) (next_end y) e =
-    absurd
-    (omega (
-      arith,
-      block-lead (length x.method.laid.code) x.bytes x.insn (few-before x.method.laid.code x.bytes x.few),
-      ap lead (sym x.are ∙ e ∙ y.are),
-    ))
+    grind (arith, block-lead (length x.method.laid.code) x.bytes x.insn (few-before x.method.laid.code x.bytes x.few))
+next-one st vs ws a b (next_instruction x) (next_end y) e = grind (arith, block-lead, few-before)
 next-one st vs ws a b (next_bytes x) (next_head y) e = absurd (not-begun st _ y.from x.from)
 next-one st vs ws a b (next_bytes x) (next_instruction y) e =
     absurd
@@ -281,17 +234,10 @@ next-one st vs ws a b (next_handler x) (next_handler y) e =
     ∙ ap (λ (g : Begun). record { done = st.done; begun = Some (record { method = with_handler g.method y.handler; closed = true }) }) same ∙ sym y.to
 next-one st vs ws a b (next_handler x) (next_end y) e = absurd (omega (arith, ap lead (sym x.are ∙ e ∙ y.are)))
 next-one st vs ws a b (next_end x) (next_head y) e = absurd (not-begun st _ y.from x.from)
-next-one st vs ws a b (next_end x) (next_instruction y) e =
-    absurd
-    (omega (
-      arith,
-      block-lead (length y.method.laid.code) y.bytes y.insn (few-before y.method.laid.code y.bytes y.few),
-      ap lead (sym x.are ∙ e ∙ y.are),
-    ))
+next-one st vs ws a b (next_end x) (next_instruction y) e = grind (arith, block-lead, few-before)
 next-one st vs ws a b (next_end x) (next_bytes y) e = absurd (omega (arith, ap lead (sym x.are ∙ e ∙ y.are)))
 next-one st vs ws a b (next_end x) (next_handler y) e = absurd (omega (arith, ap lead (sym x.are ∙ e ∙ y.are)))
-next-one st vs ws a b (next_end x) (next_end y) e =
-    x.to ∙ ap (λ (g : Begun). record { done = st.done ++ g.method ∷ []; begun = None }) (begun-same st x.begun y.begun x.from y.from) ∙ sym y.to
+next-one st vs ws a b (next_end x) (next_end y) e = grind (arith, begun-same)
 
 -- the words of a line that may come: there is one, and they are plain
 pub record IsLineOf (ws : List (List ℕ)) : Type 0 where
@@ -302,14 +248,7 @@ pub record IsLineOf (ws : List (List ℕ)) : Type 0 where
 
 pub next-plain : (st : State) (ws : List (List ℕ)) (a : State) → Next st ws a → IsLineOf ws
 next-plain st ws a (next_head x) = record { first = _; others = _; are = x.are; plain = head-plain x.method x.bare.is }
-next-plain st ws a (next_instruction x) =
-    record {
-      first = _;
-      others = _;
-      are = x.are;
-      plain = block-plain (length x.method.laid.code) x.bytes x.insn (few-before x.method.laid.code x.bytes x.few)
-          x.one;
-    }
+next-plain st ws a (next_instruction x) = grind (arith, block-plain, few-before)
 next-plain st ws a (next_bytes x) =
     record { first = _; others = _; are = x.are; plain = bytes-plain (length x.method.laid.code) x.bytes (few-before x.method.laid.code x.bytes x.few) x.bare }
 next-plain st ws a (next_handler x) = record { first = _; others = _; are = x.are; plain = handler-plain x.handler x.fits }

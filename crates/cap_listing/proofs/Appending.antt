@@ -1,5 +1,5 @@
 -- What appending in steps leaves.
-use Rattle.std.proofs.Common.{◌≡◌, ℕ, Result, Ok, Err, List, [], ◌++◌, map, sym, ap, ◌∙◌, append_assoc}
+use Rattle.std.proofs.Common.{◌≡◌, ℕ, Result, Ok, Err, List, [], ◌++◌, map, sym, ap, ◌∙◌, append_assoc, arith}
 use Rattle.std.specs.Prelude.{ℤ}
 use Rattle.std.specs.Fmt.{signed_decimal}
 use Rattle.std.proofs.lemmas.List.{append-nil, map-append}
@@ -23,14 +23,7 @@ pub numbers_shown : (place : ℕ) (i : Insn) (cs : List Case) (l : Layout) → l
     → shown (numbers_of place i cs)
     ≡ shown (shown_operand l.x (shown_first (jumps i.op) place i.x))
     ++ (shown (shown_operand l.y i.y) ++ (shown (shown_operand l.z i.z) ++ shown (shown_cases l.cases place cs)))
-numbers_shown place i cs l is =
-    let x = shown_operand l.x (shown_first (jumps i.op) place i.x) in
-    let y = shown_operand l.y i.y in
-    let z = shown_operand l.z i.z in
-    let table = shown_cases l.cases place cs in
-    ap (λ (r : Result Layout CodeEnd). shown (numbers_by r place i cs)) is
-    ∙ shown-append x (y ++ (z ++ table))
-    ∙ ap (λ (t : List ℕ). shown x ++ t) (shown-append y (z ++ table) ∙ ap (λ (t : List ℕ). shown y ++ t) (shown-append z table))
+numbers_shown place i cs l is = grind (arith, shown-append)
 
 pub numbers_none : (place : ℕ) (i : Insn) (cs : List Case) (e : CodeEnd) → layout_of i.op ≡ Err e → shown (numbers_of place i cs) ≡ []
 numbers_none place i cs e is = ap (λ (r : Result Layout CodeEnd). shown (numbers_by r place i cs)) is
@@ -43,15 +36,4 @@ pub numbers_pushed : (place : ℕ) (i : Insn) (cs : List Case) (l : Layout) → 
     → x ≡ shown_first (jumps i.op) place i.x → y ≡ i.y → z ≡ i.z
     → b ≡ a ++ shown (shown_operand l.x x) → c ≡ b ++ shown (shown_operand l.y y) → d ≡ c ++ shown (shown_operand l.z z)
     → e ≡ d ++ shown (shown_cases l.cases place cs) → e ≡ a ++ shown (numbers_of place i cs)
-numbers_pushed place i cs l is a b c d e x y z first second third one two three four =
-    let xs = shown (shown_operand l.x (shown_first (jumps i.op) place i.x)) in
-    let ys = shown (shown_operand l.y i.y) in
-    let zs = shown (shown_operand l.z i.z) in
-    let table = shown (shown_cases l.cases place cs) in
-    let one' : b ≡ a ++ xs = one ∙ ap (λ (n : ℤ). a ++ shown (shown_operand l.x n)) first in
-    let two' : c ≡ b ++ ys = two ∙ ap (λ (n : ℤ). b ++ shown (shown_operand l.y n)) second in
-    let three' : d ≡ c ++ zs = three ∙ ap (λ (n : ℤ). c ++ shown (shown_operand l.z n)) third in
-    four
-    ∙ ap (λ (t : List ℕ). t ++ table) (three' ∙ ap (λ (t : List ℕ). t ++ zs) (two' ∙ ap (λ (t : List ℕ). t ++ ys) one'))
-    ∙ append_assoc ((a ++ xs) ++ ys) zs table ∙ append_assoc (a ++ xs) ys (zs ++ table) ∙ append_assoc a xs (ys ++ (zs ++ table))
-    ∙ ap (λ (t : List ℕ). a ++ t) (sym (numbers_shown place i cs l is))
+numbers_pushed place i cs l is a b c d e x y z first second third one two three four = grind (arith, append_assoc, numbers_shown)

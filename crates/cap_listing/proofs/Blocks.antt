@@ -1,7 +1,8 @@
 -- The bytes of an instruction are that instruction alone, and wherever they stand.
 use Rattle.std.proofs.Common.{◌≡◌, ◌+◌, ◌-◌, ℕ, Ok, List, [], ◌++◌, length, take, drop}
 use Rattle.std.proofs.Common.{sym, ap, subst, ◌∙◌, ⊎_elim, arith, append_assoc}
-use Rattle.std.proofs.lemmas.List.{append-nil, take-append-drop, length-take-le, length-take, length-drop, drop-drop, get_or-take, get_or_past}
+use Rattle.std.proofs.lemmas.List.{append-nil, take-append-drop, length-take-le, length-take}
+use Rattle.std.proofs.lemmas.List.{length-drop, drop-drop, get_or-take, get_or_past}
 use Rattle.std.proofs.lemmas.Bool.{cases_lt}
 use Rattle.jc_decode.specs.declared.insn.Insn.{Insn}
 use Rattle.cap_bytes.specs.Bytes.{AreBytes}
@@ -71,10 +72,7 @@ module _ (code : List ℕ) (at : ℕ) (i : Insn) (are : AreBytes code) (h : deco
       ∙ reads-own.cases (take at code) (drop (at + i.len) code ++ more)
 
 pub AreBytes-take : (n : ℕ) (xs : List ℕ) → AreBytes xs → AreBytes (take n xs)
-AreBytes-take n xs h k =
-    ⊎_elim (λ below. let e = get_or-take n xs k 0 below in let b = h k in omega (arith, e, b))
-    (λ past. let e = get_or_past (take n xs) k 0 (omega (arith, length-take n xs, past)) in omega (arith, e))
-    (cases_lt k n)
+AreBytes-take n xs h k = grind (arith, ⊎_elim, get_or-take, get_or_past, length-take, cases_lt)
 
 pub own-one : (code : List ℕ) (at : ℕ) (i : Insn) → AreBytes code → decoded code at ≡ Ok i → IsOne (own code at i) i
 own-one code at i are h = record {

@@ -75,9 +75,7 @@ CutsTwo words second rest =
 module _ (place : ℕ) (few : place ≤ 65535) (line word after : List ℕ) (cut : CutsTwo line word after) where
   block-cut : (bytes : List ℕ) (i : Insn) → IsOne bytes i → line ≡ joined (block_words place bytes i)
       → (word ≡ name i.op) × (after ≡ joined (map signed_decimal (numbers_of place i (cases bytes 0 i))))
-  block-cut bytes i one e =
-      cut (decimal place) (name i.op) (map signed_decimal (numbers_of place i (cases bytes 0 i))) (plain-decimal place (omega (arith, few)))
-      (plain-name i.op) e
+  block-cut bytes i one e = grind (arith, plain-decimal, plain-name)
 
   pub has-name : (bytes : List ℕ) (i : Insn) → IsOne bytes i → line ≡ joined (block_words place bytes i) → HasName word i.op
   has-name bytes i one e = (opcode-named bytes 0 i one.are one.decodes, (block-cut bytes i one e).0)
@@ -86,10 +84,7 @@ module _ (place : ℕ) (few : place ≤ 65535) (line word after : List ℕ) (cut
       → ((ns : List ℤ) → AreShown ns → after ≡ joined (map signed_decimal ns) → numbers ≡ ns)
       → ((p : ℕ) → HasName word p → op ≡ p) → v ≡ block_of place op numbers
       → (bytes : List ℕ) (i : Insn) → IsOne bytes i → line ≡ joined (block_words place bytes i) → v ≡ bytes
-  block-read op numbers v reads named is bytes i one e =
-      let ns = numbers_of place i (cases bytes 0 i) in
-      let same = reads ns (numbers-shown place bytes 0 i few one.are one.decodes) (block-cut bytes i one e).1 in
-      is ∙ ap (λ (p : ℕ). block_of place p numbers) (named i.op (has-name bytes i one e)) ∙ ap (block_of place i.op) same ∙ numbers-tell place bytes i one
+  block-read op numbers v reads named is bytes i one e = grind (arith, numbers-shown, block-cut, has-name, numbers-tell)
 
 -- ---- the first line of a method, a handler and bytes
 

@@ -1,7 +1,7 @@
 -- Bytes up to the first of a value, and numbers in decimal.
 use Rattle.std.proofs.Common.{◌≡◌, ◌≢◌, ◌<◌, ◌≤◌, ◌+◌, ◌^◌, ℕ, zero, suc, Result, Ok, Err, List, [], ◌∷◌, ◌++◌, length, take, drop}
 use Rattle.std.proofs.Common.{sym, ap, subst, ◌∙◌, arith, rules, get_or, length-append}
-use Rattle.std.specs.Prelude.{decimal, ℤ, pos, negsuc, FitsSigned}
+use Rattle.std.specs.Prelude.{decimal, ℤ, pos, FitsSigned}
 use Rattle.std.specs.Int.{w32}
 use Rattle.std.specs.Fmt.{signed_decimal}
 use Rattle.std.specs.Str.{IsUtf8, IsAscii}
@@ -40,8 +40,7 @@ count-read word r n reads h e = parse-decimal 16 n word r h (omega (arith, h)) e
 
 pub number-parsed : {E : Type 0} (word : List ℕ) (r : Result ℤ E) (z : ℤ) → ParsesSigned w32 10 word r → FitsSigned w32 z → word ≡ signed_decimal z
     → r ≡ Ok z
-number-parsed word r (pos n) reads h e = parse-signed_decimal w32 (pos n) word r h (omega arith) e reads
-number-parsed word r (negsuc n) reads h e = parse-signed_decimal w32 (negsuc n) word r h (omega arith) e reads
+number-parsed word r z reads h e = grind (arith, parse-signed_decimal)
 
 digits-none : (w : List ℕ) → IsDigits w → HasNone 46 w
 digits-none [] h = h
@@ -59,22 +58,16 @@ no-stop word m n none e = none-cut 46 (decimal m) (decimal n) (subst (HasNone 46
 -- ---- words that write numbers
 
 pub signed-some : (z : ℤ) → FitsSigned w32 z → 0 < length (signed_decimal z)
-signed-some (pos n) h = decimal_nonempty n (omega arith)
-signed-some (negsuc n) h = omega arith
+signed-some x h = grind (arith, decimal_nonempty)
 
 -- ---- the first of a value
 
 pub none-at : (c : ℕ) (bytes : List ℕ) (k : ℕ) → k < length bytes → HasNone c (take k bytes) → get_or bytes k 0 ≢ c → HasNone c (take (k + 1) bytes)
-none-at c bytes k h none other =
-    subst (HasNone c) (sym (take_more bytes k 0 h)) (none-more c (take k bytes) (get_or bytes k 0) none other)
+none-at c bytes k h none other = grind (arith, take_more bytes k 0 h, none-more c (take k bytes) (get_or bytes k 0) none other)
 
 pub cut-at : (c : ℕ) (bytes : List ℕ) (k : ℕ) → k < length bytes → HasNone c (take k bytes) → get_or bytes k 0 ≡ c
     → IsCut c bytes (take k bytes) (drop (k + 1) bytes)
-cut-at c bytes k h none e = record {
-  is = sym (take-append-drop k bytes) ∙ ap (λ (l : List ℕ). take k bytes ++ l)
-      (drop_more bytes k 0 h ∙ ap (λ (b : ℕ). b ∷ drop (k + 1) bytes) e);
-  free = none;
-}
+cut-at c bytes k h none e = grind (arith, take-append-drop, drop_more)
 
 pub none-whole : (c : ℕ) (bytes : List ℕ) (k : ℕ) → length bytes ≤ k → HasNone c (take k bytes) → HasNone c bytes
 none-whole c bytes k h none = subst (HasNone c) (take_all k bytes h) none

@@ -1,13 +1,14 @@
 -- The last line of a code, where its instructions don't reach to its end.
-use Rattle.std.proofs.Common.{◌≡◌, ◌<◌, ◌≤◌, ◌+◌, ◌⊎◌, inl, inr, ℕ, List, [], ◌∷◌, ◌++◌, length, drop, map, refl, sym, ap}
+use Rattle.std.proofs.Common.{◌≡◌, ◌<◌, ◌≤◌, ◌+◌, ◌⊎◌, inl, inr, ℕ, List, [], ◌∷◌, ◌++◌, length, drop, map, refl, ap}
 use Rattle.std.proofs.Common.{◌∙◌, arith, append_assoc}
 use Rattle.std.specs.Prelude.{codes}
 use Rattle.std.proofs.lemmas.Bool.{cases_lt}
 use Rattle.std.proofs.lemmas.List.{append-nil, drop_all, length-drop}
 use Rattle.jc_decode.specs.Listing.{listing, listing_end}
 use Rattle.cap_listing.specs.declared.method.ListedMethod.{ListedMethod}
-use Rattle.cap_listing.specs.Words.{joined, line, text_of_lines}
-use Rattle.cap_listing.specs.Text.{instruction_words, bytes_words, rest_lines, code_lines, head_words, handler_words, begun_lines, end_words, text_of, lines_of}
+use Rattle.cap_listing.specs.Words.{joined, text_of_lines}
+use Rattle.cap_listing.specs.Text.{instruction_words, bytes_words, rest_lines, code_lines, head_words}
+use Rattle.cap_listing.specs.Text.{handler_words, begun_lines, end_words, text_of}
 use Rattle.cap_listing.proofs.Words.{text-append}
 use Rattle.cap_listing.proofs.Grow.{lists-all}
 use Rattle.cap_listing.proofs.Runs.{ends-inside}
@@ -19,8 +20,7 @@ lines-none : (n : ℕ) (bytes : List ℕ) → bytes ≡ [] → rest_lines n byte
 lines-none n bytes e = ap (rest_lines n) e
 
 lines-some : (n : ℕ) (bytes : List ℕ) → 0 < length bytes → rest_lines n bytes ≡ bytes_words n bytes ∷ []
-lines-some n [] h = absurd (omega (arith, h))
-lines-some n (b ∷ bytes) h = refl
+lines-some n y h = grind (arith)
 
 pub rest_none : (n : ℕ) (code : List ℕ) → n ≡ length code → text_of_lines (rest_lines n (drop n code)) ≡ []
 rest_none n code e = ap text_of_lines (lines-none n (drop n code) (drop_all n code (omega (arith, e))))
@@ -47,20 +47,10 @@ texts (m ∷ ms) = text_of_lines (begun_lines m ++ end_words ∷ []) ++ texts ms
 
 pub texts_are : (ms : List ListedMethod) → texts ms ≡ text_of ms
 texts_are [] = refl
-texts_are (m ∷ ms) =
-    ap (λ (t : List ℕ). text_of_lines (begun_lines m ++ end_words ∷ []) ++ t) (texts_are ms)
-    ∙ sym (text-append (begun_lines m ++ end_words ∷ []) (lines_of ms))
-    ∙ ap text_of_lines (append_assoc (begun_lines m) (end_words ∷ []) (lines_of ms))
+texts_are (m ∷ ms) = grind (arith, text-append, append_assoc, texts_are ms)
 
 -- a method's text in four parts
 pub method_parts : (m : ListedMethod)
     → text_of_lines (begun_lines m ++ end_words ∷ [])
     ≡ joined (head_words m) ++ 10 ∷ (text_of_lines (code_lines m.laid.code) ++ (text_of_lines (map handler_words m.laid.handlers) ++ codes "end\n"))
-method_parts m =
-    let code = code_lines m.laid.code in
-    let handlers = map handler_words m.laid.handlers in
-    text-append (begun_lines m) (end_words ∷ [])
-    ∙ ap (λ (t : List ℕ). (line (head_words m) ++ t) ++ codes "end\n") (text-append code handlers)
-    ∙ ap (λ (t : List ℕ). t ++ codes "end\n") (append_assoc (joined (head_words m)) (10 ∷ []) (text_of_lines code ++ text_of_lines handlers))
-    ∙ append_assoc (joined (head_words m)) (10 ∷ (text_of_lines code ++ text_of_lines handlers)) (codes "end\n")
-    ∙ ap (λ (t : List ℕ). joined (head_words m) ++ 10 ∷ t) (append_assoc (text_of_lines code) (text_of_lines handlers) (codes "end\n"))
+method_parts m = grind (arith, text-append, append_assoc)

@@ -5,6 +5,15 @@ use Rattle.std.specs.Prelude.{slice_get, Some, None}
 use Rattle.std.proofs.lemmas.List.{drop_all, append-nil}
 use Rattle.jc_decode.specs.declared.layout.Cases.{Cases}
 use Rattle.jc_decode.specs.declared.insn.Case.{Case}
+use Rattle.std.proofs.Common.{◌*◌, Ok, [], refl}
+use Rattle.std.proofs.Common.{arith}
+use Rattle.std.proofs.lemmas.List.FromFn.{length-map-range_with_len}
+use Rattle.jc_decode.specs.declared.layout.Operand.{Operand}
+use Rattle.jc_decode.specs.declared.insn.Insn.{Insn}
+use Rattle.jc_decode.specs.Layout.{total_width}
+use Rattle.jc_decode.specs.Decoding.{decoded, pair_width}
+use Rattle.jc_decode.specs.Cases.{cases, cases_in}
+use Rattle.jc_decode.proofs.Decoded.{Begins-decoded, table_end-ok}
 use Rattle.jc_decode.proofs.Elements.{drop-here, drop-past}
 use Rattle.cap_listing.specs.Numbers.{shown, shown_case, shown_cases}
 use Rattle.cap_listing.proofs.Appending.{shown-append}
@@ -12,10 +21,7 @@ use Rattle.cap_listing.proofs.Appending.{shown-append}
 -- a case is shown, and then those after it
 pub case-shown : (k : Cases) (place : ℕ) (cs : List Case) (n : ℕ) (c : Case) (out : List ℕ) → slice_get cs n ≡ Some c
     → (out ++ shown (shown_case k place c)) ++ shown (shown_cases k place (drop (n + 1) cs)) ≡ out ++ shown (shown_cases k place (drop n cs))
-case-shown k place cs n c out there =
-    append_assoc out (shown (shown_case k place c)) (shown (shown_cases k place (drop (n + 1) cs)))
-    ∙ ap (λ (s : List ℕ). out ++ s) (sym (shown-append (shown_case k place c) (shown_cases k place (drop (n + 1) cs))))
-    ∙ ap (λ (ds : List Case). out ++ shown (shown_cases k place ds)) (sym (drop-here cs n c there))
+case-shown k place cs n c out there = grind (arith, append_assoc, shown-append, drop-here)
 
 pub none-shown-after : (k : Cases) (place : ℕ) (cs : List Case) (n : ℕ) (out : List ℕ) → slice_get cs n ≡ None
     → out ≡ out ++ shown (shown_cases k place (drop n cs))

@@ -4,7 +4,7 @@ use Rattle.std.proofs.Common.{Option, List, [], ◌∷◌, ◌++◌, length, ref
 use Rattle.std.proofs.Common.{length-append}
 use Rattle.std.specs.Prelude.{All}
 use Rattle.std.proofs.lemmas.List.{append-nil}
-use Rattle.std.proofs.lemmas.List.Elements.{All-append, All-cons, All-nil}
+use Rattle.std.proofs.lemmas.List.Elements.{All-append}
 use Rattle.cap_listing.specs.declared.method.ListedMethod.{ListedMethod}
 use Rattle.cap_listing.specs.Words.{joined, line, text_of_lines}
 use Rattle.cap_listing.specs.Text.{IsMethod, Lists, Begins, begun_lines, end_words, lines_of, text_of}
@@ -21,8 +21,7 @@ Lines = List (List (List ℕ))
 
 -- a line that may come has no line feed but its last byte
 pub next-free : (st : State) (ws : List (List ℕ)) (a : State) → Next st ws a → HasNoFeed (joined ws)
-next-free st ws a n =
-    let p = next-plain st ws a n in subst (λ (vs : List (List ℕ)). HasNoFeed (joined vs)) (sym p.are) (joined-free (p.first ∷ p.others) p.plain)
+next-free st ws a n = grind (arith, next-plain st ws a n, joined-free)
 
 -- the first line of a text, and the rest
 split-text : (ws : List (List ℕ)) (ls : Lines) → text_of_lines (ws ∷ ls) ≡ joined ws ++ 10 ∷ text_of_lines ls
@@ -41,9 +40,7 @@ record Ahead (st : State) (ls : Lines) (tail : List ℕ) (end : State) : Type 0 
 ahead : (a : State) (ls : Lines) (b : State) (ks : Lines) (c : State) (tail : List ℕ) → Reads a ls b → Reads a ks c
     → text_of_lines ks ≡ text_of_lines ls ++ tail → Ahead b ls tail c
 ahead _ _ _ ks c tail (reads_nothing st) more e = record { lines = ks; reads = more; is = e }
-ahead _ _ _ _ _ tail (reads_more st ws between ls after next rest) (reads_nothing _) e =
-    absurd (not-empty (joined ws) (text_of_lines ls ++ tail)
-    (e ∙ ap (λ (t : List ℕ). t ++ tail) (split-text ws ls) ∙ append_assoc (joined ws) (10 ∷ text_of_lines ls) tail))
+ahead _ _ _ _ _ tail (reads_more st ws between ls after next rest) (reads_nothing _) e = grind (arith, not-empty, split-text, append_assoc)
 ahead _ _ _ _ _ tail (reads_more st ws between ls after next rest) (reads_more _ vs other ks end next2 rest2) e =
     let cut = first-cut 10 (joined vs) (text_of_lines ks) (joined ws) (text_of_lines ls ++ tail) (next-free st vs other next2) (next-free st ws between next)
     (sym (split-text vs ks) ∙ e ∙ ap (λ (t : List ℕ). t ++ tail) (split-text ws ls) ∙ append_assoc (joined ws) (10 ∷ text_of_lines ls) tail) in
@@ -54,8 +51,7 @@ ahead _ _ _ _ _ tail (reads_more st ws between ls after next rest) (reads_more _
 -- ---- one list
 
 nothing-left : (st : State) (ls : Lines) (end : State) → Reads st ls end → text_of_lines ls ≡ [] → st ≡ end
-nothing-left _ _ _ (reads_nothing st) e = refl
-nothing-left _ _ _ (reads_more st ws between ls after next rest) e = absurd (not-empty (joined ws) (text_of_lines ls) (sym e ∙ split-text ws ls))
+nothing-left x y z u e = grind (arith, not-empty, split-text)
 
 pub one-list : OneListing
 one-list text ms ns h k =
@@ -76,21 +72,12 @@ end-of (Some b) = line end_words
 lines-done : (ms : List ListedMethod) (o : Option Begun) → text_of (ms ++ method-of o) ≡ text_of_lines (lines_of ms ++ lines_begun o) ++ end-of o
 unfolding method-of end-of
 lines-done [] None = refl
-lines-done [] (Some b) =
-    text-append (begun_lines b.method) (end_words ∷ []) ∙ ap (λ (t : List ℕ). text_of_lines (begun_lines b.method) ++ t) (append-nil (line end_words))
-lines-done (m ∷ ms) o =
-    text-append (begun_lines m) (end_words ∷ lines_of (ms ++ method-of o))
-    ∙ ap (λ (t : List ℕ). text_of_lines (begun_lines m) ++ (line end_words ++ t)) (lines-done ms o)
-    ∙ ap (λ (t : List ℕ). text_of_lines (begun_lines m) ++ t)
-    (sym (append_assoc (line end_words) (text_of_lines (lines_of ms ++ lines_begun o)) (end-of o)))
-    ∙ sym (append_assoc (text_of_lines (begun_lines m)) (text_of_lines (end_words ∷ (lines_of ms ++ lines_begun o))) (end-of o))
-    ∙ ap (λ (t : List ℕ). t ++ end-of o) (sym (text-append (begun_lines m) (end_words ∷ (lines_of ms ++ lines_begun o))))
-    ∙ ap (λ (ks : Lines). text_of_lines ks ++ end-of o) (sym (append_assoc (begun_lines m) (end_words ∷ lines_of ms) (lines_begun o)))
+lines-done [] (Some b) = grind (arith, text-append (begun_lines b.method) (end_words ∷ []), append-nil (line end_words))
+lines-done (m ∷ ms) o = grind (arith, text-append, append_assoc, lines-done ms o)
 
 begun-method : (o : Option Begun) → MayBegin o → All IsMethod (method-of o)
 unfolding method-of
-begun-method None h = All-nil IsMethod
-begun-method (Some b) h = All-cons IsMethod b.method [] h.method (All-nil IsMethod)
+begun-method x h = grind (arith)
 
 pub begins-read : (ls : Lines) (st : State) → Reads start ls st → Begins (text_of_lines ls)
 unfolding method-of end-of

@@ -1,6 +1,8 @@
 -- The first fault is found in one pass over the methods.
 use Rattle.std.proofs.Common.{◌≡◌, ◌≢◌, ◌<◌, ◌≤◌, ◌+◌, ℕ, cond, min, List, [], ◌∷◌, length, drop, get_or}
 use Rattle.std.proofs.Common.{Err, refl, sym, ap, subst, ◌∙◌, arith}
+use Rattle.std.proofs.Common.{Bool, true, false, ◌++◌}
+use Rattle.std.proofs.Common.{Result, Ok}
 use Rattle.std.proofs.lemmas.List.{drop_more, drop_all, length-drop}
 use Rattle.jc_decode.specs.declared.symbols.LaidHandler.{LaidHandler}
 use Rattle.cap_listing.specs.declared.method.ListedMethod.{ListedMethod}
@@ -16,9 +18,7 @@ module _ (n : ℕ) (ms owns : List ListedMethod) (m own : ListedMethod) (h : n <
   later = other_faults (n + 1) (drop (n + 1) ms) (drop (n + 1) owns)
 
   here : other_faults n (drop n ms) (drop n owns) ≡ cond (is_same m own) later (OtherMethod n ∷ later)
-  here =
-      ap (λ (xs : List ListedMethod). other_faults n xs (drop n owns)) (drop_more ms n m h ∙ ap (λ (x : ListedMethod). x ∷ drop (n + 1) ms) (sym is))
-      ∙ ap (other_faults n (m ∷ drop (n + 1) ms)) (drop_more owns n own k ∙ ap (λ (x : ListedMethod). x ∷ drop (n + 1) owns) (sym it))
+  here = grind (arith, drop_more)
 
 one-missing : (n : ℕ) (xs ys : List ListedMethod) → length xs ≢ length ys → min (length xs) (length ys) ≡ 0
     → first_refused (other_faults n xs ys) ≡ Err (OtherMethod n)
@@ -29,10 +29,7 @@ one-missing n (x ∷ xs) (y ∷ ys) apart h = absurd (omega (arith, h))
 
 pub missing-refused : (n j : ℕ) (ms owns : List ListedMethod) → n ≡ min (length ms) (length owns) → j ≡ n → length ms ≢ length owns
     → first_refused (other_faults n (drop n ms) (drop n owns)) ≡ Err (OtherMethod j)
-missing-refused n j ms owns h same apart =
-    subst (λ (k : ℕ). first_refused (other_faults n (drop n ms) (drop n owns)) ≡ Err (OtherMethod k)) (sym same)
-    (one-missing n (drop n ms) (drop n owns) (λ e. apart (omega (arith, e, h, length-drop n ms, length-drop n owns)))
-    (omega (arith, h, length-drop n ms, length-drop n owns)))
+missing-refused n j ms owns h same apart = grind (arith, one-missing, length-drop)
 
 -- ---- handlers
 

@@ -1,22 +1,18 @@
 -- The lines of a code to which bytes are added.
 use Rattle.std.proofs.Common.{◌≡◌, ◌≢◌, ◌+◌, ◌-◌, ℕ, Result, Ok, Err, List, [], ◌∷◌, ◌++◌, length, take}
 use Rattle.std.proofs.Common.{drop, map, refl, sym, ap, subst, ◌∙◌, arith, rules, length-append}
-use Rattle.std.specs.Prelude.{IsErr, decimal}
-use Rattle.std.specs.Fmt.{signed_decimal}
+use Rattle.std.specs.Prelude.{IsErr}
 use Rattle.std.proofs.lemmas.List.{append-nil, take-append-drop, map-append, drop_all}
 use Rattle.std.proofs.Math.Seq.{drop-append_seam}
 use Rattle.jc_decode.specs.declared.insn.Insn.{Insn}
-use Rattle.jc_decode.specs.declared.insn.Case.{Case}
 use Rattle.jc_decode.specs.declared.insn.Placed.{Placed}
 use Rattle.jc_decode.specs.declared.insn.CodeEnd.{CodeEnd}
 use Rattle.jc_decode.specs.declared.insn.CodeEnd.TheVariants.{Cut}
-use Rattle.jc_decode.specs.Names.{name}
 use Rattle.cap_bytes.specs.Bytes.{AreBytes}
 use Rattle.jc_decode.specs.Decoding.{decoded}
 use Rattle.jc_decode.specs.Listing.{listing, listing_from, at_most, ListsFound, end_from, listing_end}
 use Rattle.jc_decode.proofs.PastTheEnd.{decoded-past}
 use Rattle.jc_decode.proofs.Listing.{Lists-listing_from, listing_from-Lists, listing_from-start}
-use Rattle.cap_listing.specs.Numbers.{numbers_of}
 use Rattle.cap_listing.specs.Text.{instruction_words, bytes_words, rest_lines, code_lines}
 use Rattle.cap_listing.specs.Reading.{IsOne, block_words}
 use Rattle.cap_listing.proofs.Blocks.{alone, longer, cases-longer, shifted, cases-shifted, AreBytes-take}
@@ -41,11 +37,7 @@ listing-is code ps l = sym (listing_from-start code) ∙ sym (listing_from-Lists
 words-longer : (code more : List ℕ) → AreBytes code → (at : ℕ) (ps : List Placed) → ListsFound (decoded code) at ps
     → map (instruction_words (code ++ more)) ps ≡ map (instruction_words code) ps
 words-longer code more are at [] l = refl
-words-longer code more are at (p ∷ ps) l =
-    let same = cases-longer code p.place p.insn are (ap (decoded code) l.0 ∙ l.1) more in
-    ap (λ (cs : List Case). (decimal p.place ∷ name p.insn.op ∷ map signed_decimal (numbers_of p.place p.insn cs)) ∷ map
-    (instruction_words (code ++ more)) ps) same
-    ∙ ap (λ (ls : List (List (List ℕ))). instruction_words code p ∷ ls) (words-longer code more are (at + p.insn.len) ps l.2)
+words-longer code more are at (p ∷ ps) l = grind (arith, cases-longer, words-longer code more are (at + p.insn.len) ps l.2)
 
 -- an instruction after the code
 abbrev last : List ℕ → Insn → Placed
@@ -54,10 +46,7 @@ last code i = record { place = length code; insn = i }
 module _ (code : List ℕ) (are : AreBytes code) (whole : listing_end code ≡ length code) where
   -- a code of instructions alone has no other line
   pub lines-whole : code_lines code ≡ map (instruction_words code) (listing code)
-  lines-whole =
-      ap (λ (n : ℕ). map (instruction_words code) (listing code) ++ rest_lines n (drop n code)) whole
-      ∙ ap (λ (bs : List ℕ). map (instruction_words code) (listing code) ++ rest_lines (length code) bs) (drop_all (length code) code (omega arith))
-      ∙ append-nil (map (instruction_words code) (listing code))
+  lines-whole = grind (arith, drop_all, append-nil)
 
   module _ (bytes : List ℕ) (i : Insn) (one : IsOne bytes i) where
     here : decoded (code ++ bytes) (length code) ≡ Ok i
@@ -77,13 +66,10 @@ module _ (code : List ℕ) (are : AreBytes code) (whole : listing_end code ≡ l
     listing-snoc = listing-is (code ++ bytes) (listing code ++ last code i ∷ []) (snoc 0 (listing code) (lists-all code) whole)
 
     pub whole-snoc : listing_end (code ++ bytes) ≡ length (code ++ bytes)
-    whole-snoc =
-        ap (end_from 0) listing-snoc ∙ end-append 0 (listing code) (last code i ∷ []) ∙ omega (arith, whole, one.whole, length-append code bytes)
+    whole-snoc = grind (arith, listing-snoc, end-append, length-append)
 
     words-last : instruction_words (code ++ bytes) (last code i) ≡ block_words (length code) bytes i
-    words-last =
-        ap (λ (cs : List Case). decimal (length code) ∷ name i.op ∷ map signed_decimal (numbers_of (length code) i cs))
-        (cases-shifted code bytes i one.are one.decodes)
+    words-last = grind (arith, cases-shifted)
 
   -- bytes that are no instruction
   module _ (bytes : List ℕ) (both : AreBytes (code ++ bytes)) (bare : AreBytes bytes) (none : IsErr (decoded bytes 0)) where

@@ -1,14 +1,14 @@
 -- The methods of a package may be listed: their handlers end in their code, so the numbers of each fit its line.
-use Rattle.std.proofs.Common.{◌≡◌, ◌<◌, ◌≤◌, ◌+◌, ◌-◌, ◌^◌, ℕ, Bool, true, false, cond, List, [], ◌∷◌, length, map}
-use Rattle.std.proofs.Common.{Option, Some, None, refl, inl, inr, arith}
+use Rattle.std.proofs.Common.{◌≡◌, ◌<◌, ◌≤◌, ◌+◌, ◌-◌, ◌^◌, ℕ, Bool, false, cond, List, [], ◌∷◌, length, map}
+use Rattle.std.proofs.Common.{Option, refl, inl, inr, arith}
 use Rattle.std.specs.Prelude.{All}
-use Rattle.std.proofs.lemmas.List.Elements.{All-nil, All-cons, All-append, All-map, All-weaker}
+use Rattle.std.proofs.lemmas.List.Elements.{All-nil, All-append, All-map, All-weaker}
 use Rattle.cap_method.specs.MethodFormat.{Header}
 use Rattle.cap_method.specs.declared.handler.HandlerInfo.{HandlerInfo}
 use Rattle.cap_desc.specs.DescriptorFormat.{MethodDescriptor, ClassDescriptor}
 use Rattle.cap_components.specs.MethodPlaces.{code_start, code_end}
 use Rattle.cap_components.specs.PackageRecord.{PackageRecord, names_interface, handlers_of}
-use Rattle.cap_package.specs.HeaderChecks.{header_in, is_abstract}
+use Rattle.cap_package.specs.HeaderChecks.{header_in}
 use Rattle.cap_package.specs.StandsFor.{StandsFor}
 use Rattle.jc_decode.specs.declared.symbols.LaidHandler.{LaidHandler}
 use Rattle.jc_resolve.proofs.Faultless.{IsOneOf}
@@ -17,7 +17,8 @@ use Rattle.jc_resolve.proofs.OwnedHandlers.{LiesIn}
 use Rattle.jc_resolve.proofs.MethodFacts.{IsPlaced, is-placed}
 use Rattle.cap_listing.specs.declared.method.ListedMethod.{ListedMethod}
 use Rattle.cap_listing.specs.Text.{IsMethod, IsHandler}
-use Rattle.cap_listing.specs.Methods.{HasPlaces, IsCounted, laid_handler, laid_of, listed_by, listed_from, listed_unless, listed_in, methods_of}
+use Rattle.cap_listing.specs.Methods.{HasPlaces, IsCounted, laid_handler, laid_of, listed_by}
+use Rattle.cap_listing.specs.Methods.{listed_from, listed_unless, listed_in, methods_of}
 
 Ends : LaidHandler → Type 0
 Ends h = h.start + h.length < 2 ^ 16
@@ -40,13 +41,10 @@ module _ (p : PackageRecord) where
   one-ends : (class_no n : ℕ) (m : MethodDescriptor) (x : IsPlaced p m) (h : Header) (b : Bool)
       → All HaveEnds (cond b [] (record { class_no = class_no; method_no = n; laid = laid_of p.methods m h } ∷ []))
   unfolding HaveEnds
-  one-ends class_no n m x h true = All-nil HaveEnds
-  one-ends class_no n m x h false =
-      All-cons HaveEnds (record { class_no = class_no; method_no = n; laid = laid_of p.methods m h }) [] (handlers-end m x) (All-nil HaveEnds)
+  one-ends class_no n m x h w = grind (arith, handlers-end)
 
   by-end : (class_no n : ℕ) (m : MethodDescriptor) (x : IsPlaced p m) (o : Option Header) → All HaveEnds (listed_by p.methods class_no n m o)
-  by-end class_no n m x None = All-nil HaveEnds
-  by-end class_no n m x (Some h) = one-ends class_no n m x h (is_abstract h)
+  by-end class_no n m x v = grind (arith, one-ends)
 
   class-ends : (class_no n : ℕ) (ms : List MethodDescriptor) → ((m : MethodDescriptor) → IsOneOf ms m → IsPlaced p m)
       → All HaveEnds (listed_from p.methods class_no n ms)
@@ -57,8 +55,7 @@ module _ (p : PackageRecord) where
 
   unless-ends : (class_no : ℕ) (c : ClassDescriptor) (b : Bool) → (b ≡ false → (m : MethodDescriptor) → IsOneOf c.methods m → IsPlaced p m)
       → All HaveEnds (cond b [] (listed_from p.methods class_no 0 c.methods))
-  unless-ends class_no c true each = All-nil HaveEnds
-  unless-ends class_no c false each = class-ends class_no 0 c.methods (each refl)
+  unless-ends class_no c z each = grind (arith, class-ends)
 
   classes-end : (class_no : ℕ) (cs : List ClassDescriptor)
       → ((c : ClassDescriptor) → IsOneOf cs c → names_interface p.classes c.class_ref ≡ false → (m : MethodDescriptor) → IsOneOf c.methods m → IsPlaced p m)
@@ -69,10 +66,7 @@ module _ (p : PackageRecord) where
       (unless-ends class_no c (names_interface p.classes c.class_ref) (each c (inl refl))) (classes-end (class_no + 1) cs (λ d one. each d (inr one)))
 
   all-end : StandsFor p.parts p → All HaveEnds (methods_of p)
-  all-end agreed =
-      let cs = p.description.items.classes in
-      classes-end 0 cs (λ c one class m own.
-      is-placed p agreed m (from-class (names_interface p.classes) cs c m one class own) (from-any cs c m one own))
+  all-end agreed = grind (arith, classes-end, is-placed, from-class, from-any)
 
 -- ---- with what is known of each number
 
@@ -82,16 +76,7 @@ handler-known h x e = record { start = x.start; end = e; entry = x.entry; pool =
 
 method-known : (m : ListedMethod) → IsCounted m → HaveEnds m → IsMethod m
 unfolding HaveEnds
-method-known m x ends = record {
-  class_no = x.class_no;
-  method_no = x.method_no;
-  max_stack = x.laid.max_stack;
-  nargs = x.laid.nargs;
-  max_locals = x.laid.max_locals;
-  bytes = x.laid.bytes;
-  few = x.laid.few;
-  handlers = λ k h at. handler-known _ (x.laid.handlers k h at) (ends k h at);
-}
+method-known m x ends = grind (arith, handler-known)
 
 pub methods-known : (p : PackageRecord) → StandsFor p.parts p → All IsCounted (methods_of p) → All IsMethod (methods_of p)
 methods-known p agreed counted k m at = method-known _ (counted k m at) (all-end p agreed k m at)

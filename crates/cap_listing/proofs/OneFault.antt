@@ -4,7 +4,8 @@ use Rattle.std.proofs.Common.{Result, Ok, Err}
 use Rattle.std.proofs.lemmas.List.{append-nil}
 use Rattle.cap_listing.specs.declared.method.ListedMethod.{ListedMethod}
 use Rattle.cap_listing.specs.declared.fault.AsmFault.{AsmFault}
-use Rattle.cap_listing.specs.declared.fault.AsmFault.TheVariants.{NotListing, OtherMethod, Registers, HandlerRange, CodeLength, TooManyHandlers}
+use Rattle.cap_listing.specs.declared.fault.AsmFault.TheVariants.{NotListing, OtherMethod, Registers}
+use Rattle.cap_listing.specs.declared.fault.AsmFault.TheVariants.{HandlerRange, CodeLength, TooManyHandlers}
 use Rattle.cap_listing.specs.declared.fault.AsmEnd.{AsmEnd}
 use Rattle.cap_listing.specs.declared.fault.AsmEnd.TheVariants.{Fault, Memory}
 use Rattle.cap_listing.specs.Text.{Lists, Begins}
@@ -18,23 +19,15 @@ GoesWrong before rest = IsBadLine before rest ⊎ IsCutShort before rest
 
 -- what begins a listing also does so with its end cut off
 begins-less : (text more : List ℕ) → Begins (text ++ more) → Begins text
-begins-less text more b = record {
-  methods = b.methods;
-  rest = more ++ b.rest;
-  lists = record { methods = b.lists.methods; is = sym (append_assoc text more b.rest) ∙ b.lists.is };
-}
+begins-less text more b = grind (arith, append_assoc)
 
 -- with one more line it begins none
 line-wrong : (before l more : List ℕ) → HasNoFeed l → GoesWrong before (l ++ 10 ∷ more) → Begins (before ++ (l ++ 10 ∷ [])) → ⊥
-line-wrong before l more free (inl w) b =
-    let same = first-cut 10 l more w.bad w.after free w.free w.is in
-    w.none (subst (λ (x : List ℕ). Begins (before ++ (x ++ 10 ∷ []))) same.0 b)
-line-wrong before l more free (inr w) b = none-cut 10 l more w.free
+line-wrong before l more free v b = grind (arith, first-cut, none-cut)
 
 -- the text before a line, and with it
 longer : (before l rest : List ℕ) → before ++ (l ++ 10 ∷ rest) ≡ (before ++ (l ++ 10 ∷ [])) ++ rest
-longer before l rest =
-    ap (λ (t : List ℕ). before ++ t) (sym (append_assoc l (10 ∷ []) rest)) ∙ sym (append_assoc before (l ++ 10 ∷ []) rest)
+longer before l rest = grind (arith, append_assoc)
 
 same-count : (before : List ℕ) (ks ls : List (List ℕ)) (x y : List ℕ) → AreFree ks → AreFree ls → fed ks ++ x ≡ fed ls ++ y
     → GoesWrong (before ++ fed ks) x → GoesWrong (before ++ fed ls) y → Begins (before ++ fed ks) → Begins (before ++ fed ls)
@@ -76,29 +69,19 @@ no-listing text n ms h l = by h.here
         w.none (record {
           methods = ms;
           rest = w.after;
-          lists = record {
-            methods = l.methods;
-            is = sym (longer (fed h.before) w.bad w.after) ∙ sym (h.whole ∙ ap (λ (t : List ℕ). fed h.before ++ t) w.is) ∙ l.is;
-          };
+          lists = grind (arith, longer);
         })
     by (inr w) = w.none ms (subst (Lists ms) h.whole l)
 
 -- ---- what `assemble` answers
 
 not-line : (text : List ℕ) (fault : AsmFault) (ms : List ListedMethod) → TellsLine text fault → Lists ms text → ⊥
-not-line text (NotListing line) ms t l = no-listing text line ms t l
-not-line text (OtherMethod n) ms t l = t
-not-line text (Registers n count) ms t l = t
-not-line text (HandlerRange n number) ms t l = t
-not-line text (CodeLength n size) ms t l = t
-not-line text (TooManyHandlers count) ms t l = t
+not-line text y ms t l = grind (arith, no-listing)
 
 -- a listing is assembled, or there is no memory
 pub comes-back : (text : List ℕ) (ms : List ListedMethod) (answer : Result (List ListedMethod) AsmEnd) → Lists ms text → Assembles text answer
     → AnswersMethods ms answer
-comes-back text ms (Ok ns) l a = one-list text ns ms a l
-comes-back text ms (Err (Fault fault)) l a = not-line text fault ms a l
-comes-back text ms (Err Memory) l a = tt {0}
+comes-back text ms z l a = grind (arith, one-list, not-line)
 
 same-line : (text : List ℕ) (n : ℕ) (fault : AsmFault) → IsNotListing text n → TellsLine text fault → fault ≡ NotListing n
 same-line text n (NotListing line) h t = ap (λ (k : ℕ). NotListing k) (one-line text line n t h)

@@ -1,12 +1,12 @@
 -- Where nothing is wrong with listed methods in place of a package's own, the package may be written with them.
 use Rattle.std.proofs.Common.{◌≡◌, ◌<◌, ◌≤◌, ◌+◌, ℕ, Bool, true, false, not, cond, ◌&&◌, ◌||◌, ltb, leb, eqb, List, [], ◌∷◌, ◌++◌}
-use Rattle.std.proofs.Common.{Ok, drop, get_or, length, map, min, Option, Some, None, refl, sym, ap, subst, ◌∙◌, arith, append_assoc}
+use Rattle.std.proofs.Common.{Ok, drop, get_or, length, map, min, Option, Some, None, refl, sym, ap, ◌∙◌, arith, append_assoc}
 use Rattle.std.proofs.lemmas.Bool.{ltb-false, ltb-true, leb-true, eqb-true, eqb-false, and_parts}
 use Rattle.std.proofs.lemmas.List.{append-nil, drop_more, drop_all}
 use Rattle.cap_method.specs.MethodFormat.{Header}
 use Rattle.cap_desc.specs.DescriptorFormat.{MethodDescriptor, ClassDescriptor}
 use Rattle.cap_components.specs.Components.{Methods}
-use Rattle.cap_components.specs.PackageRecord.{PackageRecord, names_interface}
+use Rattle.cap_components.specs.PackageRecord.{PackageRecord}
 use Rattle.cap_package.specs.HeaderChecks.{header_in, is_abstract}
 use Rattle.jc_decode.specs.declared.symbols.Laid.{Laid}
 use Rattle.jc_decode.specs.declared.symbols.LaidHandler.{LaidHandler}
@@ -15,12 +15,12 @@ use Rattle.law_package.specs.Laying.{IsCodeFor}
 use Rattle.cap_write.specs.Condition.{handler_sum, no_method, methods_for, AreElements, MayBeLaid}
 use Rattle.cap_listing.specs.declared.method.ListedMethod.{ListedMethod}
 use Rattle.cap_listing.specs.declared.fault.AsmFault.{AsmFault}
-use Rattle.cap_listing.specs.declared.fault.AsmFault.TheVariants.{OtherMethod, Registers, HandlerRange, CodeLength, TooManyHandlers}
+use Rattle.cap_listing.specs.declared.fault.AsmFault.TheVariants.{OtherMethod, Registers, HandlerRange, CodeLength}
 use Rattle.cap_listing.specs.declared.condition.Condition.TheVariants as conditions
 use Rattle.cap_listing.specs.Methods.{laid_of, listed_by, listed_from, listed_in, methods_of}
 use Rattle.cap_listing.specs.Placing.{is_same, other_faults, range_faults, own_faults, faults_from}
-use Rattle.cap_listing.specs.Placing.{handler_total, total_faults, faults, has_code, is_coded, coded_in}
-use Rattle.cap_listing.specs.Placing.{coded, first_filled, rest_filled, filled, placed, first_refused}
+use Rattle.cap_listing.specs.Placing.{handler_total, faults, has_code, is_coded, coded_in}
+use Rattle.cap_listing.specs.Placing.{first_filled, rest_filled, filled, placed, first_refused}
 
 -- ---- lists that are empty
 
@@ -44,14 +44,11 @@ AreSame (m ∷ ms) [] = ⊥
 AreSame (m ∷ ms) (n ∷ ns) = (m.laid.nargs ≡ n.laid.nargs) × AreSame ms ns
 
 same-nargs : (m n : ListedMethod) → is_same m n ≡ true → m.laid.nargs ≡ n.laid.nargs
-same-nargs m n e =
-    let numbers = eqb m.class_no n.class_no && eqb m.method_no n.method_no in
-    eqb-true m.laid.nargs n.laid.nargs (and_parts numbers (eqb m.laid.nargs n.laid.nargs) e).1
+same-nargs m n e = grind (arith, eqb, eqb-true, and_parts)
 
 one-same : (k : ℕ) (m n : ListedMethod) (ms ns : List ListedMethod) (more : List AsmFault) (b : Bool) → is_same m n ≡ b
     → (more ≡ [] → AreSame ms ns) → cond b more (OtherMethod k ∷ more) ≡ [] → AreSame (m ∷ ms) (n ∷ ns)
-one-same k m n ms ns more true e rest h = (same-nargs m n e, rest h)
-one-same k m n ms ns more false e rest h = absurd (some-none (OtherMethod k) more h)
+one-same k m n ms ns more a e rest h = grind (arith, same-nargs, some-none)
 
 all-same : (k : ℕ) (ms ns : List ListedMethod) → other_faults k ms ns ≡ [] → AreSame ms ns
 all-same k [] [] e = tt {0}
@@ -71,28 +68,19 @@ AllFit [] = Unit {0}
 AllFit (m ∷ ms) = Fits m × AllFit ms
 
 few-counted : (n : ℕ) (f : AsmFault) (b : Bool) → ltb 255 n ≡ b → cond b (f ∷ []) [] ≡ [] → n ≤ 255
-few-counted n f true e h = absurd (some-none f [] h)
-few-counted n f false e h = ltb-false 255 n e
+few-counted n f z e h = grind (arith, some-none, ltb-false)
 
 code-length : (n : ℕ) (f : AsmFault) (a b : Bool) → eqb n 0 ≡ a → ltb 32767 n ≡ b → cond (a || b) (f ∷ []) [] ≡ [] → (1 ≤ n) × (n ≤ 32767)
-code-length n f true b e g h = absurd (some-none f [] h)
-code-length n f false true e g h = absurd (some-none f [] h)
-code-length n f false false e g h = ((let no = eqb-false n 0 e in omega (arith, no)), ltb-false 32767 n g)
+code-length n f z b e g h = grind (arith, some-none, eqb-false, ltb-false)
 
 handler-inside : (n k size : ℕ) (h : LaidHandler) (hs : List LaidHandler) (more : List AsmFault) (b : Bool)
     → (leb (h.start + h.length) size && ltb h.entry size) ≡ b → size ≤ 32767 → (more ≡ [] → AreInside size hs)
     → cond b more (HandlerRange n k ∷ more) ≡ [] → AreInside size (h ∷ hs)
-handler-inside n k size h hs more true e few rest none =
-    let both = and_parts (leb (h.start + h.length) size) (ltb h.entry size) e in
-    let range = leb-true (h.start + h.length) size both.0 in
-    (record { range = range; short = omega (arith, range, few); entry = ltb-true h.entry size both.1 }, rest none)
-handler-inside n k size h hs more false e few rest none = absurd (some-none (HandlerRange n k) more none)
+handler-inside n k size h hs more a e few rest none = grind (arith, and_parts, leb, ltb, leb-true, ltb-true, some-none)
 
 handlers-inside : (n k size : ℕ) (hs : List LaidHandler) → size ≤ 32767 → range_faults n size k hs ≡ [] → AreInside size hs
 handlers-inside n k size [] few e = tt {0}
-handlers-inside n k size (h ∷ hs) few e =
-    handler-inside n k size h hs (range_faults n size (k + 1) hs) (leb (h.start + h.length) size && ltb h.entry size) refl few
-    (handlers-inside n (k + 1) size hs few) e
+handlers-inside n k size (h ∷ hs) few e = grind (arith, handler-inside, leb, ltb, handlers-inside n (k + 1) size hs few)
 
 all-fit : (n : ℕ) (ms : List ListedMethod) → faults_from conditions.Registers n ms ≡ [] → faults_from conditions.Handlers n ms ≡ []
     → faults_from conditions.Length n ms ≡ [] → AllFit ms
@@ -136,19 +124,13 @@ module _ (interfaces : ℕ → Bool) (methods : Methods) where
       (records : List (Option MethodDescriptor)) (b : Bool) → header_in methods.info d.method_offset ≡ Some h → is_abstract h ≡ b → Later tail flags records
       → Later (cond b [] (record { class_no = class_no; method_no = n; laid = laid_of methods d h } ∷ []) ++ tail) (not b ∷ flags) (Some d ∷ records)
   unfolding Later
-  by-abstract class_no n d h tail flags records true there e later ms same fit =
-      (λ g at. ap is_abstract (same-header _ g h at there) ∙ e, later ms same fit)
-  by-abstract class_no n d h tail flags records false there e later [] same fit = absurd same
-  by-abstract class_no n d h tail flags records false there e later (m ∷ ms) same fit =
-      (λ g at. code-for m g fit.0 (same.0 ∙ ap (λ (x : Header). x.nargs) (same-header _ h g there at)), later ms same.1 fit.1)
+  by-abstract class_no n d h tail flags records b there e later ms same fit = grind (arith, same-header, code-for)
 
   by-header : (class_no n : ℕ) (d : MethodDescriptor) (tail : List ListedMethod) (flags : List Bool) (records : List (Option MethodDescriptor))
       (o : Option Header) → header_in methods.info d.method_offset ≡ o → Later tail flags records
       → Later (listed_by methods class_no n d o ++ tail) (has_code o ∷ flags) (Some d ∷ records)
   unfolding Later
-  by-header class_no n d tail flags records None there later ms same fit = (λ g at. absurd (none-header _ g there at), later ms same fit)
-  by-header class_no n d tail flags records (Some h) there later ms same fit =
-      by-abstract class_no n d h tail flags records (is_abstract h) there refl later ms same fit
+  by-header class_no n d tail flags records a there later ms same fit = grind (arith, none-header, by-abstract)
 
   of-class : (class_no n : ℕ) (ds : List MethodDescriptor) (tail : List ListedMethod) (flags : List Bool) (records : List (Option MethodDescriptor))
       → Later tail flags records
@@ -156,10 +138,7 @@ module _ (interfaces : ℕ → Bool) (methods : Methods) where
   unfolding Later
   of-class class_no n [] tail flags records later ms same fit = later ms same fit
   of-class class_no n (d ∷ ds) tail flags records later ms same fit =
-      by-header class_no n d (listed_from methods class_no (n + 1) ds ++ tail) (map (is_coded methods.info false) ds ++ flags) (map Some ds ++ records)
-      (header_in methods.info d.method_offset) refl (of-class class_no (n + 1) ds tail flags records later) ms
-      (subst (AreSame ms)
-      (append_assoc (listed_by methods class_no n d (header_in methods.info d.method_offset)) (listed_from methods class_no (n + 1) ds) tail) same) fit
+      grind (arith, by-header, append_assoc, of-class class_no (n + 1) ds tail flags records later)
 
   of-interface : (ds : List MethodDescriptor) (tail : List ListedMethod) (flags : List Bool) (records : List (Option MethodDescriptor))
       → Later tail flags records → Later tail (map (is_coded methods.info true) ds ++ flags) (map no_method ds ++ records)
@@ -171,17 +150,14 @@ module _ (interfaces : ℕ → Bool) (methods : Methods) where
       → Later tail flags records
       → Later (cond b [] (listed_from methods class_no 0 c.methods) ++ tail) (map (is_coded methods.info b) c.methods ++ flags)
       (cond b (map no_method c.methods) (map Some c.methods) ++ records)
-  of-either class_no c tail flags records true later = of-interface c.methods tail flags records later
-  of-either class_no c tail flags records false later = of-class class_no 0 c.methods tail flags records later
+  of-either class_no c tail flags records w later = grind (arith, of-interface, of-class)
 
   of-classes : (class_no : ℕ) (cs : List ClassDescriptor)
       → Later (listed_in interfaces methods class_no cs) (coded_in interfaces methods.info cs) (methods_for interfaces cs)
   unfolding Later
   of-classes class_no [] [] same fit = tt {0}
   of-classes class_no [] (m ∷ ms) same fit = absurd same
-  of-classes class_no (c ∷ cs) ms same fit =
-      of-either class_no c (listed_in interfaces methods (class_no + 1) cs) (coded_in interfaces methods.info cs) (methods_for interfaces cs)
-      (interfaces c.class_ref) (of-classes (class_no + 1) cs) ms same fit
+  of-classes class_no (c ∷ cs) ms same fit = grind (arith, of-either, of-classes (class_no + 1) cs)
 
 filled-total : (bs : List Bool) (ms : List ListedMethod) → handler_sum (filled bs ms) ≤ handler_total ms
 filled-total [] ms = omega arith
@@ -191,40 +167,17 @@ filled-total (true ∷ bs) (m ∷ ms) = omega (arith, filled-total bs ms)
 
 pub placed-fits : (p : PackageRecord) (ms : List ListedMethod) → faults (methods_of p) ms ≡ [] → MayBeLaid p (placed p ms)
 unfolding Later
-placed-fits p ms none =
-    let others = other_faults 0 ms (methods_of p) in
-    let registers = faults_from conditions.Registers 0 ms in
-    let handlers = faults_from conditions.Handlers 0 ms in
-    let lengths = faults_from conditions.Length 0 ms in
-    let total = total_faults ms in
-    let one = second-none others (registers ++ (handlers ++ (lengths ++ total))) none in
-    let two = second-none registers (handlers ++ (lengths ++ total)) one in
-    let three = second-none handlers (lengths ++ total) two in
-    let same = all-same 0 ms (methods_of p) (first-none others (registers ++ (handlers ++ (lengths ++ total))) none) in
-    let fit = all-fit 0 ms (first-none registers (handlers ++ (lengths ++ total)) one) (first-none handlers (lengths ++ total) two)
-    (first-none lengths total three) in
-    let few = few-counted (handler_total ms) (TooManyHandlers (min (handler_total ms) 18446744073709551615)) (ltb 255 (handler_total ms)) refl
-    (second-none lengths total three) in
-    record {
-      elements = of-classes (names_interface p.classes) p.methods 0 p.description.items.classes ms same fit;
-      few = omega (arith, few, filled-total (coded p) ms);
-    }
+placed-fits p ms none = grind (arith, second-none, all-same, first-none, all-fit, few-counted, min, ltb, of-classes, filled-total)
 
 pub none-refused : (fs : List AsmFault) → first_refused fs ≡ Ok (tt {0}) → fs ≡ []
-none-refused [] e = refl
-none-refused (f ∷ fs) e = absurd (cc)
+none-refused x e = grind (arith)
 
 -- ---- one flag after the other
 
 pub fill-step : (flags : List Bool) (n : ℕ) (b d : Bool) (out new : List (Option Laid)) (o : Option Laid) (ms rest : List ListedMethod)
     → n < length flags → b ≡ get_or flags n d → o ≡ first_filled b ms → rest ≡ rest_filled b ms → new ≡ out ++ o ∷ []
     → new ++ filled (drop (n + 1) flags) rest ≡ out ++ filled (drop n flags) ms
-fill-step flags n b d out new o ms rest h is first later e =
-    let left = drop (n + 1) flags in
-    ap (λ (l : List (Option Laid)). l ++ filled left rest) (e ∙ ap (λ (x : Option Laid). out ++ x ∷ []) first)
-    ∙ append_assoc out (first_filled b ms ∷ []) (filled left rest)
-    ∙ ap (λ (r : List ListedMethod). out ++ first_filled b ms ∷ filled left r) later
-    ∙ ap (λ (fs : List Bool). out ++ filled fs ms) (ap (λ (c : Bool). c ∷ left) is ∙ sym (drop_more flags n d h))
+fill-step flags n b d out new o ms rest h is first later e = grind (arith, append_assoc, drop_more)
 
 pub fill-end : (flags : List Bool) (n : ℕ) (out : List (Option Laid)) (ms : List ListedMethod) → length flags ≤ n
     → out ≡ out ++ filled (drop n flags) ms

@@ -1,12 +1,11 @@
 -- How far a text is read, and what it is then.
-use Rattle.std.proofs.Common.{◌≡◌, ◌≤◌, ◌+◌, ◌⊎◌, inl, inr, ℕ, List, [], ◌∷◌, ◌++◌, length, map}
+use Rattle.std.proofs.Common.{◌≡◌, ◌≤◌, ◌+◌, ◌⊎◌, inr, ℕ, List, [], ◌∷◌, ◌++◌, length, map}
 use Rattle.std.proofs.Common.{refl, sym, ap, subst, ◌∙◌, arith, rules, append_assoc, length-append}
-use Rattle.std.specs.Prelude.{All}
 use Rattle.std.proofs.lemmas.List.{append-nil, length-map}
 use Rattle.cap_listing.specs.declared.method.ListedMethod.{ListedMethod}
-use Rattle.cap_listing.specs.Words.{HasNone, IsCut, joined, line, text_of_lines}
-use Rattle.cap_listing.specs.Text.{IsMethod, Lists, Begins, lines_of}
-use Rattle.cap_listing.specs.Reading.{State, Reads, reads_nothing, reads_more, start, read_lines}
+use Rattle.cap_listing.specs.Words.{HasNone, IsCut, joined, text_of_lines}
+use Rattle.cap_listing.specs.Text.{Lists, Begins}
+use Rattle.cap_listing.specs.Reading.{State, Reads, reads_nothing, reads_more, start}
 use Rattle.cap_listing.specs.Fault.{AreFree, fed, IsBadLine, IsCutShort, IsNotListing, IsReadLine, IsNoLine}
 use Rattle.cap_listing.specs.Assembler.{between}
 use Rattle.cap_listing.proofs.Words.{text-append}
@@ -35,11 +34,7 @@ one-read text rest bytes after number st next h cut l =
       lines = ls;
       reads = reads-append start h.lines st (l.words ∷ []) next h.reads
           (reads_more st l.words next [] next l.next (reads_nothing next));
-      is = h.is ∙ ap (λ (t : List ℕ). text_of_lines h.lines ++ t) (cut.is ∙ ap (λ (b : List ℕ). b ++ 10 ∷ after) l.is)
-          ∙ sym (ap (λ (t : List ℕ). t ++ after)
-          (text-append h.lines (l.words ∷ []) ∙ ap (λ (t : List ℕ). text_of_lines h.lines ++ t) (append-nil (line l.words)))
-          ∙ append_assoc (text_of_lines h.lines) (line l.words) after
-          ∙ ap (λ (t : List ℕ). text_of_lines h.lines ++ t) (append_assoc (joined l.words) (10 ∷ []) after));
+      is = grind (arith, text-append, append-nil, append_assoc);
       count = omega (arith, h.count, length-append h.lines (l.words ∷ []));
     }
 
@@ -55,12 +50,10 @@ lines-fed (l ∷ ls) = ap (λ (t : List ℕ). joined l ++ 10 ∷ t) (lines-fed l
 
 few-lines : (ls : Lines) → length ls ≤ length (text_of_lines ls)
 few-lines [] = omega arith
-few-lines (l ∷ ls) =
-    omega (arith, few-lines ls, length-append (line l) (text_of_lines ls), length-append (joined l) (10 ∷ []))
+few-lines (l ∷ ls) = grind (arith, length-append, few-lines ls)
 
 pub few-read : (text rest : List ℕ) (number : ℕ) (st : State) → HasReadTo text rest number st → number ≤ length text + 1
-few-read text rest number st h =
-    omega (arith, h.count, few-lines h.lines, ap length h.is, length-append (text_of_lines h.lines) rest)
+few-read text rest number st h = grind (arith, few-lines, length-append)
 
 -- ---- how it ends
 
@@ -77,16 +70,7 @@ module _ (text rest : List ℕ) (number : ℕ) (st : State) (h : HasReadTo text 
   }
 
   pub line-bad : (bytes after : List ℕ) → IsCut 10 rest bytes after → IsNoLine st bytes → IsNotListing text number
-  line-bad bytes after cut none =
-      not-listing
-      (inl (record {
-        bad = bytes;
-        after = after;
-        is = cut.is;
-        free = cut.free;
-        none = λ b. bad-line h.lines st bytes h.reads cut.free none
-            (subst (λ (t : List ℕ). Begins (t ++ (bytes ++ 10 ∷ []))) (lines-fed h.lines) b);
-      }))
+  line-bad bytes after cut none = grind (arith, not-listing, bad-line, lines-fed)
 
   pub cut-short : HasNone 10 rest → ((ms : List ListedMethod) → rest ≡ [] → st ≡ between ms → ⊥) → IsNotListing text number
   cut-short free none =
@@ -99,10 +83,4 @@ module _ (text rest : List ℕ) (number : ℕ) (st : State) (h : HasReadTo text 
       }))
 
   pub whole-text : (ms : List ListedMethod) → rest ≡ [] → st ≡ between ms → Lists ms text
-  whole-text ms empty e =
-      let read = reads-lines start h.lines st start-state h.reads in
-      let lines : lines_of ms ≡ h.lines = sym (append-nil (lines_of ms)) ∙ ap read_lines (sym e) ∙ read.lines_are in
-      record {
-        methods = subst (λ (s : State). All IsMethod s.done) e read.is.done;
-        is = h.is ∙ ap (λ (t : List ℕ). text_of_lines h.lines ++ t) empty ∙ append-nil (text_of_lines h.lines) ∙ ap text_of_lines (sym lines);
-      }
+  whole-text ms empty e = grind (arith, reads-lines, start-state, append-nil)

@@ -1,5 +1,5 @@
 -- The methods of a package that is written with listed methods in place of its own are the listed ones.
-use Rattle.std.proofs.Common.{◌≡◌, ◌+◌, ◌-◌, ℕ, Bool, true, false, not, cond, ◌&&◌, eqb, List, [], ◌∷◌, ◌++◌, length, take, drop, map}
+use Rattle.std.proofs.Common.{◌≡◌, ◌+◌, ◌-◌, ℕ, Bool, true, false, not, cond, eqb, List, [], ◌∷◌, ◌++◌, length, take, drop, map}
 use Rattle.std.proofs.Common.{Option, Some}
 use Rattle.std.proofs.Common.{refl, sym, ap, subst, ◌∙◌, arith, append_assoc, suc}
 use Rattle.std.proofs.lemmas.Bool.{eqb-true, and_parts}
@@ -9,30 +9,30 @@ use Rattle.cap_method.specs.MethodFormat.{Header}
 use Rattle.cap_desc.specs.DescriptorFormat.{MethodDescriptor, ClassDescriptor}
 use Rattle.cap_desc.specs.Members.{methods_but}
 use Rattle.cap_components.specs.Components.{Methods}
-use Rattle.cap_components.specs.MethodPlaces.{code_start}
 use Rattle.cap_components.specs.Parts.{Lent}
-use Rattle.cap_components.specs.PackageRecord.{PackageRecord, names_interface, handlers_of}
+use Rattle.cap_components.specs.PackageRecord.{PackageRecord, names_interface}
 use Rattle.cap_package.specs.HeaderChecks.{header_in, is_abstract}
 use Rattle.cap_package.specs.StandsFor.{StandsFor}
-use Rattle.cap_laying.specs.HandlerTable.{handler_entry, entries_at, stops}
-use Rattle.cap_laying.specs.HeaderBytes.{header_of, is_compact}
+use Rattle.cap_laying.specs.HandlerTable.{handler_entry, entries_at}
+use Rattle.cap_laying.specs.HeaderBytes.{header_of}
 use Rattle.cap_laying.specs.Member.{numbers_of}
 use Rattle.cap_write.proofs.Sources.{are_laid_for}
 use Rattle.jc_decode.specs.declared.symbols.Laid.{Laid}
 use Rattle.jc_decode.specs.declared.symbols.LaidHandler.{LaidHandler}
 use Rattle.law_package.specs.Changes.{changes, changes_of, laid_but, now_at, sources_from}
-use Rattle.law_package.specs.Rewritten.{bare_class, bare_method, IsRewritten}
+use Rattle.law_package.specs.Rewritten.{bare_class, IsRewritten}
 use Rattle.law_package.specs.Written.{HasCode, IsAs}
 use Rattle.cap_package.proofs.Agreed.{agrees}
 use Rattle.law_package.proofs.Bare.{but_same, same_interfaces}
-use Rattle.law_package.proofs.Facts.{Fact, facts, plain}
+use Rattle.law_package.proofs.Facts.{Fact, facts}
 use Rattle.law_package.proofs.Headers.{moved}
 use Rattle.law_package.proofs.Lists.{Each}
 use Rattle.cap_listing.specs.declared.method.ListedMethod.{ListedMethod}
 use Rattle.cap_listing.specs.declared.fault.AsmFault.{AsmFault}
 use Rattle.cap_listing.specs.declared.fault.AsmFault.TheVariants.{OtherMethod}
 use Rattle.cap_listing.specs.Methods.{laid_handler, laid_of, listed_by, listed_from, listed_in, methods_of}
-use Rattle.cap_listing.specs.Placing.{is_same, other_faults, faults, is_coded, coded, coded_in, first_filled, rest_filled, filled, placed, has_code}
+use Rattle.cap_listing.specs.Placing.{is_same, other_faults, faults, is_coded, coded, coded_in}
+use Rattle.cap_listing.specs.Placing.{first_filled, rest_filled, filled, placed, has_code}
 use Rattle.cap_listing.proofs.Placed.{some-none, first-none, placed-fits}
 
 -- ---- the numbers of methods in place of others
@@ -48,22 +48,17 @@ AreNumbered (m ∷ ms) [] = ⊥
 AreNumbered (m ∷ ms) (n ∷ ns) = HasNumbers m n × AreNumbered ms ns
 
 same-numbers : (m n : ListedMethod) → is_same m n ≡ true → HasNumbers m n
-same-numbers m n e =
-    let numbers = (and_parts (eqb m.class_no n.class_no && eqb m.method_no n.method_no) (eqb m.laid.nargs n.laid.nargs) e).0 in
-    let both = and_parts (eqb m.class_no n.class_no) (eqb m.method_no n.method_no) numbers in
-    record { class_no = eqb-true m.class_no n.class_no both.0; method_no = eqb-true m.method_no n.method_no both.1 }
+same-numbers m n e = grind (arith, and_parts, eqb, eqb-true)
 
 one-numbered : (k : ℕ) (m n : ListedMethod) (ms ns : List ListedMethod) (more : List AsmFault) (b : Bool) → is_same m n ≡ b
     → (more ≡ [] → AreNumbered ms ns) → cond b more (OtherMethod k ∷ more) ≡ [] → AreNumbered (m ∷ ms) (n ∷ ns)
-one-numbered k m n ms ns more true e rest h = (same-numbers m n e, rest h)
-one-numbered k m n ms ns more false e rest h = absurd (some-none (OtherMethod k) more h)
+one-numbered k m n ms ns more a e rest h = grind (arith, same-numbers, some-none)
 
 all-numbered : (k : ℕ) (ms ns : List ListedMethod) → other_faults k ms ns ≡ [] → AreNumbered ms ns
 all-numbered k [] [] e = tt {0}
 all-numbered k [] (n ∷ ns) e = absurd (some-none (OtherMethod k) (other_faults (k + 1) [] ns) e)
 all-numbered k (m ∷ ms) [] e = absurd (some-none (OtherMethod k) (other_faults (k + 1) ms []) e)
-all-numbered k (m ∷ ms) (n ∷ ns) e =
-    one-numbered k m n ms ns (other_faults (k + 1) ms ns) (is_same m n) refl (all-numbered (k + 1) ms ns) e
+all-numbered k (m ∷ ms) (n ∷ ns) e = grind (arith, one-numbered, all-numbered (k + 1) ms ns)
 
 -- ---- elements, one after the other
 
@@ -83,22 +78,14 @@ filled-length (b ∷ bs) ms = ap suc (filled-length bs (rest_filled b ms))
 -- ---- code that is laid is listed as it was
 
 handler-back : (start : ℕ) (stop : Bool) (h : LaidHandler) → laid_handler start (handler_entry start stop h) ≡ h
-handler-back start stop h =
-    let a : (start + h.start) - start ≡ h.start = omega arith in
-    let b : (start + h.entry) - start ≡ h.entry = omega arith in
-    λ i. record { start = a i; length = h.length; entry = b i; pool = h.pool }
+handler-back start stop h = grind (arith)
 
 handlers-back : (start : ℕ) (hs : List LaidHandler) → map (laid_handler start) (entries_at start hs) ≡ hs
 handlers-back start [] = refl
-handlers-back start (h ∷ hs) =
-    ap (λ (x : LaidHandler). x ∷ map (laid_handler start) (entries_at start hs)) (handler-back start (stops h hs) h)
-    ∙ ap (λ (l : List LaidHandler). h ∷ l) (handlers-back start hs)
+handlers-back start (h ∷ hs) = grind (arith, handler-back, handlers-back start hs)
 
 laid-back : (q : PackageRecord) (d : MethodDescriptor) (l : Laid) → HasCode q l d → laid_of q.methods d (header_of (numbers_of l)) ≡ l
-laid-back q d l is =
-    let start = code_start q.methods.info d in
-    let handlers : map (laid_handler start) (handlers_of q d) ≡ l.handlers = ap (map (laid_handler start)) is.handlers ∙ handlers-back start l.handlers in
-    λ i. record { code = is.code i; handlers = handlers i; max_stack = l.max_stack; nargs = l.nargs; max_locals = l.max_locals }
+laid-back q d l is = grind (arith, handlers-back)
 
 module _ (p q : PackageRecord) where
   abbrev Become : ℕ → List MethodDescriptor → List (Option Laid) → List MethodDescriptor → Type 0
@@ -124,19 +111,7 @@ module _ (p q : PackageRecord) where
         num,
       )
   one-by k n o d h [] rest false e there num is = absurd num
-  one-by k n o d h (m ∷ ms) rest false e there num is =
-      let g = header_of (numbers_of m.laid) in
-      let laid = laid-back q d m.laid is in
-      let class_no = sym num.0.class_no in
-      let method_no = sym num.0.method_no in
-      let same : record { class_no = k; method_no = n; laid = laid_of q.methods d g } ≡ m =
-      λ i. record { class_no = class_no i; method_no = method_no i; laid = laid i } in (
-        ap (λ (x : Option Header). listed_by q.methods k n d x ++ ms) is.header
-            ∙ ap (λ (c : Bool). cond c [] (record { class_no = k; method_no = n; laid = laid_of q.methods d g } ∷ []) ++ ms)
-            (plain (is_compact (numbers_of m.laid)))
-            ∙ ap (λ (x : ListedMethod). x ∷ ms) same,
-        num.1,
-      )
+  one-by k n o d h (m ∷ ms) rest false e there num is = grind (arith, laid-back, cond)
 
   -- ---- the methods of a class
 
@@ -168,10 +143,7 @@ module _ (p q : PackageRecord) where
       let front = listed_by q.methods k n d (header_in q.methods.info d.method_offset) in
       let back = listed_from q.methods k (n + 1) ds in
       record {
-        is = append_assoc front back (after (flags false os) (rest_filled flag ms))
-            ∙ ap (λ (c : Bool). front ++ (back ++ after (flags false os) (rest_filled c ms))) flag_is
-            ∙ ap (λ (l : List ListedMethod). front ++ l) more.is
-            ∙ one.0;
+        is = grind (arith, append_assoc);
         rest = subst (λ (c : Bool). AreNumbered (after (flags false os) (rest_filled c ms)) tail) (sym flag_is) more.rest;
       }
 
@@ -191,8 +163,7 @@ module _ (p q : PackageRecord) where
   become-append x (o ∷ os) more [] others ds farther l d be = absurd (omega (arith, l))
   become-append x (o ∷ os) more (y ∷ ls) others [] farther l d be = absurd (omega (arith, d))
   become-append x (o ∷ os) more (y ∷ ls) others (e ∷ ds) farther l d be =
-      let rest = become-append (x + 1) os more ls others ds farther (omega (arith, l)) (omega (arith, d)) be.1 in
-      ((be.0, rest.0), rest.1)
+      grind (arith, become-append (x + 1) os more ls others ds farther (omega (arith, l)) (omega (arith, d)) be.1)
 
   module _ (set : ℕ → Bool) where
     Later : ℕ → List ClassDescriptor → List ClassDescriptor → Type 0
@@ -211,49 +182,14 @@ module _ (p q : PackageRecord) where
         (cond b (methods_but set ds) (d.methods ++ methods_but set ds))
         → cond b [] (listed_from q.methods k 0 d.methods) ++ listed_in set q.methods (k + 1) ds ≡ ms
     unfolding Later
-    of-kind k x c d cs ds ms true long later num be =
-        let fs = flags true c.methods in
-        let rest = coded_in set p.methods.info cs in
-        let size : length (filled fs ms) ≡ length c.methods = filled-length fs ms ∙ length-map c.methods (is_coded p.methods.info true) in
-        let dropped : drop (length c.methods) (filled (fs ++ rest) ms) ≡ filled rest ms =
-        ap (λ (l : List (Option Laid)). drop (length c.methods) l) (filled-append fs rest ms)
-        ∙ ap (λ (n : ℕ). drop n (filled fs ms ++ filled rest (after fs ms))) (sym size)
-        ∙ drop-append_seam (filled fs ms) (filled rest (after fs ms))
-        ∙ ap (filled rest) (no-flags c.methods ms) in
-        later x ms num (subst (λ (l : List (Option Laid)). Become x (methods_but set cs) (laid_but set cs l) (methods_but set ds)) dropped be)
-    of-kind k x c d cs ds ms false long later num be =
-        let fs = flags false c.methods in
-        let rest = coded_in set p.methods.info cs in
-        let old = methods_but set cs in
-        let new = methods_but set ds in
-        let next = after fs ms in
-        let size : length (filled fs ms) ≡ length c.methods = filled-length fs ms ∙ length-map c.methods (is_coded p.methods.info false) in
-        let all = filled-append fs rest ms in
-        let taken : take (length c.methods) (filled (fs ++ rest) ms) ≡ filled fs ms =
-        ap (λ (l : List (Option Laid)). take (length c.methods) l) all
-        ∙ ap (λ (n : ℕ). take n (filled fs ms ++ filled rest next)) (sym size) ∙ take-append_seam (filled fs ms) (filled rest next) in
-        let dropped : drop (length c.methods) (filled (fs ++ rest) ms) ≡ filled rest next =
-        ap (λ (l : List (Option Laid)). drop (length c.methods) l) all
-        ∙ ap (λ (n : ℕ). drop n (filled fs ms ++ filled rest next)) (sym size) ∙ drop-append_seam (filled fs ms) (filled rest next) in
-        let cut : Become x (c.methods ++ old) (filled fs ms ++ laid_but set cs (filled rest next)) (d.methods ++ new) =
-        subst (λ (l : List (Option Laid)). Become x (c.methods ++ old) (l ++ laid_but set cs (filled rest next)) (d.methods ++ new)) taken
-        (subst (λ (l : List (Option Laid)). Become x (c.methods ++ old)
-        (take (length c.methods) (filled (fs ++ rest) ms) ++ laid_but set cs l) (d.methods ++ new)) dropped be) in
-        let parts = become-append x c.methods old (filled fs ms) (laid_but set cs (filled rest next)) d.methods new size (long refl) cut in
-        let goes = of-methods k 0 x c.methods d.methods ms (listed_in set p.methods (k + 1) cs) (long refl) num parts.0 in
-        ap (λ (l : List ListedMethod). listed_from q.methods k 0 d.methods ++ l) (later parts.1.0 next goes.rest parts.1.1) ∙ goes.is
+    of-kind k x c d cs ds ms b long later num be =
+        grind (arith, filled-length, length-map, filled-append, drop-append_seam, no-flags, take-append_seam, become-append, of-methods)
 
     same-reference : (c d : ClassDescriptor) → bare_class set d ≡ bare_class set c → d.class_ref ≡ c.class_ref
     same-reference c d e = ap (λ (x : ClassDescriptor). x.class_ref) e
 
     same-length : (c d : ClassDescriptor) → bare_class set d ≡ bare_class set c → set c.class_ref ≡ false → length d.methods ≡ length c.methods
-    same-length c d e b =
-        let told : set d.class_ref ≡ false = ap set (same-reference c d e) ∙ b in
-        sym (length-map d.methods bare_method)
-        ∙ sym (ap (λ (x : Bool). length (cond x d.methods (map bare_method d.methods))) told)
-        ∙ ap (λ (x : ClassDescriptor). length x.methods) e
-        ∙ ap (λ (x : Bool). length (cond x c.methods (map bare_method c.methods))) b
-        ∙ length-map c.methods bare_method
+    same-length c d e b = grind (arith, same-reference, length-map, cond)
 
     of-classes : (k : ℕ) (cs ds : List ClassDescriptor) → map (bare_class set) ds ≡ map (bare_class set) cs → Later k cs ds
     unfolding Later
@@ -273,9 +209,7 @@ module _ (p q : PackageRecord) where
 listed-same : (s t : ℕ → Bool) (methods : Methods) (k : ℕ) (cs : List ClassDescriptor) → ((r : ℕ) → s r ≡ t r)
     → listed_in s methods k cs ≡ listed_in t methods k cs
 listed-same s t methods k [] h = refl
-listed-same s t methods k (c ∷ cs) h =
-    ap (λ (b : Bool). cond b [] (listed_from methods k 0 c.methods) ++ listed_in s methods (k + 1) cs) (h c.class_ref)
-    ∙ ap (λ (l : List ListedMethod). cond (t c.class_ref) [] (listed_from methods k 0 c.methods) ++ l) (listed-same s t methods (k + 1) cs h)
+listed-same s t methods k (c ∷ cs) h = grind (arith, cond, listed-same s t methods (k + 1) cs h)
 
 pub methods-replaced : (parts : List Lent) (p q : PackageRecord) (ms : List ListedMethod) → StandsFor parts p → faults (methods_of p) ms ≡ []
     → IsRewritten p (placed p ms) q → methods_of q ≡ ms

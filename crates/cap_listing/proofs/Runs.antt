@@ -19,7 +19,8 @@ use Rattle.jc_decode.proofs.Decoded.{IsWithin-decoded}
 use Rattle.jc_decode.proofs.OwnBytes.{AreBytes-drop}
 use Rattle.cap_listing.specs.declared.method.ListedMethod.{ListedMethod}
 use Rattle.cap_listing.specs.Numbers.{numbers_of}
-use Rattle.cap_listing.specs.Text.{IsMethod, IsHandler, head_words, instruction_words, bytes_words, handler_words, end_words, rest_lines, code_lines}
+use Rattle.cap_listing.specs.Text.{IsMethod, IsHandler, head_words, instruction_words, bytes_words}
+use Rattle.cap_listing.specs.Text.{handler_words, end_words, rest_lines, code_lines}
 use Rattle.cap_listing.specs.Text.{begun_lines, lines_of}
 use Rattle.cap_listing.specs.Reading.{State, block_words, next_head, next_instruction, next_bytes, next_handler, next_end, Reads}
 use Rattle.cap_listing.specs.Reading.{reads_nothing, reads_more, start}
@@ -136,16 +137,7 @@ module _ (done : List ListedMethod) (m : ListedMethod) (ok : IsMethod m) where
       )
 
   bare-method : IsMethod (part m [] [])
-  bare-method = record {
-    class_no = ok.class_no;
-    method_no = ok.method_no;
-    max_stack = ok.max_stack;
-    nargs = ok.nargs;
-    max_locals = ok.max_locals;
-    bytes = λ k. omega arith;
-    few = omega arith;
-    handlers = λ k d l. absurd (omega (arith, l));
-  }
+  bare-method = grind (arith)
 
   -- a whole method
   reads-method : Reads (record { done = done; begun = None }) (begun_lines m ++ end_words ∷ []) (record { done = done ++ m ∷ []; begun = None })

@@ -1,7 +1,7 @@
 -- The numbers of an instruction fit 32 bits.
-use Rattle.std.proofs.Common.{◌≡◌, ◌≤◌, ◌+◌, ◌*◌, ℕ, zero, suc, Bool, true, false, Result, Ok, Err, List, [], ◌∷◌}
+use Rattle.std.proofs.Common.{◌≡◌, ◌≤◌, ◌+◌, ◌*◌, ℕ, zero, suc, Bool, true, Result, Ok, Err, List, [], ◌∷◌}
 use Rattle.std.proofs.Common.{◌++◌, map, refl, sym, subst, arith, rules}
-use Rattle.std.specs.Prelude.{ℤ, pos, negsuc, FitsSigned, unsigned_abs}
+use Rattle.std.specs.Prelude.{ℤ, pos, FitsSigned}
 use Rattle.std.specs.Int.{w16, w32}
 use Rattle.std.specs.List.{range_with_len}
 use Rattle.std.specs.Result.{result_unwrap_or}
@@ -16,7 +16,7 @@ use Rattle.jc_decode.specs.declared.insn.Insn.{Insn}
 use Rattle.jc_decode.specs.declared.insn.Case.{Case}
 use Rattle.jc_decode.specs.Layout.{total_width}
 use Rattle.cap_bytes.specs.Bytes.{AreBytes}
-use Rattle.jc_decode.specs.Decoding.{decoded, operand_at, range_count, FitsOperand, FitsLayout}
+use Rattle.jc_decode.specs.Decoding.{decoded, operand_at, FitsOperand, FitsLayout}
 use Rattle.jc_decode.specs.Cases.{cases, cases_in, range_case, pair_case}
 use Rattle.jc_decode.specs.Listing.{jumps, target}
 use Rattle.jc_decode.proofs.Decoded.{Begins-decoded}
@@ -31,26 +31,15 @@ shown-append (y ∷ ys) zs h k = (h.0, shown-append ys zs h.1 k)
 
 -- and where it is shown
 operand-shown : (o : Operand) (z : ℤ) → FitsSigned w32 z → AreShown (shown_operand o z)
-operand-shown Absent z h = search rules
-operand-shown U1 z h = (h, search rules)
-operand-shown U2 z h = (h, search rules)
-operand-shown S1 z h = (h, search rules)
-operand-shown S2 z h = (h, search rules)
-operand-shown S4 z h = (h, search rules)
-operand-shown DupWords z h = (h, search rules)
-operand-shown SwapWords z h = (h, search rules)
-operand-shown ArrayType z h = (h, search rules)
-operand-shown TestedType z h = (h, search rules)
+operand-shown x z h = grind (arith)
 
 -- a target of a short distance
 target-fits : (place : ℕ) (x : ℤ) → place ≤ 65535 → FitsSigned w16 x → FitsSigned w32 (target place x)
-target-fits place (pos n) h k = omega arith
-target-fits place (negsuc n) h k = grind (arith)
+target-fits place y h k = grind (arith)
 
 first-fits : (j : Bool) (place : ℕ) (x : ℤ) → place ≤ 65535 → FitsSigned w32 x → (j ≡ true → FitsSigned w16 x)
     → FitsSigned w32 (shown_first j place x)
-first-fits true place x h k f = target-fits place x h (f refl)
-first-fits false place x h k f = k
+first-fits x place x2 h k f = grind (arith, target-fits)
 
 -- what is read of a table
 read-fits : (o : Operand) (xs : List ℕ) (p : ℕ) → AreBytes xs → FitsOperand o (result_unwrap_or (operand_at o xs p) (pos 0))
@@ -84,9 +73,7 @@ pairs-shown key xs place t (suc n) a are h =
     (fits-wide key _ (read-fits key xs _ are), (target-fits place _ h (read-fits S2 xs _ are), pairs-shown key xs place t n (a + 1) are h))
 
 table-shown : (k : Cases) (xs : List ℕ) (place t : ℕ) (i : Insn) → AreBytes xs → place ≤ 65535 → AreShown (shown_cases k place (cases_in k xs t i))
-table-shown NoCases xs place t i are h = search rules
-table-shown Range xs place t i are h = ranges-shown xs place t i.y (range_count i.y i.z) 0 are h
-table-shown (Pairs key) xs place t i are h = pairs-shown key xs place t (unsigned_abs i.y) 0 are h
+table-shown x xs place t i are h = grind (arith, ranges-shown, pairs-shown)
 
 pub numbers-shown : (place : ℕ) (code : List ℕ) (at : ℕ) (i : Insn) → place ≤ 65535 → AreBytes code → decoded code at ≡ Ok i
     → AreShown (numbers_of place i (cases code at i))

@@ -1,13 +1,12 @@
 -- What is read is what the lines list: each line is that of the state which it leads to.
-use Rattle.std.proofs.Common.{◌≡◌, ◌≢◌, ◌<◌, ◌≤◌, ◌+◌, ℕ, zero, suc, true, false, Some, None, Option}
-use Rattle.std.proofs.Common.{List, [], ◌∷◌, ◌++◌, length, map, refl, sym, ap, subst, ◌∙◌, append_assoc}
+use Rattle.std.proofs.Common.{◌≡◌, ◌≢◌, ◌<◌, ◌≤◌, ◌+◌, ℕ, zero, suc, true, false, Some, None, Option, arith}
+use Rattle.std.proofs.Common.{List, [], ◌∷◌, ◌++◌, length, refl, sym, ap, subst, ◌∙◌, append_assoc}
 use Rattle.std.specs.Prelude.{All}
 use Rattle.std.proofs.lemmas.List.{append-nil, map-append}
 use Rattle.std.proofs.lemmas.List.Elements.{All-append, All-cons, All-nil}
 use Rattle.std.proofs.lemmas.Bool.{false≢true}
 use Rattle.jc_decode.specs.declared.symbols.LaidHandler.{LaidHandler}
 use Rattle.cap_bytes.specs.Bytes.{AreBytes}
-use Rattle.jc_decode.specs.Listing.{listing_end}
 use Rattle.cap_listing.specs.declared.method.ListedMethod.{ListedMethod}
 use Rattle.cap_listing.specs.Text.{IsMethod, IsHandler, head_words, handler_words, end_words, code_lines, begun_lines, lines_of}
 use Rattle.cap_listing.specs.Reading.{Begun, State, IsBare, with_bytes, with_handler}
@@ -26,9 +25,7 @@ pub record Grows (before : State) (words : List (List ℕ)) (after : State) : Ty
 
 lines-append : (ms : List ListedMethod) (m : ListedMethod) → lines_of (ms ++ m ∷ []) ≡ lines_of ms ++ (begun_lines m ++ end_words ∷ [])
 lines-append [] m = refl
-lines-append (n ∷ ms) m =
-    ap (λ (ls : Lines). begun_lines n ++ (end_words ∷ ls)) (lines-append ms m)
-    ∙ sym (append_assoc (begun_lines n) (end_words ∷ lines_of ms) (begun_lines m ++ end_words ∷ []))
+lines-append (n ∷ ms) m = grind (arith, append_assoc, lines-append ms m)
 
 bytes-cons : (x : ℕ) (xs : List ℕ) → x < 256 → AreBytes xs → AreBytes (x ∷ xs)
 bytes-cons x xs h k zero = h
@@ -51,10 +48,7 @@ lines-at st o e = ap (λ (x : Option Begun). lines_of st.done ++ lines_begun x) 
 -- a line that is added to those of the method
 added : (st : State) (b c : Begun) (words : List (List ℕ)) → st.begun ≡ Some b → begun_lines c.method ≡ begun_lines b.method ++ words ∷ []
     → lines_of st.done ++ begun_lines c.method ≡ read_lines st ++ words ∷ []
-added st b c words e more =
-    ap (λ (ls : Lines). lines_of st.done ++ ls) more
-    ∙ sym (append_assoc (lines_of st.done) (begun_lines b.method) (words ∷ []))
-    ∙ ap (λ (ls : Lines). ls ++ words ∷ []) (sym (lines-at st (Some b) e))
+added st b c words e more = grind (arith, append_assoc, lines-at)
 
 grows : (before after : State) (words : List (List ℕ)) (st : State) → after ≡ st → IsState st
     → read_lines st ≡ read_lines before ++ words ∷ [] → Grows before words after
@@ -64,29 +58,14 @@ grows before after words st e is lines = record { is = subst IsState (sym e) is;
 code-grows : (m : ListedMethod) (bytes : List ℕ) (w : List (List ℕ)) → m.laid.handlers ≡ []
     → code_lines (m.laid.code ++ bytes) ≡ code_lines m.laid.code ++ w ∷ []
     → begun_lines (with_bytes m bytes) ≡ begun_lines m ++ w ∷ []
-code-grows m bytes w none more =
-    ap (λ (hs : List LaidHandler). head_words m ∷ (code_lines (m.laid.code ++ bytes) ++ map handler_words hs)) none
-    ∙ ap (λ (ls : Lines). head_words m ∷ ls) (append-nil (code_lines (m.laid.code ++ bytes)) ∙ more)
-    ∙ ap (λ (ls : Lines). head_words m ∷ (ls ++ w ∷ [])) (sym (append-nil (code_lines m.laid.code)))
-    ∙ ap (λ (hs : List LaidHandler). head_words m ∷ ((code_lines m.laid.code ++ map handler_words hs) ++ w ∷ [])) (sym none)
+code-grows m bytes w none more = grind (arith, append-nil)
 
 handlers-grow : (m : ListedMethod) (h : LaidHandler) → begun_lines (with_handler m h) ≡ begun_lines m ++ handler_words h ∷ []
-handlers-grow m h =
-    ap (λ (ls : Lines). head_words m ∷ (code_lines m.laid.code ++ ls)) (map-append handler_words m.laid.handlers (h ∷ []))
-    ∙ ap (λ (ls : Lines). head_words m ∷ ls) (sym (append_assoc (code_lines m.laid.code) (map handler_words m.laid.handlers) (handler_words h ∷ [])))
+handlers-grow m h = grind (arith, map-append, append_assoc)
 
 method-with-bytes : (m : ListedMethod) (bytes : List ℕ) → IsMethod m → AreBytes bytes → length (m.laid.code ++ bytes) ≤ 65535
     → IsMethod (with_bytes m bytes)
-method-with-bytes m bytes h are few = record {
-  class_no = h.class_no;
-  method_no = h.method_no;
-  max_stack = h.max_stack;
-  nargs = h.nargs;
-  max_locals = h.max_locals;
-  bytes = bytes-append m.laid.code bytes h.bytes are;
-  few = few;
-  handlers = h.handlers;
-}
+method-with-bytes m bytes h are few = grind (arith, bytes-append)
 
 method-with-handler : (m : ListedMethod) (x : LaidHandler) → IsMethod m → IsHandler x → IsMethod (with_handler m x)
 method-with-handler m x h fits = record {
@@ -101,19 +80,10 @@ method-with-handler m x h fits = record {
 }
 
 bare-lines : (m : ListedMethod) → IsBare m → begun_lines m ≡ head_words m ∷ []
-bare-lines m h =
-    ap (λ (hs : List LaidHandler). head_words m ∷ (code_lines m.laid.code ++ map handler_words hs)) h.handlers
-    ∙ ap (λ (ls : Lines). head_words m ∷ ls) (append-nil (code_lines m.laid.code) ∙ ap code_lines h.code ∙ lines-none)
+bare-lines m h = grind (arith, append-nil, lines-none)
 
 pub next-grows : (before : State) (words : List (List ℕ)) (after : State) → IsState before → Next before words after → Grows before words after
-next-grows before words after is (next_head n) =
-    let m = n.method in
-    let b : Begun = record { method = m; closed = false } in
-    let none : listing_end m.laid.code ≡ length m.laid.code = ap listing_end n.bare.code ∙ end-none ∙ sym (ap length n.bare.code) in
-    grows before after words (record { done = before.done; begun = Some b }) n.to
-    (open-state before.done b is.done (record { method = n.bare.is; whole = λ _. (n.bare.handlers, none) }))
-    (ap (λ (ls : Lines). lines_of before.done ++ ls) (bare-lines m n.bare ∙ ap (λ (w : List (List ℕ)). w ∷ []) (sym n.are))
-    ∙ ap (λ (ls : Lines). ls ++ words ∷ []) (sym (lines-at before None n.from ∙ append-nil (lines_of before.done))))
+next-grows before words after is (next_head n) = grind (arith, end-none, grows, open-state, bare-lines, lines-at, append-nil)
 next-grows before words after is (next_instruction n) =
     let m = n.method in
     let b : Begun = record { method = m; closed = false } in

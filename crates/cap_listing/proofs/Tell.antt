@@ -2,7 +2,7 @@
 use Rattle.std.proofs.Common.{◌≡◌, ◌<◌, ◌≤◌, ◌+◌, ◌*◌, ◌-◌, ℕ, zero, suc, Bool, true, false, Result}
 use Rattle.std.proofs.Common.{Ok, Err, List, ◌∷◌, ◌++◌, length, take, drop, map, replicate, get_or, refl, sym, ap, subst, ◌∙◌, arith}
 use Rattle.std.proofs.Common.{append_assoc}
-use Rattle.std.specs.Prelude.{ℤ, pos, ◌+ℤ◌, ◌-ℤ◌, unsigned_abs}
+use Rattle.std.specs.Prelude.{ℤ, pos, ◌+ℤ◌, ◌-ℤ◌}
 use Rattle.std.specs.List.{range_with_len}
 use Rattle.std.specs.Result.{result_unwrap_or}
 use Rattle.std.proofs.Math.IntN.{+ℤ-neg_ℤ_cancel, +ℤ_comm}
@@ -10,7 +10,7 @@ use Rattle.std.proofs.lemmas.List.{get_or-replicate, take_all}
 use Rattle.std.proofs.lemmas.Bool.{false≢true}
 use Rattle.std.proofs.lemmas.List.FromFn.{get_or-map-range_with_len}
 use Rattle.jc_decode.specs.declared.layout.Operand.{Operand}
-use Rattle.jc_decode.specs.declared.layout.Operand.TheVariants.{Absent, U1, U2, S1, S2, S4, DupWords, SwapWords, ArrayType, TestedType}
+use Rattle.jc_decode.specs.declared.layout.Operand.TheVariants.{S2, S4}
 use Rattle.jc_decode.specs.declared.layout.Cases.{Cases}
 use Rattle.jc_decode.specs.declared.layout.Cases.TheVariants.{Range, Pairs}
 use Rattle.jc_decode.specs.declared.layout.Cases.TheVariants.{Absent as NoCases}
@@ -20,7 +20,7 @@ use Rattle.jc_decode.specs.declared.insn.Insn.{Insn}
 use Rattle.jc_decode.specs.declared.insn.Case.{Case}
 use Rattle.jc_decode.specs.Layout.{layout_of, opcode, operand_width, total_width}
 use Rattle.cap_bytes.specs.Bytes.{AreBytes}
-use Rattle.jc_decode.specs.Decoding.{operand_at, pair_width, range_count, FitsLayout}
+use Rattle.jc_decode.specs.Decoding.{operand_at, pair_width, FitsLayout}
 use Rattle.jc_decode.specs.Cases.{cases, cases_in, range_case, pair_case, offset_at}
 use Rattle.jc_decode.specs.Listing.{jumps, target}
 use Rattle.jc_decode.specs.Encoding.{operand_bytes, head_bytes, table_bytes, encoding, encoding_by}
@@ -40,8 +40,7 @@ distance : (place : ℕ) (x : ℤ) → target place x -ℤ pos place ≡ x
 distance place x = ap (λ (z : ℤ). z -ℤ pos place) (+ℤ_comm (pos place) x) ∙ +ℤ-neg_ℤ_cancel x (pos place)
 
 first-read : (j : Bool) (place : ℕ) (x : ℤ) → read_first j place (shown_first j place x) ≡ x
-first-read true place x = distance place x
-first-read false place x = refl
+first-read x place x2 = grind (arith)
 
 -- ---- tables
 
@@ -67,8 +66,7 @@ value-bytes o xs p are is =
 offset-bytes : (xs : List ℕ) (place p : ℕ) → AreBytes xs → p + 2 ≤ length xs
     → kept_bytes S2 (target place (offset_at xs p) -ℤ pos place) ≡ take 2 (drop p xs)
 unfolding value_at
-offset-bytes xs place p are h =
-    ap (kept_bytes S2) (distance place (offset_at xs p)) ∙ value-bytes S2 xs p are (there-two xs p h)
+offset-bytes xs place p are h = grind (arith, value-bytes S2 xs p are (there-two xs p h))
 
 abbrev ranges : List ℕ → ℕ → ℕ → ℤ → ℕ → ℕ → List ℕ
 ranges xs place t low n a = table_of Range place (shown_cases Range place (map (range_case xs t low) (range_with_len a n)))
@@ -153,30 +151,14 @@ wide-key op l key h is_layout is_cases =
 pairs-bytes : (key : Operand) (xs : List ℕ) (place t n : ℕ) → is_wide key ≡ true → AreBytes xs → t + pair_width key * n ≤ length xs
     → pairs key xs place t n 0 ≡ take (pair_width key * n) (drop t xs)
 unfolding is_wide
-pairs-bytes S2 xs place t n e are h = pairs-two xs place t n 0 are (omega arith) ∙ ap (λ (k : ℕ). take (4 * n) (drop k xs)) (omega arith)
-pairs-bytes S4 xs place t n e are h = pairs-four xs place t n 0 are (omega arith) ∙ ap (λ (k : ℕ). take (6 * n) (drop k xs)) (omega arith)
-pairs-bytes Absent xs place t n e are h = absurd (false≢true e)
-pairs-bytes U1 xs place t n e are h = absurd (false≢true e)
-pairs-bytes U2 xs place t n e are h = absurd (false≢true e)
-pairs-bytes S1 xs place t n e are h = absurd (false≢true e)
-pairs-bytes DupWords xs place t n e are h = absurd (false≢true e)
-pairs-bytes SwapWords xs place t n e are h = absurd (false≢true e)
-pairs-bytes ArrayType xs place t n e are h = absurd (false≢true e)
-pairs-bytes TestedType xs place t n e are h = absurd (false≢true e)
+pairs-bytes x xs place t n e are h = grind (arith, pairs-two, pairs-four, false≢true)
 
 -- the numbers of a table tell its bytes
 table-told : (place : ℕ) (xs : List ℕ) (i : Insn) (l : Layout) (k : Cases) (m : ℕ) → AreBytes xs → i.op < 256 → layout_of i.op ≡ Ok l
     → l.cases ≡ k
     → FitsTable k i.y i.z m → 1 + total_width l + m ≤ length xs
     → table_of k place (shown_cases k place (cases_in k xs (1 + total_width l) i)) ≡ take m (drop (1 + total_width l) xs)
-table-told place xs i l NoCases m are small is_layout is_cases size reach = rw size refl
-table-told place xs i l Range m are small is_layout is_cases size reach =
-    range-bytes xs place (1 + total_width l) i.y (range_count i.y i.z) 0 are (omega (arith, size, reach))
-    ∙ ap (λ (k : ℕ). take (2 * range_count i.y i.z) (drop k xs)) (omega arith)
-    ∙ ap (λ (n : ℕ). take n (drop (1 + total_width l) xs)) (sym size)
-table-told place xs i l (Pairs key) m are small is_layout is_cases size reach =
-    pairs-bytes key xs place (1 + total_width l) (unsigned_abs i.y) (wide-key i.op l key small is_layout is_cases) are (omega (arith, size, reach))
-    ∙ ap (λ (n : ℕ). take n (drop (1 + total_width l) xs)) (sym size)
+table-told place xs i l v m are small is_layout is_cases size reach = grind (arith, range-bytes, pairs-bytes, wide-key)
 
 -- ---- the whole instruction
 
@@ -215,9 +197,7 @@ told-by place i cs l fits =
 -- the bytes of the table, as they are encoded
 table-own : (l : Layout) (k : Cases) (xs : List ℕ) (i : Insn) → l.cases ≡ k → FitsTable k i.y i.z (i.len - (1 + total_width l))
     → take (i.len - (1 + total_width l)) (drop (1 + total_width l) xs) ≡ table_bytes l xs 0 i
-table-own l NoCases xs i is size = ap (λ (n : ℕ). take n (drop (1 + total_width l) xs)) size ∙ rw is refl
-table-own l Range xs i is size = rw is refl
-table-own l (Pairs key) xs i is size = rw is refl
+table-own l y xs i is size = grind (arith)
 
 pub numbers-tell : (place : ℕ) (xs : List ℕ) (i : Insn) → IsOne xs i → block_of place i.op (numbers_of place i (cases xs 0 i)) ≡ xs
 unfolding encoding

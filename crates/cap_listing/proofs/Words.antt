@@ -2,11 +2,11 @@
 use Rattle.std.proofs.Common.{◌≡◌, ◌<◌, ◌≤◌, ◌+◌, ◌^◌, ℕ, zero, suc, Bool, true, false, List, [], ◌∷◌}
 use Rattle.std.proofs.Common.{◌++◌, length, map, get_or, refl, sym, ap, ◌∙◌, ⊎_elim, ◌/◌, ◌%◌, arith, rules, append_assoc, nat_lt, subst}
 use Rattle.std.proofs.Common.{drop, replicate}
-use Rattle.std.specs.Prelude.{ℤ, pos, negsuc, All, decimal, FitsSigned, ⊤, ◌==◌, ◌&&◌}
+use Rattle.std.specs.Prelude.{ℤ, All, decimal, FitsSigned, ⊤, ◌==◌, ◌&&◌}
 use Rattle.std.specs.Int.{w32}
 use Rattle.std.specs.Fmt.{signed_decimal}
 use Rattle.std.proofs.lemmas.List.{append-nil}
-use Rattle.std.proofs.lemmas.List.Elements.{All-cons, All-nil}
+use Rattle.std.proofs.lemmas.List.Elements.{All-nil}
 use Rattle.std.proofs.lemmas.Bool.Decides.{eqb_tells}
 use Rattle.std.proofs.lemmas.Fmt.{decimal_by_steps, decimal_nonempty}
 use Rattle.std.proofs.lemmas.Bool.{ltb-true, and_parts}
@@ -25,8 +25,7 @@ use Rattle.cap_listing.specs.Numbers.{AreShown}
 
 pub spaced-append : (vs ws : List (List ℕ)) → spaced (vs ++ ws) ≡ spaced vs ++ spaced ws
 spaced-append [] ws = refl
-spaced-append (v ∷ vs) ws =
-    ap (λ (l : List ℕ). 32 ∷ (v ++ l)) (spaced-append vs ws) ∙ ap (λ (l : List ℕ). 32 ∷ l) (sym (append_assoc v (spaced vs) (spaced ws)))
+spaced-append (v ∷ vs) ws = grind (arith, append_assoc, spaced-append vs ws)
 
 pub text-append : (ls ks : List (List (List ℕ))) → text_of_lines (ls ++ ks) ≡ text_of_lines ls ++ text_of_lines ks
 text-append [] ks = refl
@@ -46,18 +45,14 @@ spaced-free (w ∷ ws) h = (λ (e : 32 ≡ 10). omega (arith, e), free-append w 
 
 -- a line of plain words has no line feed but its last byte
 pub joined-free : (ws : List (List ℕ)) → ArePlain ws → HasNoFeed (joined ws)
-joined-free [] h = h
-joined-free (w ∷ ws) h = free-append w (spaced ws) (plain-free w h.0) (spaced-free ws h.1)
+joined-free x h = grind (arith, free-append, plain-free, spaced-free)
 
 -- two lists that are the same are the same up to the first byte of a value, and after it
 pub first-cut : (c : ℕ) (a x b y : List ℕ) → HasNone c a → HasNone c b → a ++ c ∷ x ≡ b ++ c ∷ y → (a ≡ b) × (x ≡ y)
 first-cut c [] x [] y h k e = (refl, ap (drop 1) e)
 first-cut c [] x (d ∷ b) y h k e = absurd (k.0 (sym (ap (λ (l : List ℕ). get_or l 0 0) e)))
 first-cut c (d ∷ a) x [] y h k e = absurd (h.0 (ap (λ (l : List ℕ). get_or l 0 0) e))
-first-cut c (d ∷ a) x (f ∷ b) y h k e =
-    let rest = first-cut c a x b y h.1 k.1 (ap (drop 1) e) in
-    let one = ap (λ (l : List ℕ). get_or l 0 0) e in
-    (ap (λ (n : ℕ). n ∷ a) one ∙ ap (λ (l : List ℕ). f ∷ l) rest.0, rest.1)
+first-cut c (d ∷ a) x (f ∷ b) y h k e = grind (arith, get_or, first-cut c a x b y h.1 k.1 (ap (drop 1) e))
 
 pub none-cut : (c : ℕ) (xs ys : List ℕ) → HasNone c (xs ++ c ∷ ys) → ⊥
 none-cut c [] ys h = h.0 refl
@@ -69,8 +64,7 @@ plain-none (b ∷ w) h = (λ (e : b ≡ 32). omega (arith, e, h.0.0), plain-none
 
 -- the first of some words, and the others
 pub word-cut : (xs a b w : List ℕ) (ws : List (List ℕ)) → IsCut 32 xs a b → IsPlain w → xs ≡ joined (w ∷ ws) → (a ≡ w) × (b ≡ joined ws)
-word-cut xs a b w [] cut plain e =
-    absurd (none-cut 32 a b (subst (HasNone 32) (sym (append-nil w) ∙ sym e ∙ cut.is) (plain-none w plain)))
+word-cut xs a b w [] cut plain e = grind (arith, none-cut, append-nil, plain-none)
 word-cut xs a b w (v ∷ ws) cut plain e = first-cut 32 a b w (joined (v ∷ ws)) cut.free (plain-none w plain) (sym cut.is ∙ e)
 
 pub word-whole : (xs w : List ℕ) (ws : List (List ℕ)) → HasNone 32 xs → xs ≡ joined (w ∷ ws) → (xs ≡ w) × ([] ≡ joined ws)
@@ -81,16 +75,12 @@ word-whole xs w (v ∷ ws) none e = absurd (none-cut 32 w (joined (v ∷ ws)) (s
 
 pub plain-apart : (w : List ℕ) → IsPlain w → All (λ b. (b == 32) ≡ false) w
 plain-apart [] h = All-nil (λ b. (b == 32) ≡ false)
-plain-apart (b ∷ w) h =
-    All-cons (λ c. (c == 32) ≡ false) b w
-    (⊎_elim (λ same. absurd (omega (arith, same.1, h.0.0))) (λ other. other.0) (eqb_tells b 32))
-    (plain-apart w h.1)
+plain-apart (b ∷ w) h = grind (arith, ⊎_elim, eqb_tells, plain-apart w h.1)
 
 -- what plain words are joined to is cut into these words
 pub split-joined : (w : List ℕ) (ws : List (List ℕ)) → ArePlain (w ∷ ws) → slice_split (λ b. b == 32) (joined (w ∷ ws)) ≡ w ∷ ws
 split-joined w [] h = ap (slice_split (λ b. b == 32)) (append-nil w) ∙ slice_split_none (λ b. b == 32) w (plain-apart w h.0)
-split-joined w (v ∷ ws) h =
-    slice_split_at (λ b. b == 32) w 32 (joined (v ∷ ws)) (plain-apart w h.0) refl ∙ ap (λ (l : List (List ℕ)). w ∷ l) (split-joined v ws h.1)
+split-joined w (v ∷ ws) h = grind (arith, slice_split_at, plain-apart, split-joined v ws h.1)
 
 -- words that are joined to the same bytes are the same
 pub joined-same : (v : List ℕ) (vs : List (List ℕ)) (w : List ℕ) (ws : List (List ℕ)) → ArePlain (v ∷ vs) → ArePlain (w ∷ ws)
@@ -125,8 +115,7 @@ pub plain-decimal : (n : ℕ) → n < 2 ^ 64 → IsPlain (decimal n)
 plain-decimal n h = digits-plain (decimal n) (decimal-digits n h)
 
 pub plain-signed : (z : ℤ) → FitsSigned w32 z → IsPlain (signed_decimal z)
-plain-signed (pos n) h = plain-decimal n (omega arith)
-plain-signed (negsuc n) h = ((omega arith, omega arith), plain-decimal (suc n) (omega arith))
+plain-signed x h = grind (arith, plain-decimal, suc)
 
 -- the first byte of a decimal number is a digit
 pub digits-first : (w : List ℕ) → IsDigits w → zero < length w → (48 ≤ get_or w 0 0) × (get_or w 0 0 ≤ 57)
@@ -168,10 +157,7 @@ unfolding is_plain_byte
 digits_plain = refl
 
 digit-plain : (k : ℕ) → k < 16 → (32 < get_or lower_digits k 0) × (get_or lower_digits k 0 < 127)
-digit-plain k h =
-    plain-byte (get_or lower_digits k 0)
-    (sym (get_or-map-range_with_len (λ j. is_plain_byte (get_or lower_digits j 0)) 0 16 k k true h (omega arith))
-    ∙ ap (λ (t : List Bool). get_or t k true) digits_plain ∙ get_or-replicate 16 k true true h)
+digit-plain k h = grind (arith, plain-byte, get_or, get_or-map-range_with_len, digits_plain, get_or-replicate)
 
 pub plain-hex : (bytes : List ℕ) → AreBytes bytes → IsPlain (encode_lower bytes)
 unfolding encode_with

@@ -9,7 +9,8 @@ use Rattle.jc_decode.specs.declared.layout.Layout.{Layout}
 use Rattle.jc_decode.specs.declared.insn.CodeEnd.{CodeEnd}
 use Rattle.jc_decode.specs.declared.insn.Insn.{Insn}
 use Rattle.jc_decode.specs.Layout.{operand_width, total_width, layout_of}
-use Rattle.jc_decode.specs.Decoding.{◌>>=◌, or_cut, within_bytes, keys_rise, pairs_end, pair_width, range_end, range_count, bad_operand, operand_at}
+use Rattle.jc_decode.specs.Decoding.{◌>>=◌, or_cut, within_bytes, keys_rise, pairs_end}
+use Rattle.jc_decode.specs.Decoding.{pair_width, range_end, range_count, bad_operand, operand_at}
 use Rattle.jc_decode.specs.Decoding.{table_end, end_of_cases, decoded, Begins, IsWithin}
 
 -- a step that succeeds, and what comes of it

@@ -30,12 +30,9 @@ module _ (code : List ℕ) (at : ℕ) (i : Insn) (d : decoded code at ≡ Ok i) 
       by_cases : (k : Cases) → b.layout.cases ≡ k → length (cases code at i) ≤ length code
       by_cases NoCases is = rw (cases-by code at i b.layout NoCases b.is_layout is) (omega arith)
       by_cases Range is =
-          grind (
-            arith,
-            range_table code at i b.layout has_table b.is_layout is,
-            cases-by code at i b.layout Range b.is_layout is,
-            length-map-range_with_len (range_case code (at + 1 + total_width b.layout) i.y) 0 (range_count i.y i.z),
-          )
+          let table = range_table code at i b.layout has_table b.is_layout is in
+          rw (cases-by code at i b.layout Range b.is_layout is)
+          (omega (arith, table.1, length-map-range_with_len (range_case code (at + 1 + total_width b.layout) i.y) 0 (range_count i.y i.z)))
       by_cases (Pairs key) is =
           let table = pairs_table code at i b.layout key has_table b.is_layout is in
           let wide : 1 * unsigned_abs i.y ≤ pair_width key * unsigned_abs i.y = mul-le-mul_right (unsigned_abs i.y) (omega arith) in

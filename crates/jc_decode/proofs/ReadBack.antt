@@ -1,5 +1,5 @@
 -- The bytes of an instruction are decoded to it, wherever they stand.
-use Rattle.std.proofs.Common.{◌≡◌, ◌<◌, ◌≤◌, ◌+◌, ◌*◌, ◌-◌, ◌^◌, ℕ, suc, Bool, true, false, cond, Some, Result, Ok, Err, List}
+use Rattle.std.proofs.Common.{◌≡◌, ◌<◌, ◌≤◌, ◌+◌, ◌*◌, ◌-◌, ◌^◌, ℕ, suc, Bool, true, false, cond, Some, Result, Ok, Err, List, rules}
 use Rattle.std.proofs.Common.{[], ◌∷◌, ◌++◌, length, take, drop, refl, sym, ap, ◌∙◌, arith, append_assoc, length-append}
 use Rattle.std.specs.Prelude.{ℤ, pos, int_lt, unsigned_abs, not}
 use Rattle.std.specs.Result.{result_unwrap_or}
@@ -19,10 +19,12 @@ use Rattle.jc_decode.specs.declared.layout.Layout.{Layout}
 use Rattle.jc_decode.specs.declared.insn.CodeEnd.{CodeEnd}
 use Rattle.jc_decode.specs.declared.insn.Insn.{Insn}
 use Rattle.jc_decode.specs.Layout.{operand_width, total_width, layout_of}
-use Rattle.jc_decode.specs.Decoding.{value, operand_number, operand_at, within_bytes, bad_operand, key_at, rises, pair_width, range_count, range_end}
+use Rattle.jc_decode.specs.Decoding.{value, operand_number, operand_at, within_bytes, bad_operand, key_at}
+use Rattle.jc_decode.specs.Decoding.{rises, pair_width, range_count, range_end, allows}
 use Rattle.jc_decode.specs.Decoding.{pairs_end, end_of_cases, table_end, FitsOperand, Begins}
 use Rattle.jc_decode.specs.Cases.{cases_in, range_case, pair_case, offset_at, is_table, HasTable}
-use Rattle.jc_decode.specs.Encoding.{bits, operand_bytes, Allows, AllowsBy, IsAllowed, head_bytes, table_bytes, encoding, encoding_by, sized, ReadsBack}
+use Rattle.jc_decode.specs.Encoding.{bits, operand_bytes, Allows, AllowsBy, IsAllowed, head_bytes}
+use Rattle.jc_decode.specs.Encoding.{table_bytes, encoding, encoding_by, sized, ReadsBack}
 use Rattle.jc_decode.proofs.Decoded.{decoded-Begins, reached-within, reached-ok, pairs_end-ok, range_end-ok, from_bind}
 use Rattle.jc_decode.proofs.Tables.{HasTable-end, table_within, cases-by}
 use Rattle.jc_decode.proofs.Windows.{Alike, Alike-part, number_at-reached, operand_at-alike, find-alike, map-alike}
@@ -56,13 +58,10 @@ pub operand-back : (o : Operand) (v : ℤ) (ys pre post : List ℕ) (at : ℕ) �
     → Allows o v
     → operand_at o ys at ≡ Ok v
 operand-back o v ys pre post at here place allowed =
-    grind (
-      arith,
-      number-back (operand_width o) (bits o v) ys pre post at here place (bits-fit o v allowed.0),
-      bits-absent o v,
-      value-bits o v allowed.0,
-      number_of-back,
-    )
+    let number = number-back (operand_width o) (bits o v) ys pre post at here place (bits-fit o v allowed.0) in
+    let read = number_of-back o (bits o v) ys at number (bits-absent o v) in
+    let yes : allows o (bits o v) ≡ true = search (rules, allowed.1) in
+    rw (read, yes, value-bits o v allowed.0) refl
 
 -- a pair ends where the next begins
 pub pair_before : (w n count : ℕ) → n < count → w * n + w ≤ w * count

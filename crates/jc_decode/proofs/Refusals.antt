@@ -21,11 +21,14 @@ use Rattle.jc_decode.specs.declared.layout.Opcode.TheVariants.{Instruction, Rese
 use Rattle.jc_decode.specs.declared.insn.CodeEnd.{CodeEnd}
 use Rattle.jc_decode.specs.declared.insn.CodeEnd.TheVariants.{Cut, BadOperand, NoOpcode, OutOfScope}
 use Rattle.jc_decode.specs.declared.insn.Insn.{Insn}
-use Rattle.jc_decode.specs.Layout.{Span, operand_width, total_width, layout_of, layout_from, opcode, is_in_span, spans, is_out_of_scope, opcode_in_span}
-use Rattle.jc_decode.specs.Decoding.{◌>>=◌, or_cut, within_bytes, bad_byte, bad_operand, operand_number, value, allows, operand_at, key_at, rises}
+use Rattle.jc_decode.specs.Layout.{Span, operand_width, total_width, layout_of, layout_from}
+use Rattle.jc_decode.specs.Layout.{opcode, is_in_span, spans, is_out_of_scope, opcode_in_span}
+use Rattle.jc_decode.specs.Decoding.{◌>>=◌, or_cut, within_bytes, bad_byte, bad_operand, operand_number}
+use Rattle.jc_decode.specs.Decoding.{value, allows, operand_at, key_at, rises}
 use Rattle.cap_bytes.specs.Bytes.{AreBytes}
 use Rattle.jc_decode.specs.Decoding.{keys_rise, pair_width, pairs_end, range_end, range_count, end_of_cases, table_end, decoded}
-use Rattle.jc_decode.specs.Refusal.{HasOpcode, HasOperands, IsFirstFall, RefusesBytes, nothing_there, left_out, unused, operands_cut, forbidden, bounds_turned}
+use Rattle.jc_decode.specs.Refusal.{HasOpcode, HasOperands, IsFirstFall, RefusesBytes, nothing_there}
+use Rattle.jc_decode.specs.Refusal.{left_out, unused, operands_cut, forbidden, bounds_turned}
 use Rattle.jc_decode.specs.Refusal.{range_cut, pairs_cut, key_falls}
 use Rattle.jc_decode.proofs.Decoded.{reached-ok, reached-within, or_cut-ok}
 use Rattle.jc_decode.proofs.Ranges.{number_of-fits}

@@ -8,7 +8,8 @@ use Rattle.jc_decode.specs.declared.insn.Insn.{Insn}
 use Rattle.jc_decode.specs.Layout.{layout_of, opcode}
 use Rattle.jc_decode.specs.Listing.{is_branch}
 use Rattle.jc_decode.specs.Cases.{is_switch}
-use Rattle.jc_decode.specs.Forms.{names_register, is_load_n, is_store_n, is_register_move, first_short, short_form, length_of, plain_length, bytes_by}
+use Rattle.jc_decode.specs.Forms.{names_register, is_load_n, is_store_n, is_register_move, first_short}
+use Rattle.jc_decode.specs.Forms.{short_form, length_of, plain_length, bytes_by}
 use Rattle.jc_decode.proofs.Passed.{passed-at, or-rest}
 
 -- opcode by opcode: no switch, and so many bytes at most

@@ -22,7 +22,8 @@ use Rattle.jc_decode.specs.declared.insn.CodeEnd.{CodeEnd}
 use Rattle.jc_decode.specs.declared.insn.Insn.{Insn}
 use Rattle.jc_decode.specs.declared.insn.Case.{Case}
 use Rattle.jc_decode.specs.Layout.{operand_width, total_width, layout_of}
-use Rattle.jc_decode.specs.Decoding.{within_bytes, bad_operand, key_at, rises, pair_width, range_count, range_end, pairs_end, table_end, decoded, Begins}
+use Rattle.jc_decode.specs.Decoding.{within_bytes, bad_operand, key_at, rises, pair_width, range_count}
+use Rattle.jc_decode.specs.Decoding.{range_end, pairs_end, table_end, decoded, Begins}
 use Rattle.jc_decode.specs.Cases.{cases, range_case, pair_case, offset_at, offset_place, offset_place_in, with_offset, leading}
 use Rattle.jc_decode.proofs.Decoded.{decoded-Begins, Begins-decoded, reached-within, reached-ok, pairs_end-ok, range_end-ok, from_bind}
 use Rattle.jc_decode.proofs.Tables.{cases-by, slice_get-map-range, slice_get-past-range}

@@ -20,10 +20,12 @@ use Rattle.cap_package.specs.PackageRecord.{PackageRecord}
 use Rattle.cap_desc.specs.declared.type_item.TypeItem.{TypeItem}
 use Rattle.jc_resolve.specs.declared.named.NamedClass.{NamedClass}
 use Rattle.jc_resolve.specs.declared.place.RecordPlace.{RecordPlace}
-use Rattle.jc_resolve.specs.Numbering.{NumberedClass, numbered_class, numbered_classes_of, classes_after, numbered_classes, numbered_methods, same_place}
+use Rattle.jc_resolve.specs.Numbering.{NumberedClass, numbered_class, numbered_classes_of, classes_after}
+use Rattle.jc_resolve.specs.Numbering.{numbered_classes, numbered_methods, same_place}
 use Rattle.jc_resolve.specs.Numbering.{place_of_class, class_places, class_at}
 use Rattle.jc_resolve.specs.References.{meets_import, met_by, import_of, class_named, Refers}
-use Rattle.jc_resolve.specs.NamedClasses.{by_token, cells_by, cells_of_field, cells_of_fields, instance_fields, dispatch_entry, dispatch_table, interface_named}
+use Rattle.jc_resolve.specs.NamedClasses.{by_token, cells_by, cells_of_field, cells_of_fields}
+use Rattle.jc_resolve.specs.NamedClasses.{instance_fields, dispatch_entry, dispatch_table, interface_named}
 use Rattle.jc_resolve.specs.NamedClasses.{implemented_interfaces, parent_named, named_interface, named_proper, named_class, named_classes}
 use Rattle.jc_resolve.specs.Named.{package_by, package_of, IsDeclared, AreEntries, IsSized, IsNamedClass}
 use Rattle.jc_resolve.proofs.NumberLaws.{same-equal, position_below, method_below}

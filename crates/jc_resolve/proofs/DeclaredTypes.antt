@@ -16,7 +16,8 @@ use Rattle.jc_resolve.specs.declared.named.NamedClass.{NamedClass}
 use Rattle.jc_resolve.specs.declared.place.RecordPlace.{RecordPlace}
 use Rattle.jc_resolve.specs.Numbering.{NumberedClass, numbered_classes, class_at, flagged_interface, is_interface_number}
 use Rattle.jc_resolve.specs.References.{place_referred, class_referred, class_named}
-use Rattle.jc_resolve.specs.WorldTypes.{class_or_object, type_class, type_of, cells_of_type, arguments_before, result_after, signature_in, types_named}
+use Rattle.jc_resolve.specs.WorldTypes.{class_or_object, type_class, type_of, cells_of_type}
+use Rattle.jc_resolve.specs.WorldTypes.{arguments_before, result_after, signature_in, types_named}
 use Rattle.jc_resolve.specs.WorldTypes.{declared_signature}
 use Rattle.jc_resolve.specs.NamedClasses.{named_class, named_classes, named_interface, named_proper}
 use Rattle.jc_resolve.specs.Named.{interface_by, is_interface, IsTypeClass, IsDeclared}

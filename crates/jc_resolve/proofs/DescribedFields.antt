@@ -8,7 +8,8 @@ use Rattle.cap_desc.specs.declared.lists.DescClasses.{DescClasses}
 use Rattle.cap_desc.specs.declared.lists.DescFields.{DescFields}
 use Rattle.cap_desc.specs.ClassRecords.{described_left}
 use Rattle.cap_desc.specs.MemberLists.{fields_left}
-use Rattle.cap_desc.specs.DescriptorFormat.{ClassDescriptor, FieldDescriptor, field_descriptor_info, method_descriptor_info, class_descriptor_info}
+use Rattle.cap_desc.specs.DescriptorFormat.{ClassDescriptor, FieldDescriptor, field_descriptor_info}
+use Rattle.cap_desc.specs.DescriptorFormat.{method_descriptor_info, class_descriptor_info}
 use Rattle.cap_desc.specs.Members.{fields_of}
 use Rattle.jc_resolve.proofs.Repeats.{TakesEach, goes_on, spelled_within, given_within}
 

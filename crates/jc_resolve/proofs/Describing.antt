@@ -1,6 +1,7 @@
 -- Each class of a package is described by one record of its Descriptor, which is found by the offset of the class.
 use Rattle.std.proofs.Common.{◌≡◌, ℕ, ◌+◌, ◌<◌, ◌≤◌, Bool, true, false, cond, eqb, List, [], ◌∷◌, ◌++◌, append_assoc}
-use Rattle.std.proofs.Common.{append-nil, length, length-append, map, flat_map, Some, None, find, option_and_then, refl, sym, ap, ◌∙◌, arith}
+use Rattle.std.proofs.Common.{append-nil, length, length-append, map, flat_map, Some, None}
+use Rattle.std.proofs.Common.{find, option_and_then, refl, sym, ap, ◌∙◌, arith}
 use Rattle.std.specs.Prelude.{slice_get, count_by, ◌&&◌}
 use Rattle.std.specs.List.{position_from, filter_map}
 use Rattle.std.proofs.lemmas.Bool.{eqb-true, eqb-false, eq-eqb, ne_eqb, lt-ltb, le-ltb}
@@ -120,13 +121,9 @@ pub record-found : (ds : List described.ClassDescriptor) (offset : ℕ)
     → option_and_then (slice_get ds) (number_by_place (with_all none_numbered (map spot_of_record ds)).entries (place_at offset))
     ≡ find (describes_at offset) ds
 record-found ds offset =
-    grind (
-      arith,
-      option_and_then (slice_get ds),
-      numbered-first (map spot_of_record ds) (place_at offset),
-      position_from-zero (is_at (place_at offset)) (map spot_of_record ds),
-      search_on offset [] ds,
-    )
+    ap (option_and_then (slice_get ds)) (numbered-first (map spot_of_record ds) (place_at offset)
+    ∙ position_from-zero (is_at (place_at offset)) (map spot_of_record ds))
+    ∙ search_on offset [] ds
 
 -- ---- each class is described once
 

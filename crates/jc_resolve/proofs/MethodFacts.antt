@@ -10,7 +10,8 @@ use Rattle.cap_desc.specs.Members.{methods_of}
 use Rattle.cap_components.specs.declared.fault.PackFault.{PackFault}
 use Rattle.cap_package.specs.Descriptions.{Description, argument_words}
 use Rattle.cap_package.specs.HandlerChecks.{numbered_fault}
-use Rattle.cap_package.specs.HeaderChecks.{header_in, is_abstract, registers_fault, length_fault, this_words, arguments_fault, abstract_fault}
+use Rattle.cap_package.specs.HeaderChecks.{header_in, is_abstract, registers_fault, length_fault}
+use Rattle.cap_package.specs.HeaderChecks.{this_words, arguments_fault, abstract_fault}
 use Rattle.cap_package.specs.MethodChecks.{code_start, code_end, outside_fault}
 use Rattle.cap_package.specs.TypeChecks.{method_type_by, method_type_fault, field_type_fault}
 use Rattle.cap_package.specs.PackageRecord.{PackageRecord, described_methods, interface_methods, handlers_of, fields}

@@ -23,7 +23,8 @@ use Rattle.jc_base.proofs.Eaching.{Each-append, Each-weaker}
 use Rattle.jc_resolve.specs.declared.place.RecordPlace.{RecordPlace}
 use Rattle.jc_resolve.specs.Named.{IsAgreed}
 use Rattle.jc_resolve.specs.NamedMethods.{named_method, named_methods}
-use Rattle.jc_resolve.specs.Numbering.{NumberedMethod, numbered_method, is_placed, methods_of_class, methods_of_classes, methods_after, numbered_methods}
+use Rattle.jc_resolve.specs.Numbering.{NumberedMethod, numbered_method, is_placed, methods_of_class}
+use Rattle.jc_resolve.specs.Numbering.{methods_of_classes, methods_after, numbered_methods}
 use Rattle.jc_resolve.specs.Numbering.{place_of_method, method_places}
 use Rattle.jc_resolve.specs.OwnPlaces.{HaveOwnPlaces}
 use Rattle.jc_resolve.proofs.ClassPlaces.{classes_apart}

@@ -50,11 +50,10 @@ named_since ps k reference none = named_by ps k reference (class_named ps k refe
 pub names-class : (ps : List PackageRecord) (k : ℕ) (p : PackageRecord) (reference : ℕ) → AllEmpty (conditions ps) → slice_get ps k ≡ Some p
     → IsOneOf (class_references p) reference → NamesClass ps k reference
 names-class ps k p reference none at one =
-    grind (
-      arith,
-      faultless (no_class_fault ps) (named_in class_references ps) (0 + k, reference) (names_faultless ps none).references (named_further class_references 0 ps k p reference at one),
-      named_since,
-    )
+    let place : 0 + k ≡ k = omega arith in
+    let fault = faultless (no_class_fault ps) (named_in class_references ps) (0 + k, reference) (names_faultless ps none).references
+    (named_further class_references 0 ps k p reference at one) in
+    named_since ps k reference (rw place at fault)
 
 reference_described : (p : PackageRecord) (d : described.ClassDescriptor) → IsOneOf p.description.items.classes d → IsOneOf (class_references p) d.class_ref
 unfolding class_references

@@ -14,9 +14,11 @@ use Rattle.jc_resolve.specs.declared.fault.LinkFault.{LinkFault}
 use Rattle.jc_resolve.specs.Fault.{link_place}
 use Rattle.first_fault.specs.Least.{lesser, least_from}
 use Rattle.jc_resolve.specs.Conditions.{named_after, import_tokens, no_package_fault, import_fault, super_references, references_of_class}
-use Rattle.jc_resolve.specs.Conditions.{references_of_classes, reference_of_field, references_of_record, reference_of_type, references_of_field_type}
+use Rattle.jc_resolve.specs.Conditions.{references_of_classes, reference_of_field, references_of_record}
+use Rattle.jc_resolve.specs.Conditions.{reference_of_type, references_of_field_type}
 use Rattle.jc_resolve.specs.Conditions.{references_of_method, references_described}
-use Rattle.jc_resolve.specs.LookedUp.{references_with_methods, references_of_field_types, references_for_classes, references_without_methods, least_named}
+use Rattle.jc_resolve.specs.LookedUp.{references_with_methods, references_of_field_types, references_for_classes}
+use Rattle.jc_resolve.specs.LookedUp.{references_without_methods, least_named}
 
 pub range_step : (a n : ℕ) → a < n → range_with_len a (n - a) ≡ a ∷ range_with_len (a + 1) (n - (a + 1))
 range_step a n lt = let e : n - a ≡ suc (n - (a + 1)) = omega arith in ap (range_with_len a) e

@@ -19,7 +19,8 @@ use Rattle.jc_resolve.specs.NamedMethods.{HasFewHandlers, body_of, class_describ
 use Rattle.jc_resolve.specs.Numbering.{NumberedMethod, numbered_methods, is_interface_number}
 use Rattle.jc_resolve.specs.References.{class_named}
 use Rattle.jc_resolve.specs.WorldTypes.{declared_signature}
-use Rattle.jc_resolve.proofs.DeclaredTypes.{named-length, interface_numbered, arguments_declared, result_declared, arguments_whole, result_first}
+use Rattle.jc_resolve.proofs.DeclaredTypes.{named-length, interface_numbered, arguments_declared}
+use Rattle.jc_resolve.proofs.DeclaredTypes.{result_declared, arguments_whole, result_first}
 use Rattle.jc_resolve.proofs.MethodBodies.{IsBody, body-known}
 use Rattle.jc_resolve.proofs.NamedClassLaws.{NamesClass, describes-class, class-described}
 use Rattle.jc_resolve.proofs.NumberedLaws.{IsDescribed, all-described}
@@ -42,13 +43,9 @@ module _ (ps : List PackageRecord) (roles : List ℕ) (m : NumberedMethod) where
   proper_by : (x : NamesClass ps m.home m.class.class_ref) → is_class ps (class_named ps m.home m.class.class_ref) ≡ true
       → is_interface (named_classes ps object) (class_described ps m.home m.class) ≡ false
   proper_by x h =
-      grind (
-        arith,
-        not (is_interface_number ps x.number),
-        class-described ps m.home m.class x,
-        interface_numbered ps object x.number,
-        not-true,
-      )
+      let proper : not (is_interface_number ps x.number) ≡ true = rw x.named at h in
+      ap (is_interface (named_classes ps object)) (class-described ps m.home m.class x) ∙ interface_numbered ps object x.number
+      ∙ not-true (is_interface_number ps x.number) proper
 
   info_there : IsDescribed ps m → list_at (infos_of ps) m.home ≡ m.of_package.methods.info
   info_there d =

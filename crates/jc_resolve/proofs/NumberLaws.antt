@@ -15,10 +15,13 @@ use Rattle.cap_desc.specs.DescriptorFormat as described
 use Rattle.cap_pool.specs.ExportFormat.{Exported}
 use Rattle.cap_package.specs.PackageRecord.{PackageRecord, names_interface}
 use Rattle.jc_resolve.specs.declared.place.RecordPlace.{RecordPlace}
-use Rattle.jc_resolve.specs.Numbering.{NumberedClass, same_place, is_at, numbered_classes_of, classes_after, numbered_classes, place_of_class}
-use Rattle.jc_resolve.specs.Numbering.{class_at, flagged_interface, is_interface_number, is_placed, methods_of_class, methods_of_classes, methods_after}
+use Rattle.jc_resolve.specs.Numbering.{NumberedClass, same_place, is_at, numbered_classes_of}
+use Rattle.jc_resolve.specs.Numbering.{classes_after, numbered_classes, place_of_class}
+use Rattle.jc_resolve.specs.Numbering.{class_at, flagged_interface, is_interface_number, is_placed}
+use Rattle.jc_resolve.specs.Numbering.{methods_of_class, methods_of_classes, methods_after}
 use Rattle.jc_resolve.specs.Numbering.{numbered_methods, place_of_method, method_at}
-use Rattle.jc_resolve.specs.Numbers.{Numbered, none_numbered, number_by_place, added_entry, with_next, with_all, spot_of_class, class_spots, interface_flags}
+use Rattle.jc_resolve.specs.Numbers.{Numbered, none_numbered, number_by_place, added_entry, with_next}
+use Rattle.jc_resolve.specs.Numbers.{with_all, spot_of_class, class_spots, interface_flags}
 use Rattle.jc_resolve.specs.Numbers.{spot_of_method, spots_of_classes, method_spots, AreIndexed}
 
 -- ---- places

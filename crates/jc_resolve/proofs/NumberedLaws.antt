@@ -8,7 +8,8 @@ use Rattle.cap_desc.specs.DescriptorFormat as described
 use Rattle.cap_desc.specs.DescriptorFormat.{MethodDescriptor}
 use Rattle.cap_desc.specs.Members.{methods_of, methods_in, methods_but}
 use Rattle.cap_package.specs.PackageRecord.{PackageRecord}
-use Rattle.jc_resolve.specs.Numbering.{NumberedMethod, numbered_method, methods_of_class, methods_of_classes, methods_after, numbered_methods}
+use Rattle.jc_resolve.specs.Numbering.{NumberedMethod, numbered_method, methods_of_class}
+use Rattle.jc_resolve.specs.Numbering.{methods_of_classes, methods_after, numbered_methods}
 use Rattle.jc_resolve.proofs.Faultless.{IsOneOf, one_of_front, one_of_after}
 
 -- ---- the methods of classes

@@ -1,5 +1,6 @@
 -- The own cells of a named class are those of its fields in the order of their tokens.
-use Rattle.std.proofs.Common.{◌≡◌, ℕ, zero, suc, ◌+◌, Bool, true, false, cond, eqb, not, List, [], ◌∷◌, ◌++◌, Option, Some, None, refl, arith}
+use Rattle.std.proofs.Common.{◌≡◌, ℕ, zero, suc, ◌+◌, Bool, true, false, cond, eqb}
+use Rattle.std.proofs.Common.{not, List, [], ◌∷◌, ◌++◌, Option, Some, None, refl, arith}
 use Rattle.std.proofs.Common.{sym, ap, ap₂, ◌∙◌, filter, filter_map, flat_map, option_map}
 use Rattle.std.specs.Prelude.{◌==◌, ◌||◌}
 use Rattle.std.specs.List.{range_with_len}
@@ -21,7 +22,8 @@ use Rattle.jc_resolve.specs.WorldTypes.{type_of, kind_of, cells_of_type}
 use Rattle.jc_resolve.specs.declared.own_field.OwnField.{OwnField}
 use Rattle.jc_resolve.specs.declared.package_fields.PackageFields.{PackageFields}
 use Rattle.jc_resolve.specs.Described.{IsDescribedOnce}
-use Rattle.jc_resolve.specs.OwnFields.{field_with, own_field, fields_in, own_fields, cells_by_kind, cells_of_own, own_with_token, cells_over}
+use Rattle.jc_resolve.specs.OwnFields.{field_with, own_field, fields_in, own_fields}
+use Rattle.jc_resolve.specs.OwnFields.{cells_by_kind, cells_of_own, own_with_token, cells_over}
 use Rattle.jc_resolve.specs.TypedFields.{fields_resolved, own_found}
 use Rattle.jc_resolve.proofs.TypedFields.{own-is}
 

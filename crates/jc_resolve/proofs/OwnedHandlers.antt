@@ -51,10 +51,9 @@ claimed_lies : (info : List ℕ) (ms : List MethodDescriptor) (m : MethodDescrip
     → handler_fault info ms number h ≡ None → IsOneOf ms m → claims number m ≡ true → LiesIn info m h
 unfolding handler_fault owners
 claimed_lies info ms m number h e one claim =
-    grind (
-      arith,
-      lies info m h (only_home info h (filter (claims number) ms) m (one_kept (claims number) ms m one claim) (home_by (HandlerOutside number) (has_home info h (filter (claims number) ms)) e)),
-    )
+    lies info m h
+    (only_home info h (filter (claims number) ms) m (one_kept (claims number) ms m one claim)
+    (home_by (HandlerOutside number) (has_home info h (filter (claims number) ms)) e))
 
 -- ---- the entries that a method names
 

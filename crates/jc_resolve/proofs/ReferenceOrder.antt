@@ -11,7 +11,8 @@ use Rattle.first_fault.specs.Least.{least_from, least_of}
 use Rattle.first_fault.proofs.AnyOrder.{AreExact, least-turned}
 use Rattle.jc_resolve.specs.declared.fault.LinkFault.{LinkFault}
 use Rattle.jc_resolve.specs.declared.fault.LinkFault.TheVariants.{NoClass}
-use Rattle.jc_resolve.specs.Conditions.{named_after, named_in, references_of_record, references_of_field_type, references_of_method, references_of_classes}
+use Rattle.jc_resolve.specs.Conditions.{named_after, named_in, references_of_record}
+use Rattle.jc_resolve.specs.Conditions.{references_of_field_type, references_of_method, references_of_classes}
 use Rattle.jc_resolve.specs.Conditions.{references_described, class_references, reference_fault, no_class_fault}
 use Rattle.jc_resolve.specs.Fault.{link_place}
 use Rattle.jc_resolve.specs.LookedUp.{references_with_methods, references_for_methods, references_of_field_types, references_for_classes}

@@ -3,7 +3,8 @@ use Rattle.std.proofs.Common.{◌≡◌, ℕ, ◌+◌, List, ◌∷◌, ◌++◌
 use Rattle.std.proofs.lemmas.List.{map-append}
 use Rattle.cap_desc.specs.DescriptorFormat as described
 use Rattle.cap_package.specs.PackageRecord.{PackageRecord}
-use Rattle.jc_resolve.specs.Numbering.{NumberedClass, NumberedMethod, numbered_classes_of, classes_after, methods_of_class, methods_of_classes, methods_after}
+use Rattle.jc_resolve.specs.Numbering.{NumberedClass, NumberedMethod, numbered_classes_of, classes_after}
+use Rattle.jc_resolve.specs.Numbering.{methods_of_class, methods_of_classes, methods_after}
 
 module _ {Y : Type 0} (f : NumberedMethod → Y) (ys : List Y) (k : ℕ) (p : PackageRecord) where
   pub classes_step : (n : ℕ) (c : described.ClassDescriptor) (cs : List described.ClassDescriptor) → ys ++ map f (methods_of_classes k p n (c ∷ cs))

@@ -24,7 +24,8 @@ use Rattle.jc_resolve.specs.Described.{describes_at, IsDescribedOnce, place_at, 
 use Rattle.jc_resolve.specs.Numbers.{none_numbered, number_by_place, with_all}
 use Rattle.jc_resolve.specs.OwnFields.{fields_in, own_fields}
 use Rattle.jc_resolve.specs.References.{is_internal}
-use Rattle.jc_resolve.specs.TypedFields.{static_by, static_type, fields_of_record, fields_resolved, fields_after, own_found, types_kept, own_kept}
+use Rattle.jc_resolve.specs.TypedFields.{static_by, static_type, fields_of_record, fields_resolved}
+use Rattle.jc_resolve.specs.TypedFields.{fields_after, own_found, types_kept, own_kept}
 use Rattle.jc_resolve.specs.TypedFields.{static_field_types_by, static_field_types, own_fields_by, own_fields_in}
 use Rattle.jc_resolve.specs.WorldTypes.{type_of}
 use Rattle.jc_resolve.proofs.Describing.{given-there, given-none, given-outside, record-found}

@@ -1,5 +1,6 @@
 -- The argument words of a method's type descriptor are the cells of its signature's arguments.
-use Rattle.std.proofs.Common.{◌≡◌, ℕ, ◌+◌, Bool, true, false, eqb, cond, List, [], ◌∷◌, length, length-append, Option, Some, None, refl, sym, arith}
+use Rattle.std.proofs.Common.{◌≡◌, ℕ, ◌+◌, Bool, true, false, eqb, cond, List, []}
+use Rattle.std.proofs.Common.{◌∷◌, length, length-append, Option, Some, None, refl, sym, arith}
 use Rattle.std.proofs.Common.{ap₂, ◌∙◌}
 use Rattle.std.specs.Prelude.{option_map, option_and_then}
 use Rattle.cap_desc.specs.declared.type_item.TypeItem.{TypeItem}
