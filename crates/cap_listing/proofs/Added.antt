@@ -15,14 +15,6 @@ use Rattle.cap_listing.specs.Lines.{IsInstructionLine, IsBytesLine}
 use Rattle.cap_listing.specs.declared.open_method.OpenMethod.{OpenMethod}
 use Rattle.cap_listing.specs.Assembler.{method_with, opened, fresh, between, inside, state_by}
 
-abbrev method-or : Begun → Option Begun → Begun
-method-or d None = d
-method-or d (Some b) = b
-
-abbrev closed-or : Bool → Option Begun → Bool
-closed-or d None = d
-closed-or d (Some b) = b.closed
-
 abbrev is-begun : Option Begun → Bool
 is-begun None = false
 is-begun (Some b) = true
