@@ -1,5 +1,5 @@
 -- The form of an instruction by its opcode: what of it is emitted anew keeps to the operands that its opcode allows.
-use Rattle.std.proofs.Common.{◌≡◌, ◌<◌, ◌-◌, ℕ, Bool, true, false, Result, Ok, Err, refl, sym, ap, ◌∙◌, subst}
+use Rattle.std.proofs.Common.{◌≡◌, ◌<◌, ◌-◌, ℕ, Bool, true, false, Result, Ok, Err, refl, sym, ap, ◌∙◌, subst, arith}
 use Rattle.std.specs.Prelude.{pos, map, replicate, not, ◌&&◌}
 use Rattle.std.specs.List.{range_with_len}
 use Rattle.std.proofs.lemmas.Bool.{and_parts}
@@ -19,7 +19,8 @@ use Rattle.jc_decode.proofs.Passed.{passed-at}
 use Rattle.jc_ops.specs.declared.operation.Operation.{Operation}
 use Rattle.jc_ops.specs.Row.{row_at}
 use Rattle.jc_ops.specs.Resolve.{resolved}
-use Rattle.xf_emission.proofs.RowByRow.{Kind, branching_kind, switching, increasing, reading, writing, other_kind, op_kind, kinds, kind_at, kind-of}
+use Rattle.xf_emission.proofs.RowByRow.{Kind, branching_kind, switching, increasing, reading, writing}
+use Rattle.xf_emission.proofs.RowByRow.{other_kind, op_kind, kinds, kind_at, kind-of}
 use Rattle.xf_emission.specs.Mnemonics.{from_read, from_write}
 
 -- ---- by opcode
@@ -80,16 +81,7 @@ suits-op w m place i op lt e = ap (suits_kind i.op) (kind-of w m place i op lt e
 -- ---- operands that are emitted
 
 u1-allows : (o : Operand) (r : ℕ) → is_u1 o ≡ true → r < 256 → Allows o (pos r)
-u1-allows U1 r e lt = (lt, refl)
-u1-allows Absent r e lt = absurd (cc)
-u1-allows U2 r e lt = absurd (cc)
-u1-allows S1 r e lt = absurd (cc)
-u1-allows S2 r e lt = absurd (cc)
-u1-allows S4 r e lt = absurd (cc)
-u1-allows DupWords r e lt = absurd (cc)
-u1-allows SwapWords r e lt = absurd (cc)
-u1-allows ArrayType r e lt = absurd (cc)
-u1-allows TestedType r e lt = absurd (cc)
+u1-allows x r e lt = grind (arith)
 
 -- another register in the first operand
 pub other-register : (i : Insn) (r : ℕ) → first_u1 (layout_of i.op) ≡ true → r < 256 → IsAllowed i → IsAllowed (record i { x = pos r })
@@ -100,28 +92,10 @@ other-register i r e lt a = by (layout_of i.op) e a
     by (Err f) e a = absurd (cc)
 
 u1-is : (o : Operand) → is_u1 o ≡ true → o ≡ U1
-u1-is U1 e = refl
-u1-is Absent e = absurd (cc)
-u1-is U2 e = absurd (cc)
-u1-is S1 e = absurd (cc)
-u1-is S2 e = absurd (cc)
-u1-is S4 e = absurd (cc)
-u1-is DupWords e = absurd (cc)
-u1-is SwapWords e = absurd (cc)
-u1-is ArrayType e = absurd (cc)
-u1-is TestedType e = absurd (cc)
+u1-is x e = grind (arith)
 
 absent-is : (o : Operand) → is_absent o ≡ true → o ≡ Absent
-absent-is Absent e = refl
-absent-is U1 e = absurd (cc)
-absent-is U2 e = absurd (cc)
-absent-is S1 e = absurd (cc)
-absent-is S2 e = absurd (cc)
-absent-is S4 e = absurd (cc)
-absent-is DupWords e = absurd (cc)
-absent-is SwapWords e = absurd (cc)
-absent-is ArrayType e = absurd (cc)
-absent-is TestedType e = absurd (cc)
+absent-is x e = grind (arith)
 
 -- another instruction whose only operand is a byte
 pub other-opcode : (i : Insn) (op : ℕ) → only_u1 (layout_of i.op) ≡ true → only_u1 (layout_of op) ≡ true → IsAllowed i
