@@ -17,7 +17,8 @@ use Rattle.jc_decode.proofs.Passed.{passed-at}
 use Rattle.jc_ops.specs.declared.operation.Operation.{Operation}
 use Rattle.jc_ops.specs.Row.{row_at}
 use Rattle.jc_ops.specs.Resolve.{resolved}
-use Rattle.xf_emission.proofs.RowByRow.{Kind, branching_kind, switching, increasing, reading, writing, other_kind, op_kind, kinds, kind_at, kind-of}
+use Rattle.xf_emission.proofs.RowByRow.{Kind, branching_kind, switching, increasing, reading, writing}
+use Rattle.xf_emission.proofs.RowByRow.{other_kind, op_kind, kinds, kind_at, kind-of}
 use Rattle.xf_emission.specs.Mnemonics.{from_read, from_write}
 use Rattle.jc_decode.proofs.Formed.{is_absent, is_byte, first_byte, has_byte, absent-one, byte-one}
 

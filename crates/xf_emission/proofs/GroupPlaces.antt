@@ -86,11 +86,7 @@ module _ (s : Source) where
   items-are : (earlier : List Placed) (i : Placed) (later : List Placed) → listing s.method.code ≡ earlier ++ i ∷ later
       → items s ≡ (copies s Start 0 ++ flat_map (group s) earlier) ++ (group s i ++ (flat_map (group s) later ++ ending))
   unfolding items
-  items-are earlier i later e =
-      let groups : flat_map (group s) (listing s.method.code) ≡ flat_map (group s) earlier ++ (group s i ++ flat_map (group s) later) =
-      ap (flat_map (group s)) e ∙ flat_map-append (group s) earlier (i ∷ later)
-      ∙ ap (λ xs. flat_map (group s) earlier ++ xs) (flat_map-cons (group s) i later) in
-      ap (λ xs. copies s Start 0 ++ (xs ++ ending)) groups ∙ simp append_assoc
+  items-are earlier i later e = grind (arith, flat_map, flat_map-append, flat_map-cons, append_assoc)
 
   stands : IsCode s → (i : Placed) → HasInstruction s.method.code i → is_some (s.frames i.place) ≡ true → GroupStands s i
   stands code i st reached =

@@ -1,21 +1,18 @@
 -- The items of a rewritten method are such as are laid.
-use Rattle.std.proofs.Common.{ℕ, zero, suc, ◌<◌, Bool, true, false, if◌then◌else◌, List, [], ◌∷◌, map, reverse, flat_map, Option, Some, None}
-use Rattle.std.proofs.Common.{refl, lit<}
+use Rattle.std.proofs.Common.{ℕ, zero, suc, ◌<◌, Bool, if◌then◌else◌, List, [], ◌∷◌, map, reverse, flat_map, Option, Some, None, arith}
+use Rattle.std.proofs.Common.{lit<}
 use Rattle.jc_base.specs.Each.{Each}
 use Rattle.jc_base.specs.declared.ty.Kind.{Kind}
-use Rattle.jc_base.specs.declared.ty.Kind.TheVariants as kinds
 use Rattle.jc_base.specs.declared.ty.Ty.{Ty}
-use Rattle.jc_base.specs.declared.ty.Ty.TheVariants.{Short, IntHigh}
 use Rattle.jc_base.proofs.Eaching.{Each-append}
 use Rattle.jc_decode.specs.declared.symbols.Item.{Item}
 use Rattle.jc_decode.specs.declared.symbols.Item.TheVariants.{Plain}
 use Rattle.jc_decode.specs.Layout.{layout_of, opcode}
 use Rattle.jc_decode.specs.Symbols.{IsItem}
 use Rattle.jc_ops.specs.declared.operation.Sort.{Sort}
-use Rattle.jc_ops.specs.declared.operation.Sort.TheVariants as sorts
 use Rattle.xf_homes.specs.declared.home.Home.{Home}
 use Rattle.xf_homes.specs.Home.{register_count}
-use Rattle.xf_homes.specs.Walk.{has, same_home}
+use Rattle.xf_homes.specs.Walk.{has}
 use Rattle.xf_homes.specs.Source.{Source}
 use Rattle.xf_homes.specs.Plan.{register, stack_homes, needed}
 use Rattle.jc_ops.specs.declared.operation.Operation.{Operation}
@@ -30,8 +27,7 @@ use Rattle.xf_emission.specs.Mnemonics.{swap_x}
 -- ---- lists
 
 pub each-if : {X : Type 0} (P : X → Type 0) (b : Bool) (xs ys : List X) → Each P xs → Each P ys → Each P (if b then xs else ys)
-each-if P true xs ys a b = a
-each-if P false xs ys a b = b
+each-if x y xs ys a b = grind (arith)
 
 pub each-flat : {X Y : Type 0} (P : Y → Type 0) (f : X → List Y) (xs : List X) → ((x : X) → Each P (f x)) → Each P (flat_map f xs)
 each-flat P f [] h = tt
@@ -46,15 +42,11 @@ each-map P f (x ∷ xs) h = (h x, each-map P f xs h)
 module _ (code : List ℕ) (all : List Item) (s : Source) (small : (h : Home) → register s h < 256) where
   load-by : (t : Ty) (r : ℕ) → r < 256 → IsItem code all (Plain (with_byte (load_op t) r))
   unfolding layout_of opcode
-  load-by Short r lt = (((lt, refl), (refl, refl), (refl, refl)), refl)
-  load-by IntHigh r lt = (((lt, refl), (refl, refl), (refl, refl)), refl)
-  load-by t r lt = (((lt, refl), (refl, refl), (refl, refl)), refl)
+  load-by t r lt = grind (arith)
 
   store-by : (t : Ty) (r : ℕ) → r < 256 → IsItem code all (Plain (with_byte (store_op t) r))
   unfolding layout_of opcode
-  store-by Short r lt = (((lt, refl), (refl, refl), (refl, refl)), refl)
-  store-by IntHigh r lt = (((lt, refl), (refl, refl), (refl, refl)), refl)
-  store-by t r lt = (((lt, refl), (refl, refl), (refl, refl)), refl)
+  store-by t r lt = grind (arith)
 
   pub load-suits : (h : Home) → IsItem code all (load s h)
   load-suits h = load-by h.ty (register s h) (small h)
@@ -93,9 +85,7 @@ module _ (code : List ℕ) (all : List Item) (s : Source) (small : (h : Home) �
   pub cells-suit : (hs ks : List Home) → Each (IsItem code all) (cell_copies s hs ks)
   cells-suit [] ks = tt
   cells-suit (h ∷ hs) [] = tt
-  cells-suit (h ∷ hs) (k ∷ ks) =
-      Each-append (IsItem code all) (if same_home h k then [] else copy s h k) (cell_copies s hs ks)
-      (each-if (IsItem code all) (same_home h k) [] (copy s h k) tt (copy-suits h k)) (cells-suit hs ks)
+  cells-suit (h ∷ hs) (k ∷ ks) = grind (arith, each-if, copy-suits, cells-suit hs ks)
 
   pub taken-suits : (p : ℕ) (op : Operation) (n q : ℕ) → Each (IsItem code all) (branch_copies s p op n q)
   unfolding branch_copies
@@ -107,10 +97,8 @@ module _ (code : List ℕ) (all : List Item) (s : Source) (small : (h : Home) �
 
   pub popped-suits : (letter : Sort) → IsItem code all (pop_item letter)
   unfolding layout_of opcode
-  popped-suits sorts.Int = (((refl, refl), (refl, refl), (refl, refl)), refl)
-  popped-suits letter = (((refl, refl), (refl, refl), (refl, refl)), refl)
+  popped-suits letter = grind (arith)
 
   pub swap-suits : (k : Kind) → IsItem code all (Plain (with_byte swap_x (swap_words k)))
   unfolding layout_of opcode
-  swap-suits kinds.Int = (((lit< tt, refl), (refl, refl), (refl, refl)), refl)
-  swap-suits k = (((lit< tt, refl), (refl, refl), (refl, refl)), refl)
+  swap-suits k = grind (arith, lit<)

@@ -1,6 +1,6 @@
 -- The labels among the items of a rewritten method, in their order.
-use Rattle.std.proofs.Common.{◌≡◌, ℕ, zero, suc, ◌+◌, Bool, true, false, if◌then◌else◌, List, [], ◌∷◌, ◌++◌, map, reverse, flat_map}
-use Rattle.std.proofs.Common.{Option, Some, None, Result, Ok, Err, refl, sym, ◌∙◌, ap, arith}
+use Rattle.std.proofs.Common.{◌≡◌, ℕ, zero, suc, ◌+◌, Bool, if◌then◌else◌, List, [], ◌∷◌, ◌++◌, map, reverse, flat_map}
+use Rattle.std.proofs.Common.{Option, Some, None, Result, Ok, refl, sym, ◌∙◌, ap, arith}
 use Rattle.std.specs.Prelude.{ℤ, count_by, cond, ◌==◌, is_some}
 use Rattle.std.proofs.lemmas.List.Sums.{sum_by-cons}
 use Rattle.jc_base.specs.declared.record.Handler.{Handler}
@@ -13,22 +13,19 @@ use Rattle.jc_ops.specs.declared.fault.RuleFault.{RuleFault}
 use Rattle.jc_ops.specs.declared.operation.Branch.TheVariants as branches
 use Rattle.jc_ops.specs.declared.operation.Holder.TheVariants as holders
 use Rattle.jc_ops.specs.declared.operation.Sort.{Sort}
-use Rattle.jc_ops.specs.declared.operation.Sort.TheVariants as sorts
 use Rattle.jc_ops.specs.declared.operation.Operation.{Operation}
 use Rattle.jc_ops.specs.declared.operation.Operation.TheVariants as ops
-use Rattle.jc_ops.specs.Next.{falls_from}
 use Rattle.jc_rules.specs.Demand.{Frame}
 use Rattle.xf_homes.specs.declared.home.Home.{Home}
 use Rattle.xf_homes.specs.Home.{register_count}
-use Rattle.xf_homes.specs.Walk.{has, same_home, operands_of}
+use Rattle.xf_homes.specs.Walk.{has, operands_of}
 use Rattle.xf_homes.specs.Source.{Source}
 use Rattle.xf_homes.specs.Plan.{stack_homes, needed, local, is_leader, operation}
 use Rattle.xf_emission.specs.declared.origin.Origin.{Origin}
-use Rattle.xf_emission.specs.declared.origin.Origin.TheVariants.{After, Entry}
 use Rattle.xf_emission.specs.Move.{store, copy, loads, spill}
-use Rattle.xf_emission.specs.Edge.{home_before, homes_held, copy_new, copies_from, local_copies, locals_copies, copies, cell_copies}
-use Rattle.xf_emission.specs.Jump.{under, operands, has_under, spill_if, branch_copies, jump_to, branch, goto, place, stub_label, stub_of, stub, handler_label}
-use Rattle.xf_emission.specs.Group.{itself, loaded, increased, pop_item, store_to_homes, stays, field_read, field_written, gone, branch_by, body, fall}
+use Rattle.xf_emission.specs.Edge.{home_before, copy_new, copies_from, local_copies, locals_copies, copies, cell_copies}
+use Rattle.xf_emission.specs.Jump.{branch_copies, jump_to, branch, goto, place, stub_label, stub_of, stub, handler_label}
+use Rattle.xf_emission.specs.Group.{loaded, increased, pop_item, store_to_homes, field_read, field_written, gone, branch_by, body, fall}
 use Rattle.xf_emission.specs.Group.{fall_over, fall_by, fallen, done, group_by, group}
 use Rattle.xf_emission.specs.Emission.{catching_stub}
 
@@ -52,8 +49,7 @@ pub none-both : (xs ys : List Item) → labels xs ≡ [] → labels ys ≡ [] �
 none-both xs ys a b = labels-append xs ys ∙ ap (λ ls. ls ++ labels ys) a ∙ b
 
 none-if : (b : Bool) (xs ys : List Item) → labels xs ≡ [] → labels ys ≡ [] → labels (if b then xs else ys) ≡ []
-none-if true xs ys a b = a
-none-if false xs ys a b = b
+none-if x xs ys a b = grind (arith)
 
 none-flat : {X : Type 0} (f : X → List Item) (xs : List X) → ((x : X) → labels (f x) ≡ []) → labels (flat_map f xs) ≡ []
 none-flat f [] h = refl
@@ -82,8 +78,7 @@ module _ (s : Source) (o : Origin) (q : ℕ) where
       new from there to = none-if (has there to) [] (copy s from to) refl refl
 
       by : (h : Option Home) → labels (copies_from s o q x h) ≡ []
-      by None = refl
-      by (Some from) = none-flat (copy_new s from (homes_held s o x from)) (needed s q x) (new from (homes_held s o x from))
+      by x = grind (arith, none-flat)
 
   locals-none : (x n : ℕ) → labels (locals_copies s o q x n) ≡ []
   locals-none x zero = refl
@@ -96,63 +91,45 @@ module _ (s : Source) (o : Origin) (q : ℕ) where
 cells-none : (s : Source) (hs ks : List Home) → labels (cell_copies s hs ks) ≡ []
 cells-none s [] ks = refl
 cells-none s (h ∷ hs) [] = refl
-cells-none s (h ∷ hs) (k ∷ ks) =
-    none-both (if same_home h k then [] else copy s h k) (cell_copies s hs ks) (none-if (same_home h k) [] (copy s h k) refl refl) (cells-none s hs ks)
+cells-none s (h ∷ hs) (k ∷ ks) = grind (arith, none-both, none-if, cells-none s hs ks)
 
 pub taken-none : (s : Source) (p : ℕ) (op : Operation) (n q : ℕ) → labels (branch_copies s p op n q) ≡ []
 unfolding branch_copies
-taken-none s p op n q =
-    none-both (cell_copies s (under s p n) (stack_homes s q)) (copies s (After p op) q) (cells-none s (under s p n) (stack_homes s q))
-    (copies-none s (After p op) q)
+taken-none s p op n q = grind (arith, none-both, cells-none, copies-none)
 
 -- ---- instructions
 
 module _ (s : Source) (i : Placed) where
   jump-none : (op : Operation) (ls : List ℕ) → labels (jump_to i op ls ∷ []) ≡ []
-  jump-none (ops.Switch width) ls = refl
-  jump-none op ls = refl
+  jump-none op ls = grind (arith)
 
   branch-none : (op : Operation) (n : ℕ) → labels (branch s i op n) ≡ []
   unfolding branch
-  branch-none op n =
-      none-both (spill_if (has_under s i.place n) s i.place n) (jump_to i op _ ∷ [])
-      (none-if (has_under s i.place n) (spill s (stack_homes s i.place) ++ loads s (operands s i.place n)) []
-      (none-both (spill s (stack_homes s i.place)) (loads s (operands s i.place n)) (spill-none s (stack_homes s i.place))
-      (loads-none s (operands s i.place n))) refl)
-      (jump-none op _)
+  branch-none op n = grind (arith, none-both, none-if, spill-none, loads-none, jump-none)
 
   loaded-none : (h : Option Home) → labels (loaded s i h) ≡ []
-  loaded-none None = refl
-  loaded-none (Some h) = refl
+  loaded-none x = grind (arith)
 
   increased-none : (h : Option Home) → labels (increased s i h) ≡ []
-  increased-none None = refl
-  increased-none (Some h) = refl
+  increased-none x = grind (arith)
 
   popped-none : (letter : Sort) → labels (pop_item letter ∷ []) ≡ []
-  popped-none sorts.Int = refl
-  popped-none letter = refl
+  popped-none letter = grind (arith)
 
   stored-none : (letter : Sort) (hs : List Home) → labels (store_to_homes s letter hs) ≡ []
-  stored-none letter [] = popped-none letter
-  stored-none letter (h ∷ hs) = none-flat (copy s h) hs (λ k. refl)
+  stored-none letter y = grind (arith, popped-none, none-flat)
 
   read-none : (h : Option Home) → labels (field_read s i h) ≡ []
-  read-none None = refl
-  read-none (Some h) = none-if (stays s h) (itself i) _ refl refl
+  read-none x = grind (arith, none-if)
 
   written-none : (k : Kind) (h : Option Home) → labels (field_written s i k h) ≡ []
-  written-none k None = refl
-  written-none k (Some h) = none-if (stays s h) (itself i) _ refl refl
+  written-none k y = grind (arith, none-if)
 
   gone-none : (op : Operation) (q : ℕ) → labels (gone s i.place op q) ≡ []
-  gone-none op q =
-      none-both (spill s (stack_homes s q)) (copies s (After i.place op) q ++ goto q ∷ []) (spill-none s (stack_homes s q))
-      (none-both (copies s (After i.place op) q) (goto q ∷ []) (copies-none s (After i.place op) q) refl)
+  gone-none op q = grind (arith, none-both, spill-none, copies-none)
 
   by-none : (op : Operation) (n : Option ℕ) → labels (branch_by s i op n) ≡ []
-  by-none op None = refl
-  by-none op (Some n) = branch-none op n
+  by-none op y = grind (arith, branch-none)
 
   pub body-none : (op : Operation) → labels (body s i op) ≡ []
   unfolding body
@@ -165,31 +142,22 @@ module _ (s : Source) (i : Placed) where
   body-none op = by-none op (operands_of s.world (Ok op))
 
   fall-none : (op : Operation) (q : ℕ) → labels (fall s i.place op q) ≡ []
-  fall-none op q =
-      none-both (if is_leader s q then spill s (stack_homes s q) else []) (copies s (After i.place op) q)
-      (none-if (is_leader s q) (spill s (stack_homes s q)) [] (spill-none s (stack_homes s q)) refl)
-      (copies-none s (After i.place op) q)
+  fall-none op q = grind (arith, none-both, none-if, spill-none, copies-none)
 
   over-none : (op : Operation) (n q : ℕ) → labels (fall_over s i.place op n q) ≡ []
-  over-none op n q =
-      none-if (is_leader s q) (branch_copies s i.place op n q) (copies s (After i.place op) q ++ loads s (under s i.place n)) (taken-none s i.place op n q)
-      (none-both (copies s (After i.place op) q) (loads s (under s i.place n)) (copies-none s (After i.place op) q) (loads-none s (under s i.place n)))
+  over-none op n q = grind (arith, none-if, taken-none, none-both, copies-none, loads-none)
 
   fall-by-none : (op : Operation) (n : Option ℕ) (q : ℕ) → labels (fall_by s i.place op n q) ≡ []
-  fall-by-none op None q = fall-none op q
-  fall-by-none op (Some n) q = none-if (has_under s i.place n) (fall_over s i.place op n q) (fall s i.place op q) (over-none op n q) (fall-none op q)
+  fall-by-none op y q = grind (arith, fall-none, none-if, over-none)
 
   pub fallen-none : (op : Operation) → labels (fallen s i op) ≡ []
   unfolding fallen
-  fallen-none op =
-      none-if (falls_from op) (fall_by s i.place op (operands_of s.world (Ok op)) (i.place + i.insn.len)) []
-      (fall-by-none op (operands_of s.world (Ok op)) (i.place + i.insn.len)) refl
+  fallen-none op = grind (arith, none-if, fall-by-none)
 
   -- ---- groups
 
   done-none : (r : Result Operation RuleFault) → labels (done s i r) ≡ []
-  done-none (Err fault) = refl
-  done-none (Ok op) = none-both (body s i op) (fallen s i op) (body-none op) (fallen-none op)
+  done-none x = grind (arith, none-both, body-none, fallen-none)
 
   -- a group has the label of its place alone
   pub group-label : labels (group s i) ≡ (if is_some (s.frames i.place) then i.place ∷ [] else [])
@@ -219,10 +187,7 @@ stub-label s p op n k t = by (branch_copies s p op n (place t)) (taken-none s p 
     by (i ∷ is) e = ap (λ ls. stub_label p k ∷ ls) (none-both (i ∷ is) (goto (place t) ∷ []) e refl)
 
 pub caught-label : (s : Source) (n : ℕ) (h : Handler) → labels (catching_stub s n h) ≡ handler_label n ∷ []
-caught-label s n h =
-    ap (λ ls. handler_label n ∷ ls)
-    (none-both (spill s (stack_homes s h.entry)) (copies s (Entry h.entry) h.entry ++ goto h.entry ∷ []) (spill-none s (stack_homes s h.entry))
-    (none-both (copies s (Entry h.entry) h.entry) (goto h.entry ∷ []) (copies-none s (Entry h.entry) h.entry) refl))
+caught-label s n h = grind (arith, none-both, spill-none, copies-none)
 
 -- ---- counting
 

@@ -50,8 +50,7 @@ is-first frames p (suc n) = by (is_some (frames p)) refl (is-first frames (suc p
 
     by : (b : Bool) → is_some (frames p) ≡ b → IsFirst frames (suc p) n (first_of frames (suc p) n)
         → IsFirst frames p (suc n) (if b then p else first_of frames (suc p) n)
-    by true e f = record { from = omega arith; to = omega arith; there = λ lt. e; none = λ r le lt. absurd (omega arith) }
-    by false e f = later e (first_of frames (suc p) n) f
+    by x e f = grind (arith, suc)
 
 module _ (s : Source) (listed : AreListed s.method.code) (has : HasFrames s) where
   found : (p : ℕ) → is_some (s.frames p) ≡ true → IsReached s.method p
@@ -72,16 +71,7 @@ module _ (s : Source) (listed : AreListed s.method.code) (has : HasFrames s) whe
   first-is p = is-first s.frames p (length s.method.code - p)
 
   pub live-is : (h : Handler) → IsHandlerOf s.method.code h → Contains s.method.rec.handlers h → is_live s h ≡ true → IsLive s.method h
-  live-is h is c e =
-      let f = first-is h.start in
-      let lt : first_reached s h.start < h.end = grind (arith, nat_tests, e) in
-      let end = end-inside h is in
-      record {
-        listed = c;
-        place = first_reached s h.start;
-        reached = found (first_reached s h.start) (f.there (omega (arith, f.from, lt, end)));
-        covers = record { «from» = f.from; before = lt };
-      }
+  live-is h is c e = grind (arith, first-is h.start, nat_tests, end-inside h is)
 
   is-live : (h : Handler) → IsHandlerOf s.method.code h → IsLive s.method h → is_live s h ≡ true
   is-live h is l =

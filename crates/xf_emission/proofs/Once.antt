@@ -1,6 +1,6 @@
 -- Each label of a rewritten method stands once.
 use Rattle.std.proofs.Common.{◌≡◌, ◌≢◌, ◌⊎◌, ℕ, zero, suc, ◌+◌, true, if◌then◌else◌, inl, inr, List, [], ◌∷◌, ◌++◌}
-use Rattle.std.proofs.Common.{flat_map, length, Contains, Option, Some, None, Result, Ok, Err, refl, sym, ◌∙◌, ap, subst, arith}
+use Rattle.std.proofs.Common.{flat_map, length, Contains, Option, Some, Result, Ok, refl, sym, ◌∙◌, ap, subst, arith}
 use Rattle.std.specs.Prelude.{ℤ, is_some, slice_get}
 use Rattle.jc_base.specs.Each.{IsAmong}
 use Rattle.jc_base.specs.declared.record.Handler.{Handler}
@@ -45,8 +45,7 @@ in-group : (s : Source) (i : Placed) → is_some (s.frames i.place) ≡ true →
 in-group s i e = subst (IsAmong i.place) (sym (group-label s i ∙ ap (λ b. if b then i.place ∷ [] else []) e)) (inl refl)
 
 filled : (copied : List Item) (l : ℕ) → copied ≢ [] → IsAmong l (label_if copied l)
-filled [] l some = absurd (some refl)
-filled (i ∷ is) l some = inl refl
+filled x l some = grind (arith)
 
 in-stubs : (s : Source) (p : ℕ) (op : Operation) (n from k : ℕ) (ts : List ℤ) (t : ℤ) → slice_get ts k ≡ Some t
     → branch_copies s p op n (place t) ≢ [] → IsAmong (stub_label p (from + k)) (labels (stubs_of s p op n from ts))
@@ -66,14 +65,7 @@ in-stubs s p op n from (suc k) (u ∷ us) t at some =
 in-caught : (s : Source) (from n : ℕ) (hs : List Handler) (h : Handler) → slice_get hs n ≡ Some h → is_live s h ≡ true
     → IsAmong (handler_label (from + n)) (labels (catching_stubs s from hs))
 in-caught s from n [] h at live = absurd (cc)
-in-caught s from zero (g ∷ gs) h at live =
-    let same : g ≡ h = cc in
-    let here : from + 0 ≡ from = omega arith in
-    let alive : is_live s g ≡ true = ap (is_live s) same ∙ live in
-    subst (λ (j : ℕ). IsAmong (handler_label j) (labels (catching_stubs s from (g ∷ gs)))) (sym here)
-    (in-left (handler_label from) (if is_live s g then catching_stub s from g else []) (catching_stubs s (suc from) gs)
-    (subst (λ b. IsAmong (handler_label from) (labels (if b then catching_stub s from g else []))) (sym alive)
-    (subst (IsAmong (handler_label from)) (sym (caught-label s from g)) (inl refl))))
+in-caught s from zero (g ∷ gs) h at live = grind (arith, in-left, suc, caught-label)
 in-caught s from (suc n) (g ∷ gs) h at live =
     let next : suc from + n ≡ from + suc n = omega arith in
     in-right (handler_label (from + suc n)) (if is_live s g then catching_stub s from g else []) (catching_stubs s (suc from) gs)
@@ -101,23 +93,13 @@ module _ (s : Source) where
       zero-first = omega arith
 
       by-operands : (o : Option ℕ) → o ≡ Some n → IsAmong (stub_label i.place k) (labels (stubs_by s i op o))
-      by-operands None e = absurd (cc)
-      by-operands (Some m) e =
-          let same : n ≡ m = cc in
-          subst (λ (j : ℕ). IsAmong (stub_label i.place k) (labels (stubs_of s i.place op j 0 (each_once (targets s.method.code i))))) same
-          (subst (λ (j : ℕ). IsAmong (stub_label i.place j) (labels (stubs_of s i.place op n 0 (each_once (targets s.method.code i))))) zero-first
-          (in-stubs s i.place op n 0 k (each_once (targets s.method.code i)) t at some))
+      by-operands x e = grind (arith, in-stubs)
 
       by-operation : (r : Result Operation RuleFault) → r ≡ Ok op → IsAmong (stub_label i.place k) (labels (stubs_done s i r))
-      by-operation (Err fault) e = absurd (cc)
-      by-operation (Ok other) e =
-          let same : op ≡ other = cc in
-          subst (λ (o : Operation). IsAmong (stub_label i.place k) (labels (stubs_by s i o (operands_of s.world (Ok o))))) same
-          (by-operands (operands_of s.world (Ok op)) asks)
+      by-operation x e = grind (arith, by-operands)
 
       by-frame : (f : Option Frame) → is_some f ≡ true → IsAmong (stub_label i.place k) (labels (stubs_at s i f))
-      by-frame None e = absurd (cc)
-      by-frame (Some f) e = by-operation (operation s i) is
+      by-frame x e = grind (arith, by-operation)
 
   pub named-among : (l : ℕ) → IsLabelOf s l → IsAmong l (labels (items s))
   named-among _ (of_place {i = i} st reached) = among-groups i.place (in-flat (group s) (listing s.method.code) i i.place st (in-group s i reached))

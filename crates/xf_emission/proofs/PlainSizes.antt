@@ -1,8 +1,9 @@
 -- The plain size of a rewritten method: each edge has no more copies than there are homes.
 use Rattle.std.proofs.Common.{◌≡◌, ℕ, zero, suc, ◌+◌, ◌-◌, ◌*◌, ◌≤◌, Bool, true, false, if◌then◌else◌, inl, inr, List, []}
-use Rattle.std.proofs.Common.{◌∷◌, ◌++◌, map, reverse, flat_map, length, Option, Some, None, Result, Ok, Err, refl, sym, ◌∙◌, ap, subst, arith}
+use Rattle.std.proofs.Common.{◌∷◌, ◌++◌, map, reverse, flat_map, length, Option, Some, None}
+use Rattle.std.proofs.Common.{Result, Ok, Err, refl, sym, ◌∙◌, ap, subst, arith}
 use Rattle.std.proofs.Common.{length-append}
-use Rattle.std.specs.Prelude.{ℤ, pos, is_some, nat_lt, nat_le, count_by, cond, IsSomeAnd}
+use Rattle.std.specs.Prelude.{ℤ, is_some, nat_lt, nat_le, count_by, cond, IsSomeAnd}
 use Rattle.std.specs.List.{filter}
 use Rattle.std.proofs.lemmas.List.{length-reverse}
 use Rattle.std.proofs.lemmas.List.Sums.{length-filter, sum_by-append, sum_by-cons}
@@ -19,43 +20,41 @@ use Rattle.jc_decode.specs.declared.symbols.Item.{Item}
 use Rattle.jc_decode.specs.declared.symbols.Item.TheVariants.{Plain, Label}
 use Rattle.jc_decode.specs.Decoding.{decoded}
 use Rattle.jc_decode.specs.Layout.{operand_width}
-use Rattle.jc_decode.specs.Listing.{listing, targets, Lists}
+use Rattle.jc_decode.specs.Listing.{targets, Lists}
 use Rattle.jc_decode.specs.Symbols.{plain_bytes, plain_size}
 use Rattle.jc_decode.proofs.Decoded.{IsWithin-decoded}
-use Rattle.jc_ops.specs.Next.{falls_from}
 use Rattle.jc_ops.specs.declared.fault.RuleFault.{RuleFault}
 use Rattle.jc_ops.specs.declared.operation.Branch.TheVariants as branches
 use Rattle.jc_ops.specs.declared.operation.Holder.TheVariants as holders
 use Rattle.jc_ops.specs.declared.operation.Sort.{Sort}
-use Rattle.jc_ops.specs.declared.operation.Sort.TheVariants as sorts
 use Rattle.jc_ops.specs.declared.operation.Operation.{Operation}
 use Rattle.jc_ops.specs.declared.operation.Operation.TheVariants as ops
 use Rattle.jc_rules.specs.Demand.{Frame}
 use Rattle.xf_homes.specs.declared.home.Home.{Home}
 use Rattle.xf_homes.specs.Home.{register_count, IsAsked, asked_here, asked_caught}
-use Rattle.xf_homes.specs.Laws.{AreNeeded, IsAskedBefore, AreAskedInOrder, NeededAreKept, HasRegister, Serve, HomesServe}
+use Rattle.xf_homes.specs.Laws.{AreNeeded, AreAskedInOrder, NeededAreKept, HasRegister, Serve, HomesServe}
 use Rattle.xf_homes.specs.Order.{register_sum}
 use Rattle.xf_homes.specs.Value.{type_width as home_width, value_in_cells}
 use Rattle.xf_homes.specs.Walk.{operands_of, register_from, same_home, has}
 use Rattle.xf_homes.proofs.Events.{homes-equal}
 use Rattle.xf_homes.specs.Source.{Source}
-use Rattle.xf_homes.specs.Plan.{register, local, needed, stack_homes, cells_from, depth, home_of, with_home_of, stack_of, is_leader, operation}
+use Rattle.xf_homes.specs.Plan.{register, local, needed, stack_homes, cells_from, depth}
+use Rattle.xf_homes.specs.Plan.{home_of, with_home_of, stack_of, is_leader, operation}
 use Rattle.xf_emission.specs.declared.origin.Origin.{Origin}
-use Rattle.xf_emission.specs.declared.origin.Origin.TheVariants.{Start, After, Entry}
 use Rattle.xf_emission.specs.Move.{with_byte, load_op, store_op, load, store, copy, loads, spill}
 use Rattle.xf_emission.specs.Edge.{home_before, homes_held, copy_new, copies_from, local_copies, locals_copies, copies, cell_copies}
-use Rattle.xf_emission.specs.Jump.{under, operands, has_under, spill_if, branch_copies, place, each_once, leads, jump_to, branch, goto, stub, stub_of}
-use Rattle.xf_emission.specs.Jump.{stub_label, stubs_of, handler_label, operands_slot}
-use Rattle.xf_emission.specs.Group.{itself, loaded, increased, pop_item, store_to_homes, stays, field_read, field_written, swap_words, gone, first_place}
-use Rattle.xf_emission.specs.Group.{branch_by, body, fall, fall_over, fall_by, fallen, entrance, done, group_by, group}
+use Rattle.xf_emission.specs.Jump.{under, operands, branch_copies, place, each_once, jump_to, branch, goto, stub, stub_of}
+use Rattle.xf_emission.specs.Jump.{stubs_of, operands_slot}
+use Rattle.xf_emission.specs.Group.{itself, loaded, increased, pop_item, store_to_homes, stays}
+use Rattle.xf_emission.specs.Group.{field_read, field_written, swap_words, gone, first_place}
+use Rattle.xf_emission.specs.Group.{branch_by, body, fall, fall_by, fallen, entrance, done, group_by, group}
 use Rattle.xf_emission.specs.Emission.{stubs, stubs_at, stubs_by, stubs_done, is_live, catching_stub, catching_stubs, items}
 use Rattle.xf_emission.specs.Laws.{IsCode, HasFrames, PlainSizeFits}
 use Rattle.xf_emission.proofs.Fewer.{Distinct, no-longer, either-among, distinct-append}
 use Rattle.xf_emission.proofs.TwoBytes.{two-bytes}
 use Rattle.xf_emission.proofs.Ways.{ways-few}
-use Rattle.xf_emission.specs.Mnemonics.{from_read, from_write, swap_x, pop, pop2}
+use Rattle.xf_emission.specs.Mnemonics.{from_read, from_write, swap_x}
 use Rattle.jc_decode.proofs.PlainLengths.{own-length, plain-length}
-use Rattle.jc_base.proofs.Eaching.{Each-at}
 
 -- ---- sizes of lists
 
@@ -69,8 +68,7 @@ append-size : (xs ys : List Item) → plain_size (xs ++ ys) ≡ plain_size xs + 
 append-size xs ys = sum_by-append plain_bytes xs ys
 
 if-size : (b : Bool) (xs ys : List Item) (n : ℕ) → plain_size xs ≤ n → plain_size ys ≤ n → plain_size (if b then xs else ys) ≤ n
-if-size true xs ys n h k = h
-if-size false xs ys n h k = k
+if-size x xs ys n h k = grind (arith)
 
 -- ---- one item
 
@@ -129,24 +127,16 @@ module _ (s : Source) where
 
   locals-size : (o : Origin) (q x n : ℕ) → plain_size (locals_copies s o q x n) ≤ 4 * length (needed_from q x n)
   locals-size o q x zero = omega (arith, none-size)
-  locals-size o q x (suc n) =
-      omega (
-        arith,
-        append-size (local_copies s o q x) (locals_copies s o q (suc x) n),
-        local-size o q x,
-        locals-size o q (suc x) n,
-        length-append (needed s q x) (needed_from q (suc x) n),
-      )
+  locals-size o q x (suc n) = grind (arith, append-size, suc, local-size, length-append, locals-size o q (suc x) n)
 
   cells-size : (hs ks : List Home) → plain_size (cell_copies s hs ks) ≤ 4 * length hs
   cells-size [] ks = omega (arith, none-size)
   cells-size (h ∷ hs) [] = omega (arith, none-size)
   cells-size (h ∷ hs) (k ∷ ks) =
-      omega (
+      grind (
         arith,
         append-size (if same_home h k then [] else copy s h k) (cell_copies s hs ks),
-        if-size (same_home h k) [] (copy s h k) 4
-            (omega (arith, none-size)) (copy-size h k),
+        if-size (same_home h k) [] (copy s h k) 4 (omega (arith, none-size)) (copy-size h k),
         cells-size hs ks,
       )
 
@@ -194,15 +184,11 @@ in-homes same n (k ∷ ks) h r e = by (same_home k h) refl e (λ f. in-homes sam
 
 pub in-order-distinct : (s : Source) (q x : ℕ) (hs : List Home) → AreAskedInOrder s.method s.frames q x hs → Distinct hs
 in-order-distinct s q x [] o = tt
-in-order-distinct s q x (h ∷ hs) o = (
-  λ a. let b = Each-at (IsAskedBefore s.method s.frames q x h) h hs o.0 a in absurd (omega (arith, b.2 b.0 b.1)),
-  in-order-distinct s q x hs o.1,
-)
+in-order-distinct s q x (h ∷ hs) o = grind (arith, each-among, in-order-distinct s q x hs o.1)
 
 module _ (same : SameTypeDecides) (kept_are : NeededAreKept) (s : Source) (has_frames : HasFrames s) (serve : Serve s.world s.method s.frames s.homes) where
   framed : (o : Option Frame) (P : Frame → Type 0) → IsSomeAnd o P → is_some o ≡ true
-  framed None P h = absurd h
-  framed (Some f) P h = refl
+  framed x y h = grind (arith)
 
   asked-home : (q x n : ℕ) (ty : Ty) → IsAsked s.method s.frames q x n ty → HasRegister s.homes (record { slot = x; ty = ty })
   asked-home q x _ ty (asked_here at) = serve.needed q x ty ((has_frames.reached q).0 (framed (s.frames q) _ at)) (0, asked_here at)
@@ -248,8 +234,7 @@ module _ (same : SameTypeDecides) (kept_are : NeededAreKept) (s : Source) (has_f
     needed-few q x n = omega (arith, no-longer (needed_from s q x n) s.homes (all-distinct q x n) (all-homes q x n), homes-at-most)
 
     pub one-few : (q x : ℕ) → length (needed s q x) ≤ 255
-    one-few q x =
-        omega (arith, no-longer (needed s q x) s.homes (in-order-distinct s q x (needed s q x) (needed-are q x).order) (needed-home q x), homes-at-most)
+    one-few q x = grind (arith, no-longer, in-order-distinct, needed-are, needed-home, homes-at-most)
 
     copies-size : (o : Origin) (q : ℕ) → plain_size (copies s o q) ≤ 1020
     unfolding copies
@@ -272,14 +257,7 @@ module _ (same : SameTypeDecides) (kept_are : NeededAreKept) (s : Source) (has_f
 
       taken-size : (p : ℕ) (op : Operation) (n q : ℕ) → plain_size (branch_copies s p op n q) ≤ 2040
       unfolding branch_copies
-      taken-size p op n q =
-          omega (
-            arith,
-            append-size (cell_copies s (under s p n) (stack_homes s q)) (copies s (After p op) q),
-            cells-size s (under s p n) (stack_homes s q),
-            under-few p n,
-            copies-size (After p op) q,
-          )
+      taken-size p op n q = grind (arith, append-size, cells-size, under-few, copies-size)
 
       spilled : (p : ℕ) → plain_size (spill s (stack_homes s p)) ≤ 510
       spilled p = omega (arith, spill-size s (stack_homes s p), stack-few p)
@@ -292,22 +270,13 @@ module _ (same : SameTypeDecides) (kept_are : NeededAreKept) (s : Source) (has_f
         kept-size = omega (arith, cons-size (Plain i.insn) [], none-size, plain-length i.insn)
 
         loaded-size : (h : Option Home) → plain_size (loaded s i h) ≤ i.insn.len + 13
-        loaded-size None = kept-size
-        loaded-size (Some h) = omega (arith, cons-size (load s h) [], none-size, load-size s h)
+        loaded-size x = grind (arith, kept-size, cons-size, none-size, load-size)
 
         increased-size : (h : Option Home) → plain_size (increased s i h) ≤ i.insn.len + 13
-        increased-size None = kept-size
-        increased-size (Some h) =
-            omega (
-              arith,
-              cons-size (Plain (record i.insn { x = pos (register s h) })) [],
-              none-size,
-              plain-length (record i.insn { x = pos (register s h) }),
-            )
+        increased-size x = grind (arith, kept-size, cons-size, none-size, plain-length)
 
         popped-size : (letter : Sort) → plain_bytes (pop_item letter) ≤ 14
-        popped-size sorts.Int = plain-length (record { op = pop2; x = pos 0; y = pos 0; z = pos 0; len = 1 })
-        popped-size letter = plain-length (record { op = pop; x = pos 0; y = pos 0; z = pos 0; len = 1 })
+        popped-size letter = grind (arith, plain-length)
 
         stored-size : (letter : Sort) (hs : List Home) → length hs ≤ 255 → plain_size (store_to_homes s letter hs) ≤ 1036
         stored-size letter [] le = omega (arith, cons-size (pop_item letter) [], none-size, popped-size letter)
@@ -347,69 +316,23 @@ module _ (same : SameTypeDecides) (kept_are : NeededAreKept) (s : Source) (has_f
 
         branch-size : (n : ℕ) → plain_size (branch s i op n) ≤ i.insn.len + 1033
         unfolding branch
-        branch-size n =
-            let ls = leads s i.place op n (targets s.method.code i) (targets s.method.code i) in
-            let spilt : plain_size (spill s (stack_homes s i.place) ++ loads s (operands s i.place n)) ≤ 1020 =
-            omega (
-              arith,
-              append-size (spill s (stack_homes s i.place)) (loads s (operands s i.place n)),
-              spilled i.place,
-              loads-size s (operands s i.place n),
-              operands-few i.place n,
-            ) in
-            omega (
-              arith,
-              append-size (spill_if (has_under s i.place n) s i.place n) (jump_to i op ls ∷ []),
-              if-size (has_under s i.place n) (spill s (stack_homes s i.place) ++ loads s (operands s i.place n)) [] 1020 spilt (omega (arith, none-size)),
-              cons-size (jump_to i op ls) [],
-              none-size,
-              jump-size ls,
-            )
+        branch-size n = grind (arith, append-size, spilled, loads-size, operands-few, if-size, none-size, cons-size, jump-size)
 
         branch-by-size : (n : Option ℕ) → plain_size (branch_by s i op n) ≤ i.insn.len + 1033
-        branch-by-size None = omega (arith, kept-size)
-        branch-by-size (Some n) = branch-size n
+        branch-by-size x = grind (arith, kept-size, branch-size)
 
         gone-size : (q : ℕ) → plain_size (gone s i.place op q) ≤ 1533
-        gone-size q =
-            omega (
-              arith,
-              append-size (spill s (stack_homes s q)) (copies s (After i.place op) q ++ goto q ∷ []),
-              append-size (copies s (After i.place op) q) (goto q ∷ []),
-              spilled q,
-              copies-size (After i.place op) q,
-              goto-size q,
-            )
+        gone-size q = grind (arith, append-size, spilled, copies-size, goto-size)
 
         fall-size : (q : ℕ) → plain_size (fall s i.place op q) ≤ 1530
-        fall-size q =
-            omega (
-              arith,
-              append-size (if is_leader s q then spill s (stack_homes s q) else []) (copies s (After i.place op) q),
-              if-size (is_leader s q) (spill s (stack_homes s q)) [] 510 (spilled q) (omega (arith, none-size)),
-              copies-size (After i.place op) q,
-            )
+        fall-size q = grind (arith, append-size, if-size, spilled, none-size, copies-size)
 
         fall-by-size : (n : Option ℕ) (q : ℕ) → plain_size (fall_by s i.place op n q) ≤ 2040
-        fall-by-size None q = omega (arith, fall-size q)
-        fall-by-size (Some n) q =
-            let back : plain_size (copies s (After i.place op) q ++ loads s (under s i.place n)) ≤ 2040 =
-            omega (
-              arith,
-              append-size (copies s (After i.place op) q) (loads s (under s i.place n)),
-              copies-size (After i.place op) q,
-              loads-size s (under s i.place n),
-              under-few i.place n,
-            ) in
-            if-size (has_under s i.place n) (fall_over s i.place op n q) (fall s i.place op q) 2040
-            (if-size (is_leader s q) (branch_copies s i.place op n q) (copies s (After i.place op) q ++ loads s (under s i.place n)) 2040
-            (taken-size i.place op n q) back) (omega (arith, fall-size q))
+        fall-by-size x q = grind (arith, fall-size, append-size, copies-size, loads-size, under-few, if-size, taken-size)
 
         fallen-size : plain_size (fallen s i op) ≤ 2040
         unfolding fallen
-        fallen-size =
-            if-size (falls_from op) (fall_by s i.place op (operands_of s.world (Ok op)) (i.place + i.insn.len)) [] 2040
-            (fall-by-size (operands_of s.world (Ok op)) (i.place + i.insn.len)) (omega (arith, none-size))
+        fallen-size = grind (arith, if-size, fall-by-size, none-size)
 
       body-size : (i : Placed) (op : Operation) → plain_size (body s i op) ≤ i.insn.len + 1533
       unfolding body
@@ -436,8 +359,7 @@ module _ (same : SameTypeDecides) (kept_are : NeededAreKept) (s : Source) (has_f
               )
 
           done-size : (r : Result Operation RuleFault) → plain_size (done s i r) ≤ i.insn.len + 3573
-          done-size (Err fault) = omega (arith, none-size)
-          done-size (Ok op) = omega (arith, append-size (body s i op) (fallen s i op), body-size i op, fallen-size i op)
+          done-size x = grind (arith, none-size, append-size, body-size, fallen-size)
 
           by : (f : Option Frame) → plain_size (group_by s i f) ≤ i.insn.len + 4083
           by None = omega (arith, none-size)
@@ -446,20 +368,12 @@ module _ (same : SameTypeDecides) (kept_are : NeededAreKept) (s : Source) (has_f
       -- ---- stubs
 
       stub-of-size : (l q : ℕ) (xs : List Item) → plain_size (stub_of l q xs) ≤ plain_size xs + 3
-      stub-of-size l q [] = omega (arith, none-size)
-      stub-of-size l q (x ∷ xs) = omega (arith, cons-size (Label l) ((x ∷ xs) ++ goto q ∷ []), append-size (x ∷ xs) (goto q ∷ []), goto-size q)
+      stub-of-size l q z = grind (arith, none-size, cons-size, append-size, goto-size)
 
       stubs-of-size : (p : ℕ) (op : Operation) (n k : ℕ) (ts : List ℤ) → plain_size (stubs_of s p op n k ts) ≤ 2043 * length ts
       unfolding stub
       stubs-of-size p op n k [] = omega (arith, none-size)
-      stubs-of-size p op n k (t ∷ ts) =
-          omega (
-            arith,
-            append-size (stub s p op n k t) (stubs_of s p op n (suc k) ts),
-            stub-of-size (stub_label p k) (place t) (branch_copies s p op n (place t)),
-            taken-size p op n (place t),
-            stubs-of-size p op n (suc k) ts,
-          )
+      stubs-of-size p op n k (t ∷ ts) = grind (arith, append-size, suc, stub-of-size, taken-size, stubs-of-size p op n (suc k) ts)
 
       stubs-size : (i : Placed) → plain_size (stubs s i) ≤ 2043 * length (targets s.method.code i)
       unfolding stubs
@@ -474,20 +388,10 @@ module _ (same : SameTypeDecides) (kept_are : NeededAreKept) (s : Source) (has_f
           by-operation (Ok op) = by-operands op (operands_of s.world (Ok op))
 
           by : (f : Option Frame) → plain_size (stubs_at s i f) ≤ 2043 * length (targets s.method.code i)
-          by None = omega (arith, none-size)
-          by (Some f) = by-operation (operation s i)
+          by x = grind (arith, none-size, by-operation)
 
       caught-size : (n : ℕ) (h : Handler) → plain_size (catching_stub s n h) ≤ 1533
-      caught-size n h =
-          omega (
-            arith,
-            cons-size (Label (handler_label n)) (spill s (stack_homes s h.entry) ++ (copies s (Entry h.entry) h.entry ++ goto h.entry ∷ [])),
-            append-size (spill s (stack_homes s h.entry)) (copies s (Entry h.entry) h.entry ++ goto h.entry ∷ []),
-            append-size (copies s (Entry h.entry) h.entry) (goto h.entry ∷ []),
-            spilled h.entry,
-            copies-size (Entry h.entry) h.entry,
-            goto-size h.entry,
-          )
+      caught-size n h = grind (arith, cons-size, append-size, spilled, copies-size, goto-size)
 
       all-caught-size : (n : ℕ) (hs : List Handler) → plain_size (catching_stubs s n hs) ≤ 1533 * length hs
       all-caught-size n [] = omega (arith, none-size)
@@ -528,25 +432,7 @@ module _ (same : SameTypeDecides) (kept_are : NeededAreKept) (s : Source) (has_f
 
         pub all-size : plain_size (items s) ≤ 300000000
         unfolding items
-        all-size =
-            let groups = flat_map (group s) (listing s.method.code) in
-            let branches = flat_map (stubs s) (listing s.method.code) in
-            let caughts = catching_stubs s 0 s.method.rec.handlers in
-            omega (
-              arith,
-              append-size (copies s Start 0) (groups ++ (Label (length s.method.code) ∷ branches ++ caughts)),
-              append-size groups (Label (length s.method.code) ∷ branches ++ caughts),
-              cons-size (Label (length s.method.code)) (branches ++ caughts),
-              append-size branches caughts,
-              copies-size Start 0,
-              groups-size 0 (listing s.method.code) code.lists (omega arith),
-              all-stubs-size 0 (listing s.method.code) code.lists (omega arith),
-              all-caught-size 0 s.method.rec.handlers,
-              code.short,
-              code.few,
-            )
+        all-size = grind (arith, flat_map, append-size, cons-size, copies-size, groups-size, all-stubs-size, all-caught-size)
 
 pub plain-size-fits : SameTypeDecides → NeededAreKept → (w : Linked) → HomesServe w → PlainSizeFits w
-plain-size-fits same kept_are w serve s own code has are few shallow =
-    let served = subst HomesServe (sym own) serve in
-    omega (arith, all-size same kept_are s has (served s.method s.frames s.homes are) few shallow code)
+plain-size-fits same kept_are w serve s own code has are few shallow = grind (arith, all-size)

@@ -27,10 +27,7 @@ rises-append low mid high (x ∷ xs) ys r s = (r.0, below mid high ys (omega (ar
 -- a number below all does not occur
 pub count-below : (low high l : ℕ) (xs : List ℕ) → l < low → Rises low high xs → count_by (λ m. m == l) xs ≡ 0
 count-below low high l [] lt r = refl
-count-below low high l (x ∷ xs) lt r =
-    let no : (x == l) ≡ false = ne_eqb x l (λ e. omega (arith, e, r.0)) in
-    sum_by-cons (λ m. cond (m == l) 1 0) x xs ∙ ap (λ b. cond b 1 0 + count_by (λ m. m == l) xs) no
-    ∙ omega (arith, count-below (suc x) high l xs (omega (arith, r.0)) r.2)
+count-below low high l (x ∷ xs) lt r = grind (arith, ne_eqb, sum_by-cons, suc, count-below (suc x) high l xs (omega (arith, r.0)) r.2)
 
 -- one that stands among them occurs once
 pub count-among : (low high l : ℕ) (xs : List ℕ) → Rises low high xs → IsAmong l xs → count_by (λ m. m == l) xs ≡ 1

@@ -14,7 +14,8 @@ use Rattle.jc_ops.specs.declared.operation.Holder.{Holder}
 use Rattle.jc_ops.specs.declared.operation.Holder.TheVariants as holders
 use Rattle.jc_ops.specs.declared.operation.Operation.{Operation}
 use Rattle.jc_ops.specs.declared.operation.Operation.TheVariants as ops
-use Rattle.jc_ops.specs.Row.{row_at, table, unused, by_sort, by_width, by_kind, first_four, by_register, literals, binaries, orders_all, branching}
+use Rattle.jc_ops.specs.Row.{row_at, table, unused, by_sort, by_width, by_kind}
+use Rattle.jc_ops.specs.Row.{first_four, by_register, literals, binaries, orders_all, branching}
 use Rattle.jc_ops.specs.Resolve.{resolved, on, new_object}
 use Rattle.jc_rules.proofs.Decides.{ok-same}
 
@@ -84,8 +85,7 @@ named {X = X} f find k is = record {
     by-kind (Err fault) op e = absurd (cc)
 
     by-place : (r : Result X RuleFault) (other : ℕ) (op : Operation) → on f r ≡ Ok op → on f r ≡ Ok (moved_to other op)
-    by-place (Ok x) other op e = ap Ok (ap (λ q. q.1) (is x other) ∙ ap (moved_to other) (ok-same e))
-    by-place (Err fault) other op e = absurd (cc)
+    by-place x other op e = grind (arith, ok-same)
 
 -- an object is made at the place
 made : (pool : Insn → ℕ) (find : Linked → MethodRec → Insn → Option Member) → Gives (λ w m place i. new_object w place (pool i) (find w m i))

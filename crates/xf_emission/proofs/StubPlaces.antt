@@ -66,9 +66,7 @@ stub-parts s p op n from zero (u ∷ us) t at =
     record {
       before = [];
       after = stubs_of s p op n (suc from) us;
-      parts =
-          ap (λ (v : ℤ). stub s p op n from v ++ stubs_of s p op n (suc from) us) same
-          ∙ ap (λ (j : ℕ). stub s p op n j t ++ stubs_of s p op n (suc from) us) here;
+      parts = grind (arith, suc);
     }
 stub-parts s p op n from (suc k) (u ∷ us) t at =
     let rest = stub-parts s p op n (suc from) k us t at in
@@ -78,9 +76,7 @@ stub-parts s p op n from (suc k) (u ∷ us) t at =
     record {
       before = stub s p op n from u ++ rest.before;
       after = rest.after;
-      parts =
-          ap (λ xs. stub s p op n from u ++ xs) whole
-          ∙ sym (append_assoc (stub s p op n from u) rest.before (stub s p op n (from + suc k) t ++ rest.after));
+      parts = grind (arith, append_assoc, suc);
     }
 
 module _ (s : Source) (i : Placed) (op : Operation) (n : ℕ) (is : operation s i ≡ Ok op) (asks : operands_of s.world (Ok op) ≡ Some n) where
@@ -148,10 +144,7 @@ caught-parts s from zero (g ∷ gs) h at live =
     record {
       before = [];
       after = catching_stubs s (suc from) gs;
-      parts =
-          ap (λ b. (if b then catching_stub s from g else []) ++ catching_stubs s (suc from) gs) alive
-          ∙ ap (λ (k : Handler). catching_stub s from k ++ catching_stubs s (suc from) gs) same
-          ∙ ap (λ (j : ℕ). catching_stub s j h ++ catching_stubs s (suc from) gs) here;
+      parts = grind (arith, suc);
     }
 caught-parts s from (suc n) (g ∷ gs) h at live =
     let rest = caught-parts s (suc from) n gs h at live in

@@ -1,11 +1,10 @@
 -- The labels of all stubs rise, and so do those of all items.
 use Rattle.std.proofs.Common.{◌≡◌, ℕ, suc, ◌+◌, ◌≤◌, Bool, true, false, if◌then◌else◌, List, [], ◌∷◌, ◌++◌, flat_map, length}
-use Rattle.std.proofs.Common.{Option, Some, None, Result, Ok, Err, refl, sym, ◌∙◌, ap, subst, arith}
+use Rattle.std.proofs.Common.{Option, Some, None, Result, Ok, refl, sym, ◌∙◌, ap, subst, arith}
 use Rattle.std.specs.Prelude.{ℤ, is_some}
 use Rattle.jc_base.specs.declared.record.Handler.{Handler}
 use Rattle.jc_decode.specs.declared.insn.Placed.{Placed}
 use Rattle.jc_decode.specs.declared.symbols.Item.{Item}
-use Rattle.jc_decode.specs.declared.symbols.Item.TheVariants.{Label}
 use Rattle.cap_bytes.specs.Bytes.{AreBytes}
 use Rattle.jc_decode.specs.Decoding.{decoded, IsWithin}
 use Rattle.jc_decode.specs.Listing.{listing, targets, Lists}
@@ -13,12 +12,8 @@ use Rattle.jc_decode.proofs.Decoded.{IsWithin-decoded}
 use Rattle.jc_ops.specs.declared.fault.RuleFault.{RuleFault}
 use Rattle.jc_ops.specs.declared.operation.Operation.{Operation}
 use Rattle.jc_rules.specs.Demand.{Frame}
-use Rattle.xf_homes.specs.Walk.{operands_of}
 use Rattle.xf_homes.specs.Source.{Source}
-use Rattle.xf_homes.specs.Plan.{operation}
 use Rattle.xf_emission.specs.Jump.{each_once, place, stub_label, stub, stubs_of, branch_copies, handler_label}
-use Rattle.xf_emission.specs.declared.origin.Origin.TheVariants.{Start}
-use Rattle.xf_emission.specs.Edge.{copies}
 use Rattle.xf_emission.specs.Group.{group}
 use Rattle.xf_emission.specs.Emission.{stubs, stubs_by, stubs_done, stubs_at, is_live, catching_stub, catching_stubs, items}
 use Rattle.xf_emission.proofs.Labels.{labels, labels-append, label_if, copies-none, stub-label, caught-label, group-label}
@@ -28,8 +23,7 @@ use Rattle.xf_emission.proofs.Ways.{ways-few}
 
 module _ (s : Source) (p : ℕ) (op : Operation) (n : ℕ) where
   one-rises : (copied : List Item) (l : ℕ) → Rises l (suc l) (label_if copied l)
-  one-rises [] l = omega arith
-  one-rises (i ∷ is) l = (omega arith, omega arith, omega arith)
+  one-rises x l = grind (arith)
 
   -- the stubs of one branch
   stubs-of-rise : (k : ℕ) (ts : List ℤ) → Rises (stub_label p k) (stub_label p (k + length ts)) (labels (stubs_of s p op n k ts))
@@ -81,12 +75,10 @@ module _ (s : Source) (bytes : AreBytes s.method.code) where
         high here
 
     by-operation : (r : Result Operation RuleFault) → Rises (stub_label i.place 0) (stub_label (i.place + i.insn.len) 0) (labels (stubs_done s i r))
-    by-operation (Err fault) = low
-    by-operation (Ok op) = by-operands op (operands_of s.world (Ok op))
+    by-operation x = grind (arith, by-operands)
 
     by-frame : (f : Option Frame) → Rises (stub_label i.place 0) (stub_label (i.place + i.insn.len) 0) (labels (stubs_at s i f))
-    by-frame None = low
-    by-frame (Some f) = by-operation (operation s i)
+    by-frame x = grind (arith, by-operation)
 
     stubs-here : Rises (stub_label i.place 0) (stub_label (i.place + i.insn.len) 0) (labels (stubs s i))
     unfolding stubs
@@ -126,12 +118,7 @@ pub all-labels : (s : Source) → labels (items s)
     ≡ labels (flat_map (group s) (listing s.method.code))
     ++ length s.method.code ∷ labels (flat_map (stubs s) (listing s.method.code) ++ catching_stubs s 0 s.method.rec.handlers)
 unfolding items
-all-labels s =
-    let groups = flat_map (group s) (listing s.method.code) in
-    let rest = Label (length s.method.code) ∷ flat_map (stubs s) (listing s.method.code) ++ catching_stubs s 0 s.method.rec.handlers in
-    labels-append (copies s Start 0) (groups ++ rest)
-    ∙ ap (λ ls. ls ++ labels (groups ++ rest)) (copies-none s Start 0)
-    ∙ labels-append groups rest
+all-labels s = grind (arith, flat_map, labels-append, copies-none)
 
 module _ (s : Source) (bytes : AreBytes s.method.code) where
   pub all-rise : Lists s.method.code 0 (listing s.method.code) → length s.method.code ≤ 32767 → length s.method.rec.handlers ≤ 255

@@ -1,5 +1,5 @@
 -- What is emitted for an instruction, on the edges of a branch and where a handler takes over may be laid.
-use Rattle.std.proofs.Common.{◌≡◌, ℕ, suc, ◌+◌, ◌-◌, ◌<◌, Bool, true, false, if◌then◌else◌, List, [], ◌∷◌, ◌++◌, map}
+use Rattle.std.proofs.Common.{◌≡◌, ℕ, suc, ◌+◌, ◌-◌, ◌<◌, Bool, true, false, if◌then◌else◌, List, [], ◌∷◌, ◌++◌}
 use Rattle.std.proofs.Common.{flat_map, length, Contains, Option, Some, None, Result, Ok, Err, refl, sym, ◌∙◌, ap, arith}
 use Rattle.std.specs.Prelude.{ℤ, not, is_some, slice_get}
 use Rattle.std.proofs.lemmas.List.{length-map}
@@ -16,32 +16,32 @@ use Rattle.jc_decode.specs.Decoding.{decoded}
 use Rattle.jc_decode.specs.Encoding.{IsAllowed}
 use Rattle.jc_decode.specs.Forms.{is_wide_jump, wide}
 use Rattle.jc_decode.specs.Layout.{layout_of}
-use Rattle.jc_decode.specs.Listing.{jumps, is_branch, listing, target, targets}
+use Rattle.jc_decode.specs.Listing.{jumps, is_branch, listing, targets}
 use Rattle.jc_decode.specs.Symbols.{IsItem, IsOnce}
-use Rattle.jc_ops.specs.Next.{falls_from, jumps_from}
+use Rattle.jc_ops.specs.Next.{jumps_from}
 use Rattle.jc_ops.specs.declared.fault.RuleFault.{RuleFault}
-use Rattle.jc_ops.specs.declared.operation.Branch.TheVariants as branches
-use Rattle.jc_ops.specs.declared.operation.Holder.TheVariants as holders
 use Rattle.jc_ops.specs.declared.operation.Sort.{Sort}
 use Rattle.jc_ops.specs.declared.operation.Operation.{Operation}
-use Rattle.jc_ops.specs.declared.operation.Operation.TheVariants as ops
 use Rattle.jc_rules.specs.Demand.{Frame}
 use Rattle.xf_homes.specs.declared.home.Home.{Home}
 use Rattle.xf_homes.specs.Walk.{operands_of}
 use Rattle.xf_homes.specs.Source.{Source}
-use Rattle.xf_homes.specs.Plan.{register, local, needed, stack_homes, is_leader, operation}
+use Rattle.xf_homes.specs.Plan.{register, stack_homes, is_leader, operation}
 use Rattle.xf_emission.specs.declared.origin.Origin.TheVariants.{Start, After, Entry}
 use Rattle.xf_emission.specs.Move.{copy, loads, spill}
 use Rattle.xf_emission.specs.Edge.{copies}
-use Rattle.xf_emission.specs.Jump.{under, operands, has_under, spill_if, branch_copies, place, each_once, way_of, lead, leads, first_label, jump_to, branch}
+use Rattle.xf_emission.specs.Jump.{under, operands, has_under, spill_if, branch_copies, place}
+use Rattle.xf_emission.specs.Jump.{way_of, lead, leads, first_label, jump_to, branch}
 use Rattle.xf_emission.specs.Jump.{goto, stub, stub_of, stub_label, stubs_of}
-use Rattle.xf_emission.specs.Group.{itself, loaded, increased, store_to_homes, stays, field_read, field_written, gone, first_place, body, fall, fall_over}
+use Rattle.xf_emission.specs.Group.{itself, loaded, increased, store_to_homes, stays, field_read}
+use Rattle.xf_emission.specs.Group.{field_written, gone, first_place, body, fall, fall_over}
 use Rattle.xf_emission.specs.Group.{fall_by, fallen, entrance, done, group_by, group}
 use Rattle.xf_emission.specs.Emission.{stubs, stubs_at, stubs_by, stubs_done, is_live, catching_stub, catching_stubs, items}
 use Rattle.xf_emission.proofs.RowByRow.{op_kind, branching_kind, switching}
 use Rattle.xf_emission.proofs.Forms.{suits_kind, other-opcode}
 use Rattle.xf_emission.proofs.Ways.{way-from}
-use Rattle.xf_emission.proofs.Items.{each-if, each-flat, load-suits, store-suits, copy-suits, loads-suit, spill-suits, copies-suit, taken-suits, popped-suits}
+use Rattle.xf_emission.proofs.Items.{each-if, each-flat, load-suits, store-suits, copy-suits}
+use Rattle.xf_emission.proofs.Items.{loads-suit, spill-suits, copies-suit, taken-suits, popped-suits}
 use Rattle.xf_emission.proofs.Items.{swap-suits}
 use Rattle.xf_emission.specs.Mnemonics.{from_read, from_write}
 use Rattle.jc_decode.proofs.Formed.{first_byte, has_byte, other-register}
@@ -68,8 +68,7 @@ module _ (all : List Item) (s : Source) (small : (h : Home) → register s h < 2
 
     increased-suits : jumps_from op ≡ false → first_byte (layout_of i.insn.op) ≡ true → (h : Option Home)
         → Each (IsItem s.method.code all) (increased s i h)
-    increased-suits j u None = kept-suits j
-    increased-suits j u (Some h) = ((other-register i.insn (register s h) u (small h) e.allowed, ap not (sym e.alike ∙ j)), tt)
+    increased-suits j u z = grind (arith, kept-suits, other-register)
 
     stored-suits : (letter : Sort) (hs : List Home) → Each (IsItem s.method.code all) (store_to_homes s letter hs)
     stored-suits letter [] = (popped-suits s.method.code all s small letter, tt)
@@ -119,9 +118,7 @@ module _ (all : List Item) (s : Source) (small : (h : Home) → register s h < 2
 
     target-count : jumps i.insn.op ≡ true → length (targets s.method.code i) ≡ length (cases s.method.code i.place i.insn) + 1
     unfolding targets
-    target-count j =
-        ap (λ (b : Bool). length (if b then target i.place i.insn.x ∷ map (λ c. target i.place c.offset) (cases s.method.code i.place i.insn) else [])) j
-        ∙ omega (arith, length-map (cases s.method.code i.place i.insn) (λ c. target i.place c.offset))
+    target-count j = grind (arith, length-map)
 
     jump-suits : (n : ℕ) → operands_of s.world (Ok op) ≡ Some n → jumps_from op ≡ true
         → IsItem s.method.code all (jump_to i op (leads s i.place op n (targets s.method.code i) (targets s.method.code i)))
@@ -149,9 +146,7 @@ module _ (all : List Item) (s : Source) (small : (h : Home) → register s h < 2
             (is.1, first-once ls (length (cases s.method.code i.place i.insn)) more (ways-once n asks))
 
         by : (o : Operation) → o ≡ op → jumps_from o ≡ true → IsItem s.method.code all (jump_to i o ls)
-        by (ops.Switch width) same goes = switch-suits (ap op_kind (sym same))
-        by (ops.Branch b) same goes = branch-suits (ap op_kind (sym same))
-        by o same goes = absurd (cc)
+        by o same goes = grind (arith, switch-suits, branch-suits)
 
     spill-if-suits : (over : Bool) (n : ℕ) → Each (IsItem s.method.code all) (spill_if over s i.place n)
     spill-if-suits over n =
@@ -201,9 +196,7 @@ module _ (all : List Item) (s : Source) (small : (h : Home) → register s h < 2
 
     fallen-suits : Each (IsItem s.method.code all) (fallen s i op)
     unfolding fallen
-    fallen-suits =
-        each-if (IsItem s.method.code all) (falls_from op) (fall_by s i.place op (operands_of s.world (Ok op)) (i.place + i.insn.len)) []
-        (fall-by-suits (operands_of s.world (Ok op)) (i.place + i.insn.len)) tt
+    fallen-suits = grind (arith, each-if, fall-by-suits)
 
     -- ---- stubs
 
@@ -223,35 +216,25 @@ module _ (all : List Item) (s : Source) (small : (h : Home) → register s h < 2
         (stubs-suit-from n (suc k) ts (λ j u at. h (suc j) u at))
 
     pub stubs-by-suit : (n : Option ℕ) → Each (IsItem s.method.code all) (stubs_by s i op n)
-    stubs-by-suit None = tt
-    stubs-by-suit (Some n) =
-        stubs-suit-from n 0 (each_once (targets s.method.code i)) (λ j t at. let k = way-from (targets s.method.code i) j t at in e.places k.0 t k.1)
+    stubs-by-suit x = grind (arith, stubs-suit-from, way-from)
 
   -- ---- the instruction, by its form
 
   pub body-suits : (i : Placed) (op : Operation) → IsEmitted all s i op → Each (IsItem s.method.code all) (body s i op)
   unfolding body
-  body-suits i (ops.Load letter x) e = loaded-suits i (ops.Load letter x) e refl (local s i.place x)
-  body-suits i (ops.Increment width x amount) e =
-      increased-suits i (ops.Increment width x amount) e refl (and_parts (first_byte (layout_of i.insn.op)) (not (jumps i.insn.op)) e.suits).0 (local s i.place x)
-  body-suits i (ops.Store letter x) e = stored-suits i (ops.Store letter x) e letter (needed s (i.place + i.insn.len) x)
-  body-suits i (ops.FieldRead f holders.This) e =
-      let is = and_parts (has_byte (layout_of i.insn.op)) _ e.suits in
-      read-suits i (ops.FieldRead f holders.This) e refl is.0 (and_parts (has_byte (layout_of (i.insn.op - from_read)))
-      (not (jumps (i.insn.op - from_read))) is.1)
-      (local s i.place 0)
-  body-suits i (ops.FieldWrite f holders.This) e =
-      let is = and_parts (has_byte (layout_of i.insn.op)) _ e.suits in
-      written-suits i (ops.FieldWrite f holders.This) e refl is.0 (and_parts (has_byte (layout_of (i.insn.op - from_write)))
-      (not (jumps (i.insn.op - from_write))) is.1)
-      f.kind (local s i.place 0)
-  body-suits i (ops.Branch branches.Always) e = gone-suits i (ops.Branch branches.Always) e refl
-  body-suits i (ops.Branch (branches.Zero o)) e = branch-items i (ops.Branch (branches.Zero o)) e _ refl refl
-  body-suits i (ops.Branch (branches.Null o)) e = branch-items i (ops.Branch (branches.Null o)) e _ refl refl
-  body-suits i (ops.Branch (branches.References o)) e = branch-items i (ops.Branch (branches.References o)) e _ refl refl
-  body-suits i (ops.Branch (branches.Shorts o)) e = branch-items i (ops.Branch (branches.Shorts o)) e _ refl refl
-  body-suits i (ops.Switch width) e = branch-items i (ops.Switch width) e _ refl refl
-  body-suits i op e = kept-suits i op e refl
+  body-suits i op e =
+      grind (
+        arith,
+        loaded-suits,
+        increased-suits,
+        and_parts,
+        stored-suits,
+        read-suits,
+        written-suits,
+        gone-suits,
+        branch-items,
+        kept-suits,
+      )
 
   pub done-suits : (i : Placed) (r : Result Operation RuleFault) → ((op : Operation) → r ≡ Ok op → IsEmitted all s i op)
       → Each (IsItem s.method.code all) (done s i r)

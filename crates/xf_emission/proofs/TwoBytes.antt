@@ -1,23 +1,21 @@
 -- Each target of an instruction takes two bytes of it.
 use Rattle.std.proofs.Common.{◌≡◌, ◌≤◌, ◌+◌, ◌*◌, ℕ, Bool, true, false, if◌then◌else◌, Result, Ok, Err, List, [], ◌∷◌, length}
 use Rattle.std.proofs.Common.{map, refl, sym, ap, ◌∙◌, arith}
-use Rattle.std.specs.Prelude.{unsigned_abs, not, ◌||◌, nat_le, replicate}
+use Rattle.std.specs.Prelude.{not, ◌||◌, nat_le, replicate}
 use Rattle.std.specs.List.{range_with_len}
 use Rattle.std.proofs.lemmas.Bool.Decides.{nat_tests}
 use Rattle.std.proofs.Math.Nat.{add-mul}
 use Rattle.std.proofs.lemmas.List.{length-map}
 use Rattle.std.proofs.lemmas.List.FromFn.{length-map-range_with_len}
 use Rattle.jc_decode.specs.declared.layout.Cases.{Cases}
-use Rattle.jc_decode.specs.declared.layout.Cases.TheVariants.{Range, Pairs}
-use Rattle.jc_decode.specs.declared.layout.Cases.TheVariants.{Absent as NoCases}
 use Rattle.jc_decode.specs.declared.layout.Layout.{Layout}
 use Rattle.jc_decode.specs.declared.insn.CodeEnd.{CodeEnd}
 use Rattle.jc_decode.specs.declared.insn.Insn.{Insn}
 use Rattle.jc_decode.specs.declared.insn.Placed.{Placed}
-use Rattle.jc_decode.specs.Layout.{operand_width, total_width, layout_of, opcode}
+use Rattle.jc_decode.specs.Layout.{total_width, layout_of, opcode}
 use Rattle.cap_bytes.specs.Bytes.{AreBytes}
-use Rattle.jc_decode.specs.Decoding.{range_count, decoded, end_of_cases}
-use Rattle.jc_decode.specs.Cases.{cases, cases_in, range_case, pair_case}
+use Rattle.jc_decode.specs.Decoding.{decoded, end_of_cases}
+use Rattle.jc_decode.specs.Cases.{cases, cases_in}
 use Rattle.jc_decode.specs.Listing.{jumps, target, targets}
 use Rattle.jc_decode.proofs.Decoded.{Begins-decoded, range_end-ok, pairs_end-ok}
 use Rattle.jc_decode.proofs.Passed.{passed-at, or-rest}
@@ -40,19 +38,7 @@ has_operand-all = refl
 cases-long : (c : Cases) (l : Layout) (xs : List ℕ) (table at : ℕ) (i : Insn) → table ≡ at + 1 + total_width l
     → end_of_cases c l.z xs table i.y i.z ≡ Ok (at + i.len)
     → 1 + total_width l + 2 * length (cases_in c xs table i) ≤ i.len
-cases-long NoCases l xs table at i e h = let same : table ≡ at + i.len = cc in omega (arith, same, e)
-cases-long Range l xs table at i e h =
-    let end = range_end-ok l.z xs table i.y i.z (at + i.len) h in
-    omega (arith, end.0, e, length-map-range_with_len (range_case xs table i.y) 0 (range_count i.y i.z))
-cases-long (Pairs key) l xs table at i e h =
-    let end = pairs_end-ok key xs table (unsigned_abs i.y) (at + i.len) h in
-    omega (
-      arith,
-      end.0,
-      e,
-      length-map-range_with_len (pair_case xs table key) 0 (unsigned_abs i.y),
-      add-mul (operand_width key) 2 (unsigned_abs i.y),
-    )
+cases-long x l xs table at i e h = grind (arith, range_end-ok, length-map-range_with_len, pairs_end-ok, add-mul)
 
 module _ (xs : List ℕ) (p : Placed) (bytes : AreBytes xs) (h : decoded xs p.place ≡ Ok p.insn) (l : Layout) (is : layout_of p.insn.op ≡ Ok l)
     (ends : end_of_cases l.cases l.z xs (p.place + 1 + total_width l) p.insn.y p.insn.z ≡ Ok (p.place + p.insn.len)) where

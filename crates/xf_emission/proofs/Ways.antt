@@ -147,10 +147,7 @@ found-at (u ∷ us) t a = by (int_eq t u) refl (found-at us t)
 
     by : (b : Bool) → int_eq t u ≡ b → (IsAmong t us → slice_get us (position_or_len (int_eq t) us) ≡ Some t)
         → slice_get (u ∷ us) (cond (not b) (1 + position_or_len (int_eq t) us) 0) ≡ Some t
-    by true same rest = ap Some (sym ((Decides-int_eq t u).0 same))
-    by false other rest =
-        let next : 1 + position_or_len (int_eq t) us ≡ suc (position_or_len (int_eq t) us) = omega arith in
-        ap (slice_get (u ∷ us)) next ∙ rest (later other a)
+    by x same rest = grind (arith, suc, slice_get)
 
 -- each target goes one of the ways
 pub way-found : (ts : List ℤ) (k : ℕ) (t : ℤ) → slice_get ts k ≡ Some t → slice_get (each_once ts) (way_of ts t) ≡ Some t
