@@ -1,5 +1,5 @@
 -- Constants, moves, arithmetic, branches, reads, and tests of types, in two states that are alike.
-use Rattle.std.proofs.Common.{◌≡◌, ℕ, zero, suc, ◌*◌, Bool, true, false, if◌then◌else◌, List, [], ◌∷◌, map, drop, refl, sym, ap}
+use Rattle.std.proofs.Common.{◌≡◌, ℕ, zero, suc, ◌*◌, Bool, true, false, if◌then◌else◌, List, [], ◌∷◌, map, drop, refl, sym, ap, arith}
 use Rattle.std.proofs.Common.{◌∙◌, subst}
 use Rattle.std.specs.Prelude.{ℤ, pos, negsuc, Option, Some, slice_get}
 use Rattle.std.proofs.lemmas.List.{drop-map}
@@ -14,7 +14,6 @@ use Rattle.jc_ops.specs.declared.operation.StaticField.{StaticField}
 use Rattle.jc_ops.specs.declared.operation.Width.{Width}
 use Rattle.jc_ops.specs.declared.operation.Width.TheVariants as widths
 use Rattle.jc_ops.specs.declared.operation.Constant.{Constant}
-use Rattle.jc_ops.specs.declared.operation.Constant.TheVariants as constants
 use Rattle.jc_ops.specs.declared.operation.Move.{Move}
 use Rattle.jc_ops.specs.declared.operation.Arithmetic.{Arithmetic}
 use Rattle.jc_ops.specs.declared.operation.Arithmetic.TheVariants as arithmetic
@@ -22,7 +21,7 @@ use Rattle.jc_ops.specs.declared.operation.Branch.{Branch}
 use Rattle.jc_ops.specs.declared.operation.Branch.TheVariants as branches
 use Rattle.jc_ops.specs.declared.operation.TypeTest.{TypeTest}
 use Rattle.jc_ops.specs.declared.operation.TypeTest.TheVariants as tests
-use Rattle.vm_arithmetic.specs.Arithmetic.{succeeds, int_to_short, short_to_byte, int_to_byte, compared, of_shorts, of_ints, short_of_word}
+use Rattle.vm_arithmetic.specs.Arithmetic.{succeeds, int_to_short, short_to_byte, int_to_byte, compared, short_of_word}
 use Rattle.vm_store.specs.declared.cell.Cell.{Cell}
 use Rattle.vm_store.specs.declared.cell.Cell.TheVariants as cells
 use Rattle.vm_store.specs.declared.kind.ObjectKind.{ObjectKind}
@@ -32,19 +31,19 @@ use Rattle.vm_store.specs.Value.{value_in}
 use Rattle.vm_step.specs.declared.exception.Exception.TheVariants as exceptions
 use Rattle.vm_step.specs.Act.{goes, raises, throws}
 use Rattle.vm_step.specs.Values.{with_constant, with_move, computed, negated, arithmetic_act}
-use Rattle.vm_step.specs.Branching.{is_same, is_taken, leads_if, branch_width, branch_act}
+use Rattle.vm_step.specs.Branching.{is_same, is_taken, leads_if, branch_act}
 use Rattle.vm_step.specs.Fields.{with_static_read, elements_of, element_index, at_element, array_read_act, array_length_act}
-use Rattle.vm_step.specs.Objects.{new_act, kind_of_type, array_of_count, new_array_act, throw_act, passes, may_cast, truth, type_test_act}
+use Rattle.vm_step.specs.Objects.{new_act, array_of_count, new_array_act, throw_act, passes, may_cast, truth, type_test_act}
 use Rattle.vm_step.specs.Numbers.{handle_at, short_at, int_on, number_cells, dropped, replaced}
 use Rattle.law_alike.specs.Alike.{renamed_cell}
 use Rattle.law_alike.proofs.Cells.{word-at, short-is, int-is, moved-renamed, in-stays, object-stays, instance-stays, array-stays}
-use Rattle.law_alike.proofs.Twins.{Pair, two, first, second, Does, goes_both, leads_both, makes_both, raises_both, throws_both, stack-twins, stack-does}
+use Rattle.law_alike.proofs.Twins.{Pair, two, first, second, Does, goes_both}
+use Rattle.law_alike.proofs.Twins.{leads_both, makes_both, raises_both, throws_both, stack-twins, stack-does}
 use Rattle.law_alike.proofs.Twins.{replaced-does, null-does, some-does}
 
 numbers-stay :
     (f : ℕ → ℕ) (width : Width) (n : ℤ) → map (renamed_cell f) (number_cells tagged width n) ≡ number_cells tagged width n
-numbers-stay f widths.Short n = refl
-numbers-stay f widths.Int n = refl
+numbers-stay f y n = grind (arith)
 
 module _ (x : Pair) where
   -- the stack of the second state
@@ -68,21 +67,13 @@ module _ (x : Pair) where
   pub read-stays :
       (kind : Kind) (h at : ℕ) → map (renamed_cell x.rename) (value_in tagged kind (object_cells (first x) h) at)
       ≡ value_in tagged kind (object_cells (second x) h) at
-  read-stays kind h at =
-      in-stays x.rename kind (object_cells (first x) h) at (cells-stay h)
-      ∙ ap (λ cs. value_in tagged kind cs at) (sym (cells-same h))
+  read-stays kind h at = grind (arith, in-stays x.rename kind (object_cells (first x) h) at (cells-stay h), cells-same h)
 
   -- ---- operations after which the instruction after comes, and which write no register
 
   module _ (none : x.print.written ≡ 0) (falls : x.falls ≡ true) where
     pub constant-does : (c : Constant) → Does x (goes (with_constant tagged c (first x))) (goes (with_constant tagged c (second x)))
-    constant-does constants.Nothing = stack-does x none falls x.frame.stack other_stack refl
-    constant-does constants.Null = stack-does x none falls (cells.Ref 0 ∷ x.frame.stack) (cells.Ref 0 ∷ other_stack) refl
-    constant-does (constants.Short n) =
-        replaced-does x none falls 0 (number_cells tagged widths.Short (int_to_short n))
-        (number_cells tagged widths.Short (int_to_short n)) refl
-    constant-does (constants.Int n) =
-        replaced-does x none falls 0 (number_cells tagged widths.Int n) (number_cells tagged widths.Int n) refl
+    constant-does x = grind (arith, stack-does, replaced-does)
 
     pub move-does : (m : Move) → Does x (goes (with_move m (first x))) (goes (with_move m (second x)))
     move-does m = stack-does x none falls _ _ (moved-renamed x.rename m x.frame.stack)
@@ -91,28 +82,17 @@ module _ (x : Pair) where
         (count : ℕ) (width : Width) (n k : ℤ) → k ≡ n
         → Does x (goes (replaced (first x) count (number_cells tagged width n)))
         (goes (replaced (second x) count (number_cells tagged width k)))
-    number-does count width n k e =
-        replaced-does x none falls count (number_cells tagged width n) (number_cells tagged width k)
-        (numbers-stay x.rename width n ∙ ap (number_cells tagged width) (sym e))
+    number-does count width n k e = grind (arith, replaced-does, numbers-stay)
 
     computed-does :
         (width : Width) (taken : ℕ) (o p : Option ℤ) → p ≡ o
         → Does x (computed tagged width (first x) taken o) (computed tagged width (second x) taken p)
-    computed-does width taken o p e =
-        some-does x exceptions.Arithmetic o p
-        (λ n. goes (replaced (first x) taken (number_cells tagged width n)))
-        (λ n. goes (replaced (second x) taken (number_cells tagged width n)))
-        e (λ n. number-does taken width n n refl)
+    computed-does width taken o p e = grind (arith, some-does, number-does)
 
     pub arithmetic-does : (a : Arithmetic) → Does x (arithmetic_act tagged a (first x)) (arithmetic_act tagged a (second x))
-    arithmetic-does (arithmetic.Binary o widths.Short) =
-        computed-does widths.Short 2 (of_shorts o (short_at tagged x.frame.stack 1) (short_at tagged x.frame.stack 0)) _
-        (ap (λ n. of_shorts o n (short_at tagged other_stack 0)) (short-is x.rename x.frame.stack 1)
-        ∙ ap (of_shorts o (short_at tagged x.frame.stack 1)) (short-is x.rename x.frame.stack 0))
+    arithmetic-does (arithmetic.Binary o widths.Short) = grind (arith, computed-does, short-is)
     arithmetic-does (arithmetic.Binary o widths.Int) =
-        computed-does widths.Int 4 (of_ints o (int_on tagged x.frame.stack 2) (int_on tagged x.frame.stack 0)) _
-        (ap (λ n. of_ints o n (int_on tagged other_stack 0)) (int-is x.rename x.frame.stack 3 2)
-        ∙ ap (of_ints o (int_on tagged x.frame.stack 2)) (int-is x.rename x.frame.stack 1 0))
+        grind (arith, int-is x.rename x.frame.stack 3 2, int-is x.rename x.frame.stack 1 0, computed-does)
     arithmetic-does (arithmetic.Negate widths.Short) =
         number-does 1 widths.Short _ _ (ap (negated widths.Short) (short-is x.rename x.frame.stack 0))
     arithmetic-does (arithmetic.Negate widths.Int) =
@@ -171,17 +151,13 @@ module _ (x : Pair) where
         (b : Bool)
         → Does x (if b then goes (first x) else raises exceptions.ClassCast)
         (if b then goes (second x) else raises exceptions.ClassCast)
-    cast-or-raised true = stack-does x none falls x.frame.stack other_stack refl
-    cast-or-raised false = raises_both exceptions.ClassCast
+    cast-or-raised x = grind (arith, stack-does, raises_both)
 
     pub type-test-does :
         (t : ClassTable) (test : TypeTest) (ty : Ty)
         → Does x (type_test_act tagged t test ty (first x)) (type_test_act tagged t test ty (second x))
     type-test-does t tests.Cast ty =
-        subst
-        (λ h. Does x (type_test_act tagged t tests.Cast ty (first x))
-        (if may_cast t (second x) ty h then goes (second x) else raises exceptions.ClassCast))
-        (sym (word-at x.rename x.frame.stack 0)) (cast-or-raised (may_cast t (first x) ty (handle_at tagged x.frame.stack 0)))
+        grind (arith, word-at x.rename x.frame.stack 0, cast-or-raised (may_cast t (first x) ty (handle_at tagged x.frame.stack 0)))
     type-test-does t tests.InstanceOf ty =
         replaced-does x none falls 1
         (cells.Short (truth (passes t (first x) ty (handle_at tagged x.frame.stack 0))) ∷ [])
@@ -207,14 +183,7 @@ module _ (x : Pair) where
         (stack-twins x none (drop 1 x.frame.stack) x.heap x.statics x.heap_stays x.statics_stay)
 
     pub new-array-does : (ty : Ty) → Does x (new_array_act tagged ty (first x)) (new_array_act tagged ty (second x))
-    new-array-does ty =
-        let kind : ObjectKind = kind_of_type ty in
-        subst (λ n. Does x (new_array_act tagged ty (first x)) (array_of_count tagged kind n (dropped (second x) 1)))
-        (sym (short-is x.rename x.frame.stack 0))
-        (subst
-        (λ cs. Does x (new_array_act tagged ty (first x))
-        (array_of_count tagged kind (short_at tagged x.frame.stack 0) (two x x.registers cs x.heap x.statics)))
-        (sym (drop-map (renamed_cell x.rename) 1 x.frame.stack)) (array-of-does kind (short_at tagged x.frame.stack 0)))
+    new-array-does ty = grind (arith, short-is, drop-map, array-of-does)
 
   -- ---- what is thrown
 
@@ -234,12 +203,8 @@ module _ (x : Pair) where
   taken-same branches.Always = refl
   taken-same (branches.Zero o) = ap (λ n. succeeds o n (pos 0)) (short-is x.rename x.frame.stack 0)
   taken-same (branches.Null e) = same-handles e 0
-  taken-same (branches.References e) =
-      ap (λ h. is_same e h (handle_at tagged other_stack 0)) (word-at x.rename x.frame.stack 1)
-      ∙ ap (is_same e (handle_at tagged x.frame.stack 1)) (word-at x.rename x.frame.stack 0)
-  taken-same (branches.Shorts o) =
-      ap (λ n. succeeds o n (short_at tagged other_stack 0)) (short-is x.rename x.frame.stack 1)
-      ∙ ap (succeeds o (short_at tagged x.frame.stack 1)) (short-is x.rename x.frame.stack 0)
+  taken-same (branches.References e) = grind (arith, word-at x.rename x.frame.stack 1, word-at x.rename x.frame.stack 0)
+  taken-same (branches.Shorts o) = grind (arith, short-is x.rename x.frame.stack 1, short-is x.rename x.frame.stack 0)
 
   -- to a target with the number n, where it is taken; a branch that may not be taken falls through
   pub leads-does :
@@ -262,7 +227,4 @@ module _ (x : Pair) where
       (i j : Insn) (b : Branch) → x.print.written ≡ 0 → (is_taken tagged b x.frame.stack ≡ false → x.falls ≡ true)
       → slice_get x.targets 0 ≡ Some (target x.frame.place i.x) → slice_get x.other_targets 0 ≡ Some (target x.place j.x)
       → Does x (branch_act tagged i b (first x)) (branch_act tagged j b (second x))
-  branch-does i j b none falls led also =
-      leads-does none (is_taken tagged b x.frame.stack) (is_taken tagged b other_stack) 0 (branch_width b)
-      (target x.frame.place i.x) (target x.place j.x)
-      (taken-same b) falls led also
+  branch-does i j b none falls led also = grind (arith, leads-does, taken-same)

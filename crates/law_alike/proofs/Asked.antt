@@ -1,7 +1,7 @@
 -- What the tests before an operation say of the first frame, and that the second passes them too.
 use Rattle.std.proofs.Common.{◌≡◌, ℕ, suc, ◌+◌, ◌<◌, ◌≤◌, Bool, true, false, if◌then◌else◌, List, [], ◌∷◌, length, map, refl}
 use Rattle.std.proofs.Common.{sym, ap, ◌∙◌, subst, arith}
-use Rattle.std.specs.Prelude.{nat_lt, ◌&&◌, Option, Some, None, option_map, IsSomeAnd, MatchBool, slice_get, unwrap_or}
+use Rattle.std.specs.Prelude.{◌&&◌, Option, Some, None, option_map, IsSomeAnd, MatchBool, slice_get}
 use Rattle.std.specs.List.{list_all}
 use Rattle.std.proofs.lemmas.Bool.{false≢true, and_parts}
 use Rattle.std.proofs.lemmas.List.{length-map}
@@ -32,7 +32,6 @@ use Rattle.vm_store.specs.declared.kind.ObjectKind.{ObjectKind}
 use Rattle.vm_store.specs.Typing.{least_type}
 use Rattle.vm_store.specs.Cells.{tagged}
 use Rattle.vm_store.specs.State.{Frame, Object, nth}
-use Rattle.vm_step.specs.declared.ending.Fault.TheVariants.{TypeFault, StackFault, LocalFault}
 use Rattle.vm_step.specs.Tests.{fault_before}
 use Rattle.law_sound.specs.Frames.{least_types, types_of_frame}
 use Rattle.law_sound.proofs.Cells.{cell-at}
@@ -48,18 +47,13 @@ use Rattle.law_alike.proofs.Views.{View, same_op, new_ops, load_ops, store_ops, 
 picked :
     {X : Type 0} (x y z : X) (a b c : Bool) → (if a then Some x else if b then Some y else if c then None else Some z) ≡ None → c
     ≡ true
-picked x y z true b c h = absurd (cc)
-picked x y z false true c h = absurd (cc)
-picked x y z false false true h = refl
-picked x y z false false false h = absurd (cc)
+picked x y z u b c h = grind (arith)
 
 pub first-passed : {X : Type 0} (x y z : X) (a b c : Bool) → (if a then Some x else if b then Some y else if c then None else Some z) ≡ None → a ≡ false
-first-passed x y z true b c h = absurd (cc)
-first-passed x y z false b c h = refl
+first-passed x y z u b c h = grind (arith)
 
 of-true : (b : Bool) (P : Type 0) → MatchBool b P (¬ P) → b ≡ true → P
-of-true true P decided h = decided
-of-true false P decided h = absurd (false≢true h)
+of-true x y decided h = grind (arith, false≢true)
 
 module _ (w : Linked) (world : IsWorld w) where
   order : IsOrderOfTypes w.classes
@@ -77,12 +71,7 @@ module _ (w : Linked) (world : IsWorld w) where
       (f : Frame Cell) (below : List (Frame Cell)) (heap : List (Object Cell)) (statics : List Cell) (op : Operation)
       → fault_before tagged w op (record { frames = f ∷ below; heap = heap; statics = statics }) ≡ None
       → SatisfiesAll w.classes (types_of_frame w.classes Bottom (map (λ (o : Object Cell). o.kind) heap) f) (demands w op)
-  passed-asks f below heap statics op h =
-      let types = types_of_frame w.classes Bottom (map (λ (o : Object Cell). o.kind) heap) f in
-      tests-hold types (demands w op)
-      (picked LocalFault StackFault TypeFault (nat_lt (length f.registers) (registers_asked (demands w op)))
-      (nat_lt (length f.stack) (cells_asked (demands w op)))
-      (list_all (satisfies w.classes types) (demands w op)) h)
+  passed-asks f below heap statics op h = grind (arith, tests-hold, picked)
 
 -- ---- another stack
 
@@ -129,18 +118,14 @@ agree-types t ks regs others (x ∷ xs) e =
 -- the cell of a register, where it is the same as another's
 pub register-same :
     (regs others : List Cell) (a b : ℕ) → slice_get others b ≡ slice_get regs a → nth tagged others b ≡ nth tagged regs a
-register-same regs others a b e =
-    sym (unwrap_or-slice_get others b Empty) ∙ (ap (λ o. unwrap_or o Empty) e ∙ unwrap_or-slice_get regs a Empty)
+register-same regs others a b e = grind (arith, unwrap_or-slice_get others b Empty, unwrap_or-slice_get regs a Empty)
 
 -- what is asked of one register is met by the other that holds the same
 held-same :
     (t : ClassTable) (ks : List ObjectKind) (regs others : List Cell) (a b : ℕ) (P : Ty → Type 0) → slice_get others b
     ≡ slice_get regs a
     → IsSomeAnd (slice_get (least_types t Bottom ks regs) a) P → IsSomeAnd (slice_get (least_types t Bottom ks others) b) P
-held-same t ks regs others a b P e h =
-    subst (λ o. IsSomeAnd o P) (sym (slice_get-map (least_type t Bottom ks) others b))
-    (subst (λ o. IsSomeAnd (option_map (least_type t Bottom ks) o) P) (sym e)
-    (subst (λ o. IsSomeAnd o P) (slice_get-map (least_type t Bottom ks) regs a) h))
+held-same t ks regs others a b P e h = grind (arith, slice_get-map)
 
 module _ (w : Linked) (world : IsWorld w) (f : ℕ → ℕ) (ks : List ObjectKind) (regs stack others : List Cell) where
   abbrev here : Types

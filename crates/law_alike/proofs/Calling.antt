@@ -6,7 +6,8 @@ use Rattle.std.proofs.Math.ListN.{get_or-map}
 use Rattle.std.proofs.lemmas.Bool.{eq-eqb, cases_lt}
 use Rattle.std.proofs.lemmas.List.{take-map, length-reverse}
 use Rattle.jc_base.specs.declared.ty.Ty.{Ty}
-use Rattle.jc_base.specs.declared.ty.Ty.TheVariants.{Bottom, Short, IntHigh, IntLow, Null, Class, ArrBool, ArrByte, ArrShort, ArrInt, ArrRef, Fresh, Top}
+use Rattle.jc_base.specs.declared.ty.Ty.TheVariants.{Bottom, Short, IntHigh, IntLow, Null, Class, ArrBool}
+use Rattle.jc_base.specs.declared.ty.Ty.TheVariants.{ArrByte, ArrShort, ArrInt, ArrRef, Fresh, Top}
 use Rattle.jc_base.specs.declared.record.MethodRec.{MethodRec}
 use Rattle.jc_base.specs.Cell.{IsDeclared}
 use Rattle.jc_base.specs.Class.{ClassTable, AreClasses, object}
@@ -14,7 +15,7 @@ use Rattle.jc_base.specs.Dispatch.{dispatched}
 use Rattle.jc_base.specs.World.{Linked}
 use Rattle.jc_base.proofs.Lists.{All-reverse}
 use Rattle.jc_ops.specs.declared.want.Want.{Want}
-use Rattle.jc_ops.specs.declared.want.Want.TheVariants.{Value, Receiver, Storable, ByteArray, AnyArray, Whole}
+use Rattle.jc_ops.specs.declared.want.Want.TheVariants.{Value, Receiver}
 use Rattle.jc_ops.specs.declared.operation.Callee.{Callee}
 use Rattle.jc_ops.specs.declared.operation.Choice.{Choice}
 use Rattle.jc_ops.specs.declared.operation.Choice.TheVariants as choices
@@ -27,7 +28,6 @@ use Rattle.jc_rules.proofs.Types.{declared-not_fresh, declared-not_top}
 use Rattle.vm_store.specs.declared.cell.Cell.{Cell}
 use Rattle.vm_store.specs.declared.cell.Cell.TheVariants as cells
 use Rattle.vm_store.specs.declared.kind.ObjectKind.{ObjectKind}
-use Rattle.vm_store.specs.declared.kind.ObjectKind.TheVariants.{Instance, Booleans, Bytes, Shorts, Ints, References}
 use Rattle.vm_store.specs.Kind.{kind_of_handle}
 use Rattle.vm_store.specs.Typing.{least_type, fresh_seen}
 use Rattle.vm_store.specs.Cells.{tagged, made_ready}
@@ -36,14 +36,15 @@ use Rattle.vm_store.specs.Objects.{kinds}
 use Rattle.vm_step.specs.declared.ending.Value.{Value as Given}
 use Rattle.vm_step.specs.declared.ending.Value.TheVariants as values
 use Rattle.vm_step.specs.Act.{calls, gives}
-use Rattle.vm_step.specs.Calls.{class_of, served, made_at, readied, with_ready, served_act, interface_act, chosen_act, return_act}
+use Rattle.vm_step.specs.Calls.{class_of, made_at, readied, with_ready, served_act, interface_act, chosen_act, return_act}
 use Rattle.vm_step.specs.Numbers.{handle_at}
 use Rattle.law_sound.specs.Frames.{least_types}
 use Rattle.law_sound.proofs.Cells.{cell-at}
 use Rattle.law_sound.proofs.Ready.{not-over-top}
 use Rattle.law_laid.specs.Laid.{renamed}
 use Rattle.law_alike.specs.Alike.{ArePlain, IsOneToOne, KeepsPlain, renamed_cell}
-use Rattle.law_alike.proofs.Cells.{type-renamed, value-plain, value-stays, ready-stays, all-ready-renamed, nth-renamed, word-at, short-is, int-is, take-stays}
+use Rattle.law_alike.proofs.Cells.{type-renamed, value-plain, value-stays, ready-stays, all-ready-renamed}
+use Rattle.law_alike.proofs.Cells.{nth-renamed, word-at, short-is, int-is, take-stays}
 use Rattle.law_alike.proofs.Cells.{renamed-keeps}
 use Rattle.law_alike.proofs.Twins.{Pair, two, first, second, Does, calls_both, gives_both, lacks_both, stack-twins, null-does}
 use Rattle.law_alike.proofs.Acting.{other_stack}
@@ -54,14 +55,7 @@ all-split t g [] es h = (tt, h)
 all-split t g (d ∷ ds) es h = let rest = all-split t g ds es h.1 in ((h.0, rest.0), rest.1)
 
 made-renamed : (f : ℕ → ℕ) (want : Option Want) (ty : Ty) → made_at want (renamed f ty) ≡ option_map f (made_at want ty)
-made-renamed f None ty = refl
-made-renamed f (Some (Receiver c)) (Fresh p d) = refl
-made-renamed f (Some (Receiver c)) _ = refl
-made-renamed f (Some (Value ty)) found = refl
-made-renamed f (Some Storable) found = refl
-made-renamed f (Some ByteArray) found = refl
-made-renamed f (Some AnyArray) found = refl
-made-renamed f (Some Whole) found = refl
+made-renamed f y ty = grind (arith)
 
 -- the stack once the objects of a place are ready
 abbrev ready_stack : Option ℕ → List Cell → List Cell
@@ -77,8 +71,7 @@ ready-nth None cs n = refl
 ready-nth (Some p) cs n = get_or-map (made_ready p) cs n cells.Empty
 
 cell-ready : (f : ℕ → ℕ) (o : Option ℕ) (c : Cell) → renamed_cell f c ≡ c → renamed_cell f (ready_cell o c) ≡ ready_cell o c
-cell-ready f None c e = e
-cell-ready f (Some p) c e = ready-stays f p c e
+cell-ready f y c e = grind (arith, ready-stays)
 
 module _ (x : Pair) (t : ClassTable) (are : AreClasses t) where
   -- what each object is
@@ -107,9 +100,7 @@ module _ (x : Pair) (t : ClassTable) (are : AreClasses t) where
         → SatisfiesAll t (record { regs = regs; stack = stack_types }) (cells_wanted n tys)
         → (k : ℕ) → k < length tys → CellStays x (n + k)
     wanted-stay n [] all h k lt = absurd (omega (arith, lt))
-    wanted-stay n (ty ∷ tys) all h zero lt =
-        let e : n + 0 ≡ n = omega arith in
-        subst (CellStays x) (sym e) (declared-stays n ty (all 0 ty (omega arith)) h.0)
+    wanted-stay n (ty ∷ tys) all h zero lt = grind (arith, declared-stays n ty (all 0 ty (omega arith)) h.0)
     wanted-stay n (ty ∷ tys) all h (suc k) lt =
         let e : n + 1 + k ≡ n + suc k = omega arith in
         subst (CellStays x) e (wanted-stay (n + 1) tys (λ j d small. all (suc j) d (omega (arith, small))) h.1 k
@@ -127,20 +118,13 @@ module _ (x : Pair) (t : ClassTable) (are : AreClasses t) where
         (class h p : ℕ) (o : Option ObjectKind) → Meets t (Receiver class) (fresh_seen p o)
         → renamed_cell x.rename (ready_cell (made_at (Some (Receiver class)) (fresh_seen p o)) (cells.Fresh h p))
         ≡ ready_cell (made_at (Some (Receiver class)) (fresh_seen p o)) (cells.Fresh h p)
-    fresh-after class h p (Some (Instance c)) m = ap (renamed_cell x.rename) (made-ready h p) ∙ sym (made-ready h p)
-    fresh-after class h p None (inl m) = absurd m
-    fresh-after class h p None (inr m) = absurd (not-over-top t are (Class class) tt m)
-    fresh-after class h p (Some _) (inl m) = absurd m
-    fresh-after class h p (Some _) (inr m) = absurd (not-over-top t are (Class class) tt m)
+    fresh-after class h p u m = grind (arith, made-ready, not-over-top)
 
     receiver-after :
         (class : ℕ) (c : Cell) → Meets t (Receiver class) (least_type t Bottom made_kinds c)
         → renamed_cell x.rename (ready_cell (made_at (Some (Receiver class)) (least_type t Bottom made_kinds c)) c)
         ≡ ready_cell (made_at (Some (Receiver class)) (least_type t Bottom made_kinds c)) c
-    receiver-after class (cells.Fresh zero p) (inl m) = absurd m
-    receiver-after class (cells.Fresh zero p) (inr m) = absurd (not-over-top t are (Class class) tt m)
-    receiver-after class (cells.Fresh (suc h) p) m = fresh-after class (suc h) p (slice_get made_kinds h) m
-    receiver-after class c m = after-any c refl (made_at (Some (Receiver class)) (least_type t Bottom made_kinds c))
+    receiver-after class c m = grind (arith, not-over-top, fresh-after, suc, after-any)
 
     -- ---- calls
 
@@ -162,9 +146,7 @@ module _ (x : Pair) (t : ClassTable) (are : AreClasses t) where
           ≡ take count (ready_stack o x.frame.stack)
           → Does x (calls method count (readied tagged (first x) o))
           (calls method count (readied tagged (second x) (option_map x.rename o)))
-      readied-does method count None e =
-          calls_both method count (stack-twins x none x.frame.stack x.heap x.statics x.heap_stays x.statics_stay) refl refl
-          (same-arguments count x.frame.stack e)
+      readied-does method count None e = grind (arith, calls_both, stack-twins, same-arguments)
       readied-does method count (Some p) e =
           subst (λ cs. Does x (calls method count (readied tagged (first x) (Some p)))
           (calls method count (two x x.registers cs x.heap x.statics)))
@@ -176,26 +158,16 @@ module _ (x : Pair) (t : ClassTable) (are : AreClasses t) where
       served-does :
           (o : Option ℕ) (class count : ℕ) → ((k : ℕ) → k < count → CellStays x k)
           → Does x (served_act o class count (first x)) (served_act o class count (second x))
-      served-does None class count stay = lacks_both class
-      served-does (Some n) class count stay = call-does n count stay
+      served-does x class count stay = grind (arith, lacks_both, call-does)
 
       interface-does :
           (c token count : ℕ) (o : Option ObjectKind) → ((k : ℕ) → k < count → CellStays x k)
           → Does x (interface_act t c token count o (first x)) (interface_act t c token count o (second x))
-      interface-does c token count (Some (Instance r)) stay = served-does (served t c token r) r count stay
-      interface-does c token count (Some Booleans) stay = lacks_both _
-      interface-does c token count (Some Bytes) stay = lacks_both _
-      interface-does c token count (Some Shorts) stay = lacks_both _
-      interface-does c token count (Some Ints) stay = lacks_both _
-      interface-does c token count (Some (References r)) stay = lacks_both _
-      interface-does c token count None stay = lacks_both _
+      interface-does c token count u stay = grind (arith, served-does, lacks_both)
 
       -- the receiver lies under the arguments
       with-receiver : (args : ℕ) → ((k : ℕ) → k < args → CellStays x k) → CellStays x args → (k : ℕ) → k < args + 1 → CellStays x k
-      with-receiver args stay own k lt = elim (cases_lt k args) [
-        | inl small ↦ stay k small
-        | inr large ↦ let e : args ≡ k = omega (arith, lt, large) in subst (CellStays x) e own
-      ]
+      with-receiver args stay own k lt = grind (arith, cases_lt)
 
       ready-below :
           (o : Option ℕ) (args : ℕ) → ((k : ℕ) → k < args → CellStays x k)
@@ -305,9 +277,7 @@ module _ (x : Pair) (t : ClassTable) (are : AreClasses t) where
   gives-by :
       (value other : Given) (cs ds : List Cell) → other ≡ value → ds ≡ cs → ArePlain tagged cs
       → Does x (gives value cs) (gives other ds)
-  gives-by value other cs ds e g plain =
-      subst (λ k. Does x (gives value cs) (gives k ds)) (sym e)
-      (subst (λ k. Does x (gives value cs) (gives value k)) (sym g) (gives_both value cs plain))
+  gives-by value other cs ds e g plain = grind (arith, gives_both)
 
   -- every map that keeps plain cells keeps this one
   abbrev CellIsPlain : ℕ → Type 0

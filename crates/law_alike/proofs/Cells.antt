@@ -9,23 +9,19 @@ use Rattle.std.proofs.lemmas.List.{map-append, map-set, take-map, drop-map, reve
 use Rattle.jc_base.specs.declared.ty.Ty.{Ty}
 use Rattle.jc_base.specs.declared.ty.Ty.TheVariants.{Bottom}
 use Rattle.jc_base.specs.declared.ty.Kind.{Kind}
-use Rattle.jc_base.specs.declared.ty.Kind.TheVariants as fields
 use Rattle.jc_base.specs.Class.{ClassTable, AreClasses}
 use Rattle.jc_base.specs.Order.{Below}
 use Rattle.jc_base.specs.Dispatch.{cells_of}
 use Rattle.jc_ops.specs.declared.operation.Move.{Move}
-use Rattle.jc_ops.specs.declared.operation.Move.TheVariants as moves
 use Rattle.jc_ops.specs.declared.operation.Width.{Width}
-use Rattle.jc_ops.specs.declared.operation.Width.TheVariants as widths
 use Rattle.jc_rules.specs.Flow.{IsNotFresh, IsNotTop}
 use Rattle.vm_arithmetic.specs.Arithmetic.{int_of_words, short_of_word}
 use Rattle.vm_store.specs.declared.cell.Cell.{Cell}
 use Rattle.vm_store.specs.declared.cell.Cell.TheVariants as cells
 use Rattle.vm_store.specs.declared.cell.CellKind.{CellKind}
-use Rattle.vm_store.specs.declared.cell.CellKind.TheVariants as made
 use Rattle.vm_store.specs.declared.kind.ObjectKind.{ObjectKind}
 use Rattle.vm_store.specs.declared.kind.ObjectKind.TheVariants.{Instance, Booleans, Bytes, Shorts, Ints, References}
-use Rattle.vm_store.specs.Kind.{cell_kind, element_cells}
+use Rattle.vm_store.specs.Kind.{cell_kind}
 use Rattle.vm_store.specs.Typing.{least_type, type_of_handle, type_seen, fresh_seen}
 use Rattle.vm_store.specs.Cells.{tagged, word_of, loaded_as, made_ready, zero_cell}
 use Rattle.vm_store.specs.State.{Object, map_object, nth, rotated}
@@ -41,13 +37,7 @@ use Rattle.law_alike.specs.Alike.{IsOneToOne, KeepsPlain, renamed_cell}
 pub value-plain :
     (f : Cell → Cell) → KeepsPlain tagged f → (t : ClassTable) → AreClasses t → (ks : List ObjectKind) (c : Cell) (ty : Ty)
     → IsNotFresh ty → IsNotTop ty → Below t (least_type t Bottom ks c) ty → f c ≡ c
-value-plain f keeps t are ks (cells.Fresh zero p) ty fresh top b = absurd (not-over-top t are ty top b)
-value-plain f keeps t are ks (cells.Fresh (suc h) p) ty fresh top b = absurd (not-over-seen t are p (slice_get ks h) ty fresh top b)
-value-plain f keeps t are ks cells.Empty ty fresh top b = keeps.empty
-value-plain f keeps t are ks (cells.Short n) ty fresh top b = keeps.short n
-value-plain f keeps t are ks (cells.High n) ty fresh top b = keeps.high n
-value-plain f keeps t are ks (cells.Low n) ty fresh top b = keeps.low n
-value-plain f keeps t are ks (cells.Ref h) ty fresh top b = keeps.reference h
+value-plain f keeps t are ks w ty fresh top b = grind (arith, not-over-top, not-over-seen)
 
 pub renamed-keeps : (f : ℕ → ℕ) → KeepsPlain tagged (renamed_cell f)
 renamed-keeps f = record { empty = refl; short = λ n. refl; high = λ n. refl; low = λ n. refl; reference = λ h. refl }
@@ -56,8 +46,7 @@ module _ (f : ℕ → ℕ) where
   -- ---- one cell
 
   pub word-kept : (c : Cell) → word_of (renamed_cell f c) ≡ word_of c
-  word-kept (cells.Fresh h p) = refl
-  word-kept _ = refl
+  word-kept x = grind (arith)
 
   handle-renamed : (t : ClassTable) (ks : List ObjectKind) (h : ℕ) → type_of_handle t ks h ≡ renamed f (type_of_handle t ks h)
   handle-renamed t ks zero = refl
@@ -73,24 +62,12 @@ module _ (f : ℕ → ℕ) where
       go (Some (References c)) = refl
 
   seen-renamed : (p : ℕ) (o : Option ObjectKind) → fresh_seen (f p) o ≡ renamed f (fresh_seen p o)
-  seen-renamed p None = refl
-  seen-renamed p (Some (Instance c)) = refl
-  seen-renamed p (Some Booleans) = refl
-  seen-renamed p (Some Bytes) = refl
-  seen-renamed p (Some Shorts) = refl
-  seen-renamed p (Some Ints) = refl
-  seen-renamed p (Some (References c)) = refl
+  seen-renamed p y = grind (arith)
 
   pub type-renamed :
       (t : ClassTable) (ks : List ObjectKind) (c : Cell) → least_type t Bottom ks (renamed_cell f c)
       ≡ renamed f (least_type t Bottom ks c)
-  type-renamed t ks cells.Empty = refl
-  type-renamed t ks (cells.Short n) = refl
-  type-renamed t ks (cells.High n) = refl
-  type-renamed t ks (cells.Low n) = refl
-  type-renamed t ks (cells.Ref h) = handle-renamed t ks h
-  type-renamed t ks (cells.Fresh zero p) = refl
-  type-renamed t ks (cells.Fresh (suc h) p) = seen-renamed p (slice_get ks h)
+  type-renamed t ks z = grind (arith, handle-renamed, seen-renamed)
 
   pub types-renamed :
       (t : ClassTable) (ks : List ObjectKind) (cs : List Cell)
@@ -102,17 +79,10 @@ module _ (f : ℕ → ℕ) where
   pub value-stays :
       (t : ClassTable) → AreClasses t → (ks : List ObjectKind) (c : Cell) (ty : Ty)
       → IsNotFresh ty → IsNotTop ty → Below t (least_type t Bottom ks c) ty → renamed_cell f c ≡ c
-  value-stays t are ks (cells.Fresh zero p) ty fresh top b = absurd (not-over-top t are ty top b)
-  value-stays t are ks (cells.Fresh (suc h) p) ty fresh top b = absurd (not-over-seen t are p (slice_get ks h) ty fresh top b)
-  value-stays t are ks _ ty fresh top b = refl
+  value-stays t are ks u ty fresh top b = grind (arith, not-over-top, not-over-seen)
 
   pub loaded-stays : (kind : CellKind) (c : Cell) → renamed_cell f c ≡ c → renamed_cell f (loaded_as kind c) ≡ loaded_as kind c
-  loaded-stays made.Reference cells.Empty e = refl
-  loaded-stays made.Short cells.Empty e = refl
-  loaded-stays made.High cells.Empty e = refl
-  loaded-stays made.Low cells.Empty e = refl
-  loaded-stays _ (cells.Fresh h p) e = e
-  loaded-stays _ _ e = refl
+  loaded-stays x y e = grind (arith)
 
   -- ---- once a constructor was called
 
@@ -158,13 +128,10 @@ module _ (f : ℕ → ℕ) where
       (cs : List Cell) (m n : ℕ)
       → int_of_words (handle_at tagged (map (renamed_cell f) cs) m) (handle_at tagged (map (renamed_cell f) cs) n)
       ≡ int_of_words (handle_at tagged cs m) (handle_at tagged cs n)
-  int-is cs m n =
-      ap (λ a. int_of_words a (handle_at tagged (map (renamed_cell f) cs) n)) (word-at cs m)
-      ∙ ap (int_of_words (handle_at tagged cs m)) (word-at cs n)
+  int-is cs m n = grind (arith, word-at)
 
   pub number-is : (width : Width) (cs : List Cell) → number_on tagged width (map (renamed_cell f) cs) ≡ number_on tagged width cs
-  number-is widths.Short cs = short-is cs 0
-  number-is widths.Int cs = int-is cs 1 0
+  number-is x cs = grind (arith, short-is, int-is)
 
   pub map-reverse : (cs : List Cell) → map (renamed_cell f) (reverse cs) ≡ reverse (map (renamed_cell f) cs)
   map-reverse [] = refl
@@ -178,11 +145,7 @@ module _ (f : ℕ → ℕ) where
   pub replaced-renamed :
       (count : ℕ) (value other stack : List Cell) → map (renamed_cell f) value ≡ other
       → with_value other (drop count (map (renamed_cell f) stack)) ≡ map (renamed_cell f) (with_value value (drop count stack))
-  replaced-renamed count value other stack e =
-      ap (λ vs. reverse vs ++ drop count (map (renamed_cell f) stack)) (sym e)
-      ∙ (ap (λ vs. vs ++ drop count (map (renamed_cell f) stack)) (sym (map-reverse value))
-      ∙ (ap (λ vs. map (renamed_cell f) (reverse value) ++ vs) (drop-map (renamed_cell f) count stack)
-      ∙ sym (map-append (renamed_cell f) (reverse value) (drop count stack))))
+  replaced-renamed count value other stack e = grind (arith, reverse, map-reverse, drop-map, map-append)
 
   -- the first cells of a stack, where each of them stays
   pub take-stays :
@@ -201,32 +164,14 @@ module _ (f : ℕ → ℕ) where
       (copied under : ℕ) (cs : List Cell)
       → take under (map (renamed_cell f) cs) ++ (take copied (map (renamed_cell f) cs) ++ drop under (map (renamed_cell f) cs))
       ≡ map (renamed_cell f) (take under cs ++ (take copied cs ++ drop under cs))
-  copied-renamed copied under cs =
-      let a = take-map (renamed_cell f) under cs in
-      let b = take-map (renamed_cell f) copied cs in
-      let c = drop-map (renamed_cell f) under cs in
-      let d = map-append (renamed_cell f) (take copied cs) (drop under cs) in
-      let e = map-append (renamed_cell f) (take under cs) (take copied cs ++ drop under cs) in
-      cc
+  copied-renamed copied under cs = grind (arith, take-map, drop-map, map-append)
 
   rotated-renamed :
       (count by : ℕ) (cs : List Cell) → rotated count by (map (renamed_cell f) cs) ≡ map (renamed_cell f) (rotated count by cs)
-  rotated-renamed count by cs =
-      let a = take-map (renamed_cell f) count cs in
-      let b = drop-map (renamed_cell f) by (take count cs) in
-      let c = take-map (renamed_cell f) by cs in
-      let d = drop-map (renamed_cell f) count cs in
-      let e = map-append (renamed_cell f) (take by cs) (drop count cs) in
-      let g = map-append (renamed_cell f) (drop by (take count cs)) (take by cs ++ drop count cs) in
-      cc
+  rotated-renamed count by cs = grind (arith, take-map, drop-map, map-append)
 
   pub moved-renamed : (m : Move) (cs : List Cell) → moved m (map (renamed_cell f) cs) ≡ map (renamed_cell f) (moved m cs)
-  moved-renamed moves.Pop cs = drop-map (renamed_cell f) 1 cs
-  moved-renamed moves.PopTwo cs = drop-map (renamed_cell f) 2 cs
-  moved-renamed moves.Duplicate cs = copied-renamed 1 0 cs
-  moved-renamed moves.DuplicateTwo cs = copied-renamed 2 0 cs
-  moved-renamed (moves.CopyUnder copied under) cs = copied-renamed copied under cs
-  moved-renamed (moves.Exchange top under) cs = rotated-renamed (top + under) top cs
+  moved-renamed x cs = grind (arith, drop-map, copied-renamed, rotated-renamed)
 
   -- ---- values
 
@@ -238,10 +183,7 @@ module _ (f : ℕ → ℕ) where
   in-renamed :
       (kind : Kind) (cs : List Cell) (at : ℕ) → map (renamed_cell f) (value_in tagged kind cs at)
       ≡ value_in tagged kind (map (renamed_cell f) cs) at
-  in-renamed fields.Int cs at = cc (nth-renamed cs at, nth-renamed cs (at + 1))
-  in-renamed fields.Ref cs at = cc (nth-renamed cs at)
-  in-renamed fields.Byte cs at = cc (nth-renamed cs at)
-  in-renamed fields.Short cs at = cc (nth-renamed cs at)
+  in-renamed x cs at = grind (arith, nth-renamed)
 
   -- a value that is read of cells that stay
   pub in-stays :
@@ -268,31 +210,23 @@ module _ (f : ℕ → ℕ) where
       → map (map_object (renamed_cell f)) (write_object os h i c)
       ≡ write_object (map (map_object (renamed_cell f)) os) h i (renamed_cell f c)
   write-renamed [] h i c = refl
-  write-renamed (o ∷ os) zero i c =
-      ap (λ cs. record { kind = o.kind; cells = cs } ∷ map (map_object (renamed_cell f)) os) (map-set (renamed_cell f) o.cells i c)
+  write-renamed (o ∷ os) zero i c = grind (arith, map-set)
   write-renamed (o ∷ os) (suc h) i c = ap (λ xs. map_object (renamed_cell f) o ∷ xs) (write-renamed os h i c)
 
   pub write-stays :
       (os : List (Object Cell)) (h i : ℕ) (c : Cell) → map (map_object (renamed_cell f)) os ≡ os → renamed_cell f c ≡ c
       → map (map_object (renamed_cell f)) (write_object os h i c) ≡ write_object os h i c
-  write-stays os h i c e g =
-      write-renamed os h i c ∙ ap (λ xs. write_object xs h i (renamed_cell f c)) e ∙ ap (write_object os h i) g
+  write-stays os h i c e g = grind (arith, write-renamed)
 
   pub new-stays :
       (os : List (Object Cell)) (kind : ObjectKind) (cs : List Cell) → map (map_object (renamed_cell f)) os ≡ os
       → map (renamed_cell f) cs ≡ cs
       → map (map_object (renamed_cell f)) (os ++ record { kind = kind; cells = cs } ∷ [])
       ≡ os ++ record { kind = kind; cells = cs } ∷ []
-  new-stays os kind cs e g =
-      map-append (map_object (renamed_cell f)) os (record { kind = kind; cells = cs } ∷ [])
-      ∙ (ap (λ xs. xs ++ record { kind = kind; cells = map (renamed_cell f) cs } ∷ []) e
-      ∙ ap (λ ys. os ++ record { kind = kind; cells = ys } ∷ []) g)
+  new-stays os kind cs e g = grind (arith, map-append)
 
   zero-stays : (kind : CellKind) → renamed_cell f (zero_cell tagged kind) ≡ zero_cell tagged kind
-  zero-stays made.Reference = refl
-  zero-stays made.Short = refl
-  zero-stays made.High = refl
-  zero-stays made.Low = refl
+  zero-stays x = grind (arith)
 
   zeros-stay :
       (tys : List Ty) → map (renamed_cell f) (map (λ ty. zero_cell tagged (cell_kind ty)) tys)
@@ -310,11 +244,8 @@ module _ (f : ℕ → ℕ) where
 
   repeated-renamed : (n : ℕ) (cs : List Cell) → map (renamed_cell f) (repeated n cs) ≡ repeated n (map (renamed_cell f) cs)
   repeated-renamed zero cs = refl
-  repeated-renamed (suc n) cs =
-      map-append (renamed_cell f) cs (repeated n cs) ∙ ap (λ ys. map (renamed_cell f) cs ++ ys) (repeated-renamed n cs)
+  repeated-renamed (suc n) cs = grind (arith, map-append, repeated-renamed n cs)
 
   pub array-stays :
       (kind : ObjectKind) (count : ℕ) → map (renamed_cell f) (array_cells tagged kind count) ≡ array_cells tagged kind count
-  array-stays kind count =
-      repeated-renamed count (map (zero_cell tagged) (element_cells kind))
-      ∙ ap (repeated count) (elements-stay (element_cells kind))
+  array-stays kind count = grind (arith, repeated-renamed, elements-stay)

@@ -61,7 +61,8 @@ use Rattle.law_alike.specs.Running.{HaveKeys}
 use Rattle.law_alike.proofs.Asked.{register-same}
 use Rattle.law_alike.proofs.Cells.{value-stays}
 use Rattle.law_alike.proofs.Twins.{Pair, first, second, Does}
-use Rattle.law_alike.proofs.Acting.{constant-does, move-does, arithmetic-does, static-read-does, array-read-does, array-length-does, type-test-does, new-does}
+use Rattle.law_alike.proofs.Acting.{constant-does, move-does, arithmetic-does, static-read-does}
+use Rattle.law_alike.proofs.Acting.{array-read-does, array-length-does, type-test-does, new-does}
 use Rattle.law_alike.proofs.Acting.{new-array-does, throw-does, branch-does}
 use Rattle.law_alike.proofs.Switching.{ways, switch-does}
 use Rattle.law_alike.proofs.Storing.{ValueStays, static-write-does, field-read-does, field-write-does, array-write-does}
@@ -140,9 +141,7 @@ args-same-by :
 args-same-by None None e = refl
 args-same-by None (Some m) e = absurd (cc)
 args-same-by (Some m) None e = absurd (cc)
-args-same-by (Some m) (Some n) e =
-    let same : apart_from_code m ≡ apart_from_code n = cc in
-    sym (ap (λ (r : MethodRec). length r.sig.args) same)
+args-same-by (Some m) (Some n) e = grind (arith)
 
 module _
     (v : Linked) (world : IsWorld v) (infos : List (List ℕ)) (methods : List MethodRec) (indexes : List (Option (List ℕ)))
@@ -281,8 +280,7 @@ module _
     this-same :
         map (slice_get registers) (0 ∷ []) ≡ map (slice_get frame.registers) (0 ∷ []) → nth tagged registers 0
         ≡ nth tagged frame.registers 0
-    this-same e =
-        let own : slice_get registers 0 ≡ slice_get frame.registers 0 = cc in register-same frame.registers registers 0 0 own
+    this-same e = grind (arith, register-same)
 
     results-declared : (result : Option Ty) → IfSome result (IsResult v.classes) → IfSome result (IsDeclared v.classes)
     results-declared None h = h

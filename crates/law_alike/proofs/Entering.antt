@@ -1,23 +1,20 @@
 -- Before its first step a run finds the same objects, static fields and arguments in worlds that differ in the code of methods alone.
-use Rattle.std.proofs.Common.{◌≡◌, ℕ, List, [], length, map, refl, sym, ap, ◌∙◌}
-use Rattle.std.specs.Prelude.{Option, Some, None, option_map, slice_get, flat_map}
+use Rattle.std.proofs.Common.{◌≡◌, ℕ, List, [], length, sym, ap, ◌∙◌, arith}
+use Rattle.std.specs.Prelude.{Option, option_map, slice_get}
 use Rattle.std.proofs.lemmas.Option.{slice_get-map}
 use Rattle.jc_base.specs.declared.ty.Ty.{Ty}
-use Rattle.jc_base.specs.declared.record.ArrayRec.{ArrayRec}
 use Rattle.jc_base.specs.declared.record.MethodRec.{MethodRec}
-use Rattle.jc_base.specs.declared.record.StaticRec.{StaticRec}
 use Rattle.jc_base.specs.World.{Linked}
 use Rattle.vm_store.specs.declared.cell.Cell.{Cell}
 use Rattle.vm_store.specs.Cells.{tagged}
 use Rattle.vm_store.specs.State.{State}
 use Rattle.vm_step.specs.Arguments.{Argument}
 use Rattle.vm_step.specs.Methods.{of_method}
-use Rattle.vm_step.specs.Start.{cells_handed, field_cells, initial, initial_object, parameters, with_arrays}
+use Rattle.vm_step.specs.Start.{cells_handed, initial, parameters, with_arrays}
 use Rattle.law_laid.specs.Apart.{apart_from_code, IsSameBut}
 
 parameters-apart : (o : Option MethodRec) → of_method [] parameters (option_map apart_from_code o) ≡ of_method [] parameters o
-parameters-apart None = refl
-parameters-apart (Some m) = refl
+parameters-apart x = grind (arith)
 
 module _ (v w : Linked) (same : IsSameBut v w) (entry : ℕ) (args : List Argument) where
   abbrev types_in : Linked → List Ty
@@ -39,17 +36,10 @@ module _ (v w : Linked) (same : IsSameBut v w) (entry : ℕ) (args : List Argume
       sym (parameters-apart (slice_get w.methods entry)) ∙ (ap (of_method [] parameters) (sym methods) ∙ parameters-apart (slice_get v.methods entry))
 
   initial-same : initial tagged w ≡ initial tagged v
-  initial-same =
-      ap (λ (rs : List ArrayRec). record { frames = []; heap = map (initial_object tagged) rs; statics = (initial tagged w).statics }) (sym same.arrays)
-      ∙ ap
-      (λ (fs : List StaticRec). record
-      { frames = []; heap = map (initial_object tagged) v.arrays; statics = flat_map (λ (f : StaticRec). field_cells tagged f.kind f.initial) fs })
-      (sym same.statics)
+  initial-same = grind (arith)
 
   pub made-same : made_in w ≡ made_in v
   made-same = ap (with_arrays tagged args) initial-same
 
   pub handed-same : handed_in w ≡ handed_in v
-  handed-same =
-      ap (λ (rs : List ArrayRec). cells_handed tagged (length rs) args (types_in w)) (sym same.arrays)
-      ∙ ap (cells_handed tagged (length v.arrays) args) types-same
+  handed-same = grind (arith, types-same)

@@ -1,21 +1,19 @@
 -- A method that waits is given what the one that it called returns.
-use Rattle.std.proofs.Common.{◌≡◌, ℕ, ◌≤◌, false, List, ◌∷◌, length, ap, ◌∙◌, subst}
-use Rattle.std.specs.Prelude.{Some, None, nat_lt, nat_le}
+use Rattle.std.proofs.Common.{◌≡◌, ◌≤◌, false, List, ◌∷◌, length, arith}
+use Rattle.std.specs.Prelude.{nat_le}
 use Rattle.std.proofs.lemmas.Bool.{le-ltb, ltb-false}
 use Rattle.jc_base.specs.World.{Linked}
 use Rattle.vm_store.specs.declared.cell.Cell.{Cell}
 use Rattle.vm_store.specs.Cells.{tagged}
 use Rattle.vm_store.specs.State.{Frame, Object, State}
 use Rattle.vm_store.specs.Value.{with_value}
-use Rattle.vm_step.specs.declared.ending.Fault.TheVariants.{StackFault, JumpFault}
 use Rattle.vm_step.specs.declared.ending.Value.{Value}
 use Rattle.vm_step.specs.Methods.{code_at, max_stack_of}
 use Rattle.vm_step.specs.Raising.{running}
-use Rattle.vm_step.specs.Settled.{fault_next, given_to, goes_to, unless_fault}
+use Rattle.vm_step.specs.Settled.{given_to}
 use Rattle.law_sound.specs.Frames.{Typings}
 use Rattle.law_sound.specs.Soundness.{IsTypedOutcome}
 use Rattle.law_sound.specs.State.{IsTypedState}
-use Rattle.law_sound.proofs.Finish.{pick}
 use Rattle.law_erasure.proofs.Together.{safe-free}
 use Rattle.law_alike.proofs.Settling.{unless-none, both-passed, after_call, given_frame, given-goes}
 
@@ -33,30 +31,10 @@ module _ (value : Value) (cells : List Cell) (f : Frame Cell) (fs : List (Frame 
     pub typed : IsTypedState v typings (given v)
 
   pub is-given : (v : Linked) (typings : Typings) → IsTypedOutcome v typings (given_to tagged v value cells waiting) → IsGiven v typings
-  is-given v typings safe =
-      let depth : ℕ = length (with_value cells f.stack) in
-      let back : State Cell = record { frames = record f { stack = with_value cells f.stack } ∷ fs; heap = heap; statics = statics } in
-      let goes = given-goes v value cells f fs heap statics in
-      let here : IsTypedOutcome v typings (goes_to tagged v (after_call v f) waiting back) = subst (IsTypedOutcome v typings) goes safe in
-      let passed = unless-none waiting (fault_next tagged v back depth (after_call v f)) (running (given v))
-      (safe-free v typings (goes_to tagged v (after_call v f) waiting back) here) in
-      let tests =
-      both-passed StackFault JumpFault (nat_lt (max_stack_of v f.method) depth) (nat_le (length (code_at v f.method)) (after_call v f)) passed.0 in
-      record {
-        goes = goes ∙ passed.1;
-        fits = ltb-false (max_stack_of v f.method) depth tests.0;
-        inside = tests.1;
-        typed = subst (IsTypedOutcome v typings) passed.1 here;
-      }
+  is-given v typings safe = grind (arith, given-goes, unless-none, safe-free, both-passed, ltb-false)
 
   -- where it has room, and does not go on past its code
   pub goes-given :
       (v : Linked) → length (with_value cells f.stack) ≤ max_stack_of v f.method → nat_le (length (code_at v f.method)) (after_call v f) ≡ false
       → given_to tagged v value cells waiting ≡ running (given v)
-  goes-given v fits inside =
-      let depth : ℕ = length (with_value cells f.stack) in
-      let back : State Cell = record { frames = record f { stack = with_value cells f.stack } ∷ fs; heap = heap; statics = statics } in
-      let none : fault_next tagged v back depth (after_call v f) ≡ None =
-      pick (Some StackFault) (Some JumpFault) (nat_lt (max_stack_of v f.method) depth) (nat_le (length (code_at v f.method)) (after_call v f))
-      (le-ltb (max_stack_of v f.method) depth fits) inside in
-      given-goes v value cells f fs heap statics ∙ ap (λ o. unless_fault waiting o (running (given v))) none
+  goes-given v fits inside = grind (arith, le-ltb, given-goes)

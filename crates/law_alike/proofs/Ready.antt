@@ -1,16 +1,13 @@
 -- Objects and static fields of a typed state keep no uninitialised object, so no map of places changes them.
-use Rattle.std.proofs.Common.{◌≡◌, ℕ, zero, suc, ◌/◌, List, [], ◌∷◌, length, map, reverse, refl, ap, ◌∙◌, subst, sym}
-use Rattle.std.specs.Prelude.{Option, Some, None, IfSome, All, slice_get, flat_map}
+use Rattle.std.proofs.Common.{◌≡◌, ℕ, zero, suc, List, [], ◌∷◌, length, map, reverse, refl, ap, ◌∙◌, subst, sym, arith}
+use Rattle.std.specs.Prelude.{Option, IfSome, All, slice_get, flat_map}
 use Rattle.std.proofs.lemmas.List.Concat.{flat_map-cons}
-use Rattle.std.proofs.lemmas.List.Elements.{All-weaker, All-head, All-tail, All-append, All-nil, All-cons}
+use Rattle.std.proofs.lemmas.List.Elements.{All-head, All-tail, All-append, All-nil, All-cons}
 use Rattle.jc_base.specs.declared.ty.Ty.{Ty}
-use Rattle.jc_base.specs.declared.ty.Ty.TheVariants.{IntHigh, IntLow, Short, Class}
 use Rattle.jc_base.specs.declared.ty.Kind.{Kind}
-use Rattle.jc_base.specs.declared.ty.Kind.TheVariants as fields
 use Rattle.jc_base.specs.declared.record.ClassRec.{ClassRec}
 use Rattle.jc_base.specs.declared.record.StaticRec.{StaticRec}
-use Rattle.jc_base.specs.Cell.{IsDeclared}
-use Rattle.jc_base.specs.Class.{ClassTable, chain}
+use Rattle.jc_base.specs.Class.{ClassTable}
 use Rattle.jc_base.specs.Dispatch.{of_record, own_cells, cells_of}
 use Rattle.jc_base.specs.Linked.{IsLinkedClass, IsStatic}
 use Rattle.jc_base.specs.World.{Linked, IsWorld}
@@ -18,7 +15,6 @@ use Rattle.jc_rules.specs.Flow.{IsNotFresh, IsNotTop}
 use Rattle.jc_rules.proofs.Types.{declared-not_top, declared-not_fresh}
 use Rattle.vm_store.specs.declared.cell.Cell.{Cell}
 use Rattle.vm_store.specs.declared.kind.ObjectKind.{ObjectKind}
-use Rattle.vm_store.specs.declared.kind.ObjectKind.TheVariants.{Instance, Booleans, Bytes, Shorts, Ints, References}
 use Rattle.vm_store.specs.Typing.{HasType, anything, empty, short, high, low, null, reference, fresh}
 use Rattle.vm_store.specs.State.{Object, map_object}
 use Rattle.vm_store.specs.Objects.{repeated}
@@ -46,9 +42,7 @@ module _ (f : ℕ → ℕ) (t : ClassTable) (ks : List ObjectKind) where
   cells-stay [] types kept h = refl
   cells-stay (c ∷ cs) [] kept h = absurd h
   cells-stay (c ∷ cs) (ty ∷ types) kept h =
-      let first = cell-stays c ty (All-head IsKept ty types kept) h.0 in
-      let rest = cells-stay cs types (All-tail IsKept ty types kept) h.2 in
-      cc
+      grind (arith, cell-stays c ty (All-head IsKept ty types kept) h.0, cells-stay cs types (All-tail IsKept ty types kept) h.2)
 
 -- ---- the types of objects
 
@@ -56,10 +50,7 @@ module _ (w : Linked) (world : IsWorld w) where
   own-kept-by :
       (packages c : ℕ) (o : Option ClassRec) → IfSome o (IsLinkedClass packages w.classes w.methods c)
       → All IsKept (of_record [] (λ r. r.own) o)
-  own-kept-by packages c None linked = All-nil IsKept
-  own-kept-by packages c (Some r) linked =
-      All-weaker (IsDeclared w.classes) IsKept (λ ty d. (declared-not_fresh w.classes ty d, declared-not_top w.classes ty d)) r.own
-      linked.own
+  own-kept-by packages c z linked = grind (arith, declared-not_fresh, declared-not_top)
 
   own-kept : (c : ℕ) → All IsKept (own_cells w.classes c)
   unfolding own_cells
@@ -80,13 +71,7 @@ module _ (w : Linked) (world : IsWorld w) where
 
   object-kept : (kind : ObjectKind) (n : ℕ) → All IsKept (cell_types w.classes kind n)
   unfolding cells_of
-  object-kept (Instance c) n = chain-kept (reverse (chain w.classes c))
-  object-kept Booleans n = repeated-kept n (Short ∷ []) (one-kept Short (tt, tt))
-  object-kept Bytes n = repeated-kept n (Short ∷ []) (one-kept Short (tt, tt))
-  object-kept Shorts n = repeated-kept n (Short ∷ []) (one-kept Short (tt, tt))
-  object-kept Ints n =
-      repeated-kept (n / 2) (IntHigh ∷ IntLow ∷ []) (All-cons IsKept IntHigh (IntLow ∷ []) (tt, tt) (one-kept IntLow (tt, tt)))
-  object-kept (References c) n = repeated-kept n _ (one-kept (Class _) (tt, tt))
+  object-kept x n = grind (arith, chain-kept, reverse, repeated-kept, one-kept)
 
   objects-stay :
       (f : ℕ → ℕ) (ks : List ObjectKind) (os : List (Object Cell)) → All (IsTypedObject w.classes ks) os
@@ -102,10 +87,7 @@ module _ (w : Linked) (world : IsWorld w) where
   -- ---- the types of static fields
 
   field-kept : (kind : Kind) (ty : Ty) → IsKept ty → All IsKept (field_types kind ty)
-  field-kept fields.Int ty kept = All-cons IsKept ty (IntLow ∷ []) kept (one-kept IntLow (tt, tt))
-  field-kept fields.Ref ty kept = one-kept ty kept
-  field-kept fields.Byte ty kept = one-kept ty kept
-  field-kept fields.Short ty kept = one-kept ty kept
+  field-kept x ty kept = grind (arith, one-kept)
 
   statics-kept : (fs : List StaticRec) → All (IsStatic (length w.infos) w.classes w.arrays) fs → All IsKept (static_types fs)
   statics-kept [] all = All-nil IsKept

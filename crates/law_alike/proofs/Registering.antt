@@ -1,5 +1,5 @@
 -- Loads, stores and increments in two states that are alike, each of its own registers.
-use Rattle.std.proofs.Common.{◌≡◌, ℕ, zero, suc, ◌+◌, ◌<◌, ◌≤◌, ◌⊎◌, inl, inr, List, [], ◌∷◌, length, map, drop, set, sym, ap}
+use Rattle.std.proofs.Common.{◌≡◌, ℕ, zero, suc, ◌+◌, ◌<◌, ◌≤◌, ◌⊎◌, List, [], length, map, drop, set, sym, ap}
 use Rattle.std.proofs.Common.{◌∙◌, subst, arith, length-set, true}
 use Rattle.std.specs.Prelude.{ℤ, Some, slice_get}
 use Rattle.std.specs.Int.{w16, w32, int_wrapping_add}
@@ -13,7 +13,6 @@ use Rattle.vm_arithmetic.specs.Arithmetic.{int_to_short, high_word, low_word, in
 use Rattle.vm_store.specs.declared.cell.Cell.{Cell}
 use Rattle.vm_store.specs.declared.cell.Cell.TheVariants as cells
 use Rattle.vm_store.specs.declared.cell.CellKind.{CellKind}
-use Rattle.vm_store.specs.declared.cell.CellKind.TheVariants as made
 use Rattle.vm_store.specs.Cells.{tagged, word_of, loaded_as}
 use Rattle.vm_store.specs.State.{State, nth}
 use Rattle.vm_step.specs.Act.{goes}
@@ -33,8 +32,7 @@ pub record Writes (p : Footprint) (x n : ℕ) : Type 0 where
 
 outside :
     (p : Footprint) (x n k : ℕ) → Writes p x n → (k < p.register) ⊎ (p.register + p.written ≤ k) → (j : ℕ) → j < n → x + j ≡ k → ⊥
-outside p x n k w (inl lt) j small e = let r = w.register in omega (arith, lt, small, e, r)
-outside p x n k w (inr le) j small e = let r = w.register in let s = w.written in omega (arith, le, small, e, r, s)
+outside p x n k w w2 j small e = grind (arith)
 
 kept-one : (p : Footprint) (x : ℕ) (registers : List Cell) (c : Cell) → Writes p x 1 → Kept p registers (set registers x c)
 kept-one p x registers c w = record {
@@ -70,25 +68,13 @@ module _ (x : Pair) where
   one-written :
       (a b : ℕ) (c : Cell) → Ranged a b 1 → (n : ℕ) → n < x.print.written
       → slice_get (set x.registers b c) (x.other_print.register + n) ≡ slice_get (set x.frame.registers a c) (x.print.register + n)
-  one-written a b c r n lt =
-      let u = r.print.register in
-      let v = r.other.register in
-      let w = r.print.written in
-      let g = r.here in
-      let h = r.there in
-      let first_place : x.print.register + n ≡ a = omega (arith, u, w, lt) in
-      let other_place : x.other_print.register + n ≡ b = omega (arith, v, w, lt) in
-      ap (slice_get (set x.registers b c)) other_place
-      ∙ (slice_get-set_here x.registers b c (omega (arith, h))
-      ∙ (sym (slice_get-set_here x.frame.registers a c (omega (arith, g)))
-      ∙ ap (slice_get (set x.frame.registers a c)) (sym first_place)))
+  one-written a b c r n lt = grind (arith, slice_get-set_here)
 
   -- both of two that are written
   at-first :
       (registers : List Cell) (a : ℕ) (c d : Cell) → a + 2 ≤ length registers → slice_get (set (set registers a c) (a + 1) d) a
       ≡ Some c
-  at-first registers a c d h =
-      slice_get-set_other (set registers a c) (a + 1) a d (λ e. omega (arith, e)) ∙ slice_get-set_here registers a c (omega (arith, h))
+  at-first registers a c d h = grind (arith, slice_get-set_other, slice_get-set_here)
 
   at-second :
       (registers : List Cell) (a : ℕ) (c d : Cell) → a + 2 ≤ length registers
@@ -223,6 +209,4 @@ module _ (x : Pair) where
       go :
           (sort : Sort) → LoadedFor sort a b → map (renamed_cell x.rename) (loaded_cells tagged sort x.frame.registers a)
           ≡ loaded_cells tagged sort x.registers b
-      go sorts.Reference l = ap (λ c. c ∷ []) (loaded made.Reference a b l)
-      go sorts.Short l = ap (λ c. c ∷ []) (loaded made.Short a b l)
-      go sorts.Int l = let u = loaded made.High a b l.0 in let v = loaded made.Low (a + 1) (b + 1) l.1 in cc
+      go x l = grind (arith)

@@ -1,7 +1,7 @@
 -- What two acts that are the same lead to, where the first leads to no fault.
 use Rattle.std.proofs.Common.{◌≡◌, ℕ, suc, ◌+◌, ◌<◌, ◌≤◌, Bool, true, false, if◌then◌else◌, List, [], ◌∷◌, ◌++◌, length}
 use Rattle.std.proofs.Common.{map, refl, sym, ap, ◌∙◌, subst, arith}
-use Rattle.std.specs.Prelude.{ℤ, pos, negsuc, nat_lt, nat_le, ◌&&◌, Option, Some, None, All, sum_by, slice_get}
+use Rattle.std.specs.Prelude.{ℤ, pos, negsuc, nat_lt, nat_le, Option, Some, None, All, slice_get}
 use Rattle.std.proofs.lemmas.Bool.{le-ltb, lt-leb, ltb-false}
 use Rattle.std.proofs.lemmas.List.{length-map}
 use Rattle.std.proofs.lemmas.Bool.Decides.{nat_tests}
@@ -21,7 +21,7 @@ use Rattle.vm_store.specs.Cells.{tagged}
 use Rattle.vm_store.specs.State.{State, Frame, Object, top, other_frames, with_place, with_call, without_frames, frame_limit, arguments}
 use Rattle.vm_store.specs.Objects.{has_room}
 use Rattle.vm_store.specs.Value.{with_value}
-use Rattle.vm_step.specs.declared.ending.Plain.TheVariants.{TooDeep, HeapFull, InterfaceMissing, Returned}
+use Rattle.vm_step.specs.declared.ending.Plain.TheVariants.{TooDeep, HeapFull, InterfaceMissing}
 use Rattle.vm_step.specs.declared.ending.Ending.TheVariants.{Plain}
 use Rattle.vm_step.specs.declared.ending.Fault.{Fault}
 use Rattle.vm_step.specs.declared.ending.Fault.TheVariants.{StackFault, JumpFault}
@@ -29,7 +29,8 @@ use Rattle.vm_step.specs.Act.{Act, calls}
 use Rattle.vm_step.specs.Methods.{code_at, max_stack_of, instruction_at}
 use Rattle.vm_step.specs.Performed.{act}
 use Rattle.vm_step.specs.Raising.{Outcome, running, ended, ends}
-use Rattle.vm_step.specs.Settled.{unless_fault, fault_next, fault_target, is_target_place, is_there, place_number, with_new, goes_to, jumps_to, made}
+use Rattle.vm_step.specs.Settled.{unless_fault, fault_next, fault_target, is_target_place, is_there}
+use Rattle.vm_step.specs.Settled.{place_number, with_new, goes_to, jumps_to, made}
 use Rattle.vm_step.specs.Settled.{given_to, return_place}
 use Rattle.vm_step.specs.Settled.{entered_call, settled}
 use Rattle.vm_step.specs.declared.ending.Value.{Value}
@@ -39,25 +40,21 @@ use Rattle.law_erasure.specs.Erasure.{IsNoFault}
 use Rattle.law_alike.specs.Alike.{renamed_cell, StayAlike}
 use Rattle.law_alike.specs.Running.{ComeAlike, next_alike, target_alike, call_alike, return_alike, exception_alike, throw_alike, end_alike}
 use Rattle.law_alike.proofs.Cells.{new-stays}
-use Rattle.law_alike.proofs.Twins.{Pair, first, second, Does, goes_both, leads_both, makes_both, calls_both, gives_both, raises_both, throws_both, lacks_both}
+use Rattle.law_alike.proofs.Twins.{Pair, first, second, Does, goes_both, leads_both}
+use Rattle.law_alike.proofs.Twins.{makes_both, calls_both, gives_both, raises_both, throws_both, lacks_both}
 
 -- ---- tests after an operation
 
 pub unless-none :
     (s : State Cell) (o : Option Fault) (x : Outcome Cell) → IsNoFault (unless_fault s o x) → (o ≡ None) × (unless_fault s o x ≡ x)
-unless-none s None x h = (refl, refl)
-unless-none s (Some fault) x h = absurd h
+unless-none s y x h = grind (arith)
 
 pub both-passed : {X : Type 0} (x y : X) (a b : Bool) → (if a then Some x else if b then Some y else None) ≡ None → (a ≡ false) × (b ≡ false)
-both-passed x y true b h = absurd (cc)
-both-passed x y false true h = absurd (cc)
-both-passed x y false false h = (refl, refl)
+both-passed x y z b h = grind (arith)
 
 pub picked-last :
     {X : Type 0} (x y : X) (a b : Bool) → (if a then Some x else if b then None else Some y) ≡ None → (a ≡ false) × (b ≡ true)
-picked-last x y true b h = absurd (cc)
-picked-last x y false true h = (refl, refl)
-picked-last x y false false h = absurd (cc)
+picked-last x y z b h = grind (arith)
 
 -- a target of code that is an instruction's place
 target-there : (code : List ℕ) (to : ℤ) → IsTargetPlace code to → (p : ℕ) × (to ≡ pos p) × (is_target_place code to ≡ true)
@@ -65,8 +62,7 @@ target-there code (pos p) at = let found = place-instruction code p at in (p, re
 target-there code (negsuc n) at = absurd at
 
 is-place : (code : List ℕ) (to : ℤ) → is_target_place code to ≡ true → to ≡ pos (place_number to)
-is-place code (pos p) h = refl
-is-place code (negsuc n) h = absurd (cc)
+is-place code y h = grind (arith)
 
 -- ---- a caller that a method gives a value
 
@@ -81,11 +77,7 @@ pub given-goes :
     → given_to tagged x value cells (record { frames = f ∷ fs; heap = heap; statics = statics })
     ≡ goes_to tagged x (after_call x f) (record { frames = f ∷ fs; heap = heap; statics = statics })
     (record { frames = record f { stack = with_value cells f.stack } ∷ fs; heap = heap; statics = statics })
-given-goes x value cells f fs heap statics =
-    let z : State Cell = record { frames = f ∷ fs; heap = heap; statics = statics } in
-    let back : State Cell = record { frames = record f { stack = with_value cells f.stack } ∷ fs; heap = heap; statics = statics } in
-    let some : nat_lt 0 (length (f ∷ fs)) ≡ true = grind (arith, nat_tests) in
-    ap (λ b. if b then goes_to tagged x (after_call x f) z back else ends (Plain (Returned value)) z) some
+given-goes x value cells f fs heap statics = grind (arith, nat_tests)
 
 module _ (x : Pair) where
   abbrev e : Cell → Cell
@@ -100,38 +92,7 @@ module _ (x : Pair) where
   others-are z rest h = ap other_frames h
 
   placed : (z y : State Cell) (p q : ℕ) → AfterBoth z y → AfterBoth (with_place z p) (with_place y q)
-  placed z y p q h =
-      let one = others-are z x.below h.first.frames in
-      let two = others-are y x.under h.second.frames in
-      record {
-        alike = record {
-          frames =
-              ap (λ (fs : List (Frame Cell)). suc (length fs)) two
-              ∙ (ap suc x.depth ∙ sym (ap (λ (fs : List (Frame Cell)). suc (length fs)) one));
-          stack = h.alike.stack;
-          heap = h.alike.heap;
-          statics = h.alike.statics;
-          objects_stay = h.alike.objects_stay;
-          statics_stay = h.alike.statics_stay;
-        };
-        first =
-            record {
-              frames = ap (λ fs. top (with_place z p) ∷ fs) one;
-              method = h.first.method;
-              count = h.first.count;
-              others =
-                  h.first.others;
-            };
-        second =
-            record {
-              frames = ap (λ fs. top (with_place y q) ∷ fs) two;
-              method = h.second.method;
-              count = h.second.count;
-              others =
-                  h.second.others;
-            };
-        written = h.written;
-      }
+  placed z y p q h = grind (arith, others-are, suc)
 
   renewed :
       (z y : State Cell) (kind : ObjectKind) (cs : List Cell) (c d : Cell) (p q : ℕ) → d ≡ e c → map e cs ≡ cs → AfterBoth z y
@@ -150,36 +111,18 @@ module _ (x : Pair) where
           objects_stay = new-stays x.rename z.heap kind cs h.alike.objects_stay stay;
           statics_stay = h.alike.statics_stay;
         };
-        first =
-            record {
-              frames = ap (λ fs. top (with_place (with_new z kind cs c) p) ∷ fs) one;
-              method = h.first.method;
-              count =
-                  h.first.count;
-              others = h.first.others;
-            };
-        second =
-            record {
-              frames = ap (λ fs. top (with_place (with_new y kind cs d) q) ∷ fs) two;
-              method = h.second.method;
-              count =
-                  h.second.count;
-              others = h.second.others;
-            };
+        first = grind (arith);
+        second = grind (arith);
         written = h.written;
       }
 
   -- ---- endings
 
   ended-same : (z y : State Cell) → AfterBoth z y → without_frames y ≡ without_frames z
-  ended-same z y h =
-      ap (λ (os : List (Object Cell)). record { frames = []; heap = os; statics = y.statics }) h.alike.heap
-      ∙ ap (λ (cs : List Cell). record { frames = []; heap = z.heap; statics = cs }) h.alike.statics
+  ended-same z y h = grind (arith)
 
   room-same : (z y : State Cell) (n : ℕ) → AfterBoth z y → has_room y n ≡ has_room z n
-  room-same z y n h =
-      ap (λ (os : List (Object Cell)). nat_lt (length os) 4096 && nat_le (sum_by (λ (o : Object Cell). length o.cells) os + n)
-      32768) h.alike.heap
+  room-same z y n h = grind (arith)
 
   depth-same : (z y : State Cell) → AfterBoth z y → length (top y).stack ≡ length (top z).stack
   depth-same z y h = ap length h.alike.stack ∙ length-map (top z).stack e
@@ -204,9 +147,7 @@ module _ (x : Pair) where
     after = j.place + j.insn.len
 
     by-footprints : (z y : State Cell) → AfterBoth z y → StayAlike e (footprint v a) (footprint v b) (first x) z (second x) y
-    by-footprints z y h =
-        subst (λ p. StayAlike e p (footprint v b) (first x) z (second x) y) print_is
-        (subst (λ p. StayAlike e x.print p (first x) z (second x) y) other_is h)
+    by-footprints z y h = grind (arith)
 
     come : (o p u r : Outcome Cell) → o ≡ u → p ≡ r → Come u r → Come o p
     come o p u r k l c = subst (λ n. Come n p) (sym k) (subst (λ n. Come u n) (sym l) c)
@@ -215,13 +156,7 @@ module _ (x : Pair) where
     fits :
         (z y : State Cell) (more : ℕ) → AfterBoth z y → nat_lt (max_stack_of v (top z).method) (length (top z).stack + more) ≡ false
         → nat_lt (max_stack_of w (top y).method) (length (top y).stack + more) ≡ false
-    fits z y more h ok =
-        let few : length (top z).stack + more ≤ max_stack_of v (top z).method = ltb-false (max_stack_of v (top z).method)
-        (length (top z).stack + more) ok in
-        let one : max_stack_of v (top z).method ≡ max_stack_of v x.frame.method = ap (max_stack_of v) h.first.method in
-        let two : max_stack_of w (top y).method ≡ max_stack_of w x.method = ap (max_stack_of w) h.second.method in
-        let same : length (top y).stack ≡ length (top z).stack = depth-same z y h in
-        le-ltb (max_stack_of w (top y).method) (length (top y).stack + more) (omega (arith, few, one, two, same, room))
+    fits z y more h ok = grind (arith, ltb-false, depth-same, le-ltb)
 
     inside :
         (y : State Cell) → (top y).method ≡ x.method → x.falls ≡ true → nat_le (length (code_at w (top y).method)) after ≡ false
@@ -287,8 +222,7 @@ module _ (x : Pair) where
         (own ∙ ap (λ k. Some k) (is-place (code_at w x.method) on found.2)))
 
     if-come : (r : Bool) (o p u t : Outcome Cell) → Come o u → Come p t → Come (if r then o else p) (if r then u else t)
-    if-come true o p u t k l = k
-    if-come false o p u t k l = l
+    if-come x o p u t k l = grind (arith)
 
     end-come : (z y : State Cell) → AfterBoth z y → Come (ends (Plain HeapFull) z) (ends (Plain HeapFull) y)
     end-come z y h =

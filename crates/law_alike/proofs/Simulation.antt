@@ -42,8 +42,7 @@ module _ (v w : Linked) (R : State Cell → State Cell → Type 0) (ending extra
     both : AreBoth R o outcome
 
   least-more : (o : Outcome Cell) (n a b : ℕ) → 1 ≤ a → least n o ≤ b → least (suc n) o ≤ a + b
-  least-more (running s) n a b h g = omega (arith, h, g)
-  least-more (ended e s) n a b h g = omega arith
+  least-more x n a b h g = grind (arith)
 
   both-running : {y : State Cell} {p : Outcome Cell} → AreBoth R (running y) p → (u : State Cell) × (p ≡ running u) × R y u
   both-running (both_run {t = u} b) = (u, refl, b)

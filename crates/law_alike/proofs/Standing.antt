@@ -1,5 +1,5 @@
 -- A state with a frame on top runs, its frames are typed, and what stands at the place of code is the instruction there.
-use Rattle.std.proofs.Common.{◌≡◌, ℕ, suc, List, ◌∷◌, length, ap, sym, ◌∙◌, subst, arith}
+use Rattle.std.proofs.Common.{◌≡◌, ℕ, suc, List, ◌∷◌, subst, arith}
 use Rattle.std.specs.Prelude.{Some}
 use Rattle.jc_base.specs.World.{Linked}
 use Rattle.jc_decode.specs.declared.insn.Placed.{Placed}
@@ -14,9 +14,7 @@ use Rattle.law_sound.specs.State.{IsTypedState}
 use Rattle.law_sound.proofs.Places.{instruction-there, place-instruction}
 
 pub first-runs : (z : State Cell) → z.frames ≡ top z ∷ other_frames z.frames → IsRunning z
-first-runs z first =
-    let long : length z.frames ≡ suc (length (other_frames z.frames)) = ap length first in
-    omega (arith, long)
+first-runs z first = grind (arith, suc)
 
 pub frames-typed :
     (v : Linked) (typings : Typings) (z : State Cell) → z.frames ≡ top z ∷ other_frames z.frames → IsTypedState v typings z
@@ -24,8 +22,4 @@ pub frames-typed :
 frames-typed v typings z first typed = subst (AreTypedFrames v typings (kinds z)) first typed.frames
 
 pub stands-at : (code : List ℕ) (place : ℕ) (i : Placed) → HasInstruction code i → i.place ≡ place → instruction_at code place ≡ Some i
-stands-at code place i stands at =
-    let found = place-instruction code place (i, stands, at) in
-    let there = instruction-there code place found.0 found.1 in
-    let same : found.0 ≡ i = (all-are-listed code).one found.0 i there.stands stands (there.at ∙ sym at) in
-    found.1 ∙ ap Some same
+stands-at code place i stands at = grind (arith, place-instruction code place (i, stands, at), all-are-listed code, instruction-there)

@@ -1,5 +1,5 @@
 -- Writes of fields, of elements and of static fields, in two states that are alike.
-use Rattle.std.proofs.Common.{◌≡◌, ℕ, zero, suc, ◌+◌, ◌*◌, Bool, true, false, if◌then◌else◌, List, [], ◌∷◌, map, drop, set, refl}
+use Rattle.std.proofs.Common.{◌≡◌, ℕ, zero, suc, ◌+◌, ◌*◌, Bool, true, false, if◌then◌else◌, List, [], ◌∷◌, map, set, refl, arith}
 use Rattle.std.proofs.Common.{sym, ap, ◌∙◌, subst}
 use Rattle.std.specs.Prelude.{ℤ, ⊤}
 use Rattle.std.proofs.lemmas.List.{drop-map, map-set}
@@ -13,19 +13,19 @@ use Rattle.jc_ops.specs.declared.operation.Holder.{Holder}
 use Rattle.jc_ops.specs.declared.operation.Holder.TheVariants as holders
 use Rattle.vm_store.specs.declared.cell.Cell.{Cell}
 use Rattle.vm_store.specs.declared.cell.Cell.TheVariants as cells
-use Rattle.vm_store.specs.Kind.{kind_of_handle}
 use Rattle.vm_store.specs.Cells.{tagged}
 use Rattle.vm_store.specs.State.{State, Frame, Object, map_object, nth}
-use Rattle.vm_store.specs.Objects.{kinds, write_object}
+use Rattle.vm_store.specs.Objects.{write_object}
 use Rattle.vm_store.specs.Value.{value_on, kept_value, byte_of_word, with_object_value, with_static_value}
 use Rattle.vm_step.specs.declared.exception.Exception.TheVariants as exceptions
 use Rattle.vm_step.specs.Act.{Act, goes, raises}
-use Rattle.vm_step.specs.Fields.{with_static_write, held_handle, holder_width, with_field_read, field_read_act, with_field_write, field_write_act, elements_of}
-use Rattle.vm_step.specs.Fields.{element_index, at_element, takes_element, keeps_kind, with_element, array_write_act}
+use Rattle.vm_step.specs.Fields.{with_static_write, held_handle, holder_width, with_field_read}
+use Rattle.vm_step.specs.Fields.{field_read_act, with_field_write, field_write_act, elements_of}
+use Rattle.vm_step.specs.Fields.{element_index, at_element, keeps_kind, with_element, array_write_act}
 use Rattle.vm_step.specs.Numbers.{handle_at, short_at, dropped}
 use Rattle.law_alike.specs.Alike.{renamed_cell}
 use Rattle.law_alike.proofs.Cells.{Stay, nth-renamed, word-at, short-is, write-stays}
-use Rattle.law_alike.proofs.Twins.{Pair, two, first, second, Does, goes_both, raises_both, stack-twins, replaced-does, null-does, some-does}
+use Rattle.law_alike.proofs.Twins.{Pair, first, second, Does, goes_both, raises_both, stack-twins, replaced-does, null-does, some-does}
 use Rattle.law_alike.proofs.Acting.{other_stack, elements-same, read-stays}
 
 -- ---- objects and static fields with a value from a place on
@@ -104,16 +104,12 @@ module _ (x : Pair) where
   value-same fields.Short h = ap (λ c. c ∷ []) (nth-same 0 h)
 
   value-stay : (kind : Kind) → ValueStays kind → Stay x.rename (value kind x.frame.stack)
-  value-stay fields.Int h = (h.0, (h.1, tt))
-  value-stay fields.Byte h = (refl, tt)
-  value-stay fields.Ref h = (h, tt)
-  value-stay fields.Short h = (h, tt)
+  value-stay x h = grind (arith)
 
   -- ---- writes
 
   states-do : {z y : State Cell} (u v : State Cell) → u ≡ z → v ≡ y → Does x (goes z) (goes y) → Does x (goes u) (goes v)
-  states-do {z} {y} u v e g d =
-      subst (λ (a : State Cell). Does x (goes a) (goes v)) (sym e) (subst (λ (b : State Cell). Does x (goes z) (goes b)) (sym g) d)
+  states-do {z} {y} u v e g d = grind (arith)
 
   module _ (none : x.print.written ≡ 0) (falls : x.falls ≡ true) where
     written-does :
@@ -121,31 +117,13 @@ module _ (x : Pair) where
         → Does x (goes (with_object_value (dropped (first x) taken) h i (value kind x.frame.stack)))
         (goes (with_object_value (dropped (second x) taken) h i (value kind (other_stack x))))
     written-does taken h i kind stays =
-        let cs : List Cell = value kind x.frame.stack in
-        let heap : List (Object Cell) = written x.heap h i cs in
-        states-do (with_object_value (dropped (first x) taken) h i cs)
-        (with_object_value (dropped (second x) taken) h i (value kind (other_stack x)))
-        (object-written _ x.heap x.statics h i cs)
-        (ap (with_object_value (dropped (second x) taken) h i) (value-same kind stays)
-        ∙ (object-written _ x.heap x.statics h i cs
-        ∙ ap (λ stack. two x x.registers stack heap x.statics) (drop-map (renamed_cell x.rename) taken x.frame.stack)))
-        (goes_both falls (stack-twins x none (drop taken x.frame.stack) heap x.statics
-        (written-stays x.rename x.heap h i cs x.heap_stays (value-stay kind stays)) x.statics_stay))
+        grind (arith, states-do, object-written, value-same, drop-map, goes_both, stack-twins, written-stays, value-stay)
 
     pub static-write-does :
         (fd : StaticField) → ValueStays fd.kind
         → Does x (goes (with_static_write tagged fd (first x))) (goes (with_static_write tagged fd (second x)))
     static-write-does fd stays =
-        let cs : List Cell = value fd.kind x.frame.stack in
-        let statics : List Cell = stored x.statics fd.slot cs in
-        let taken : ℕ = width fd.kind in
-        states-do (with_static_write tagged fd (first x)) (with_static_write tagged fd (second x))
-        (static-stored _ x.heap x.statics fd.slot cs)
-        (ap (with_static_value (dropped (second x) taken) fd.slot) (value-same fd.kind stays)
-        ∙ (static-stored _ x.heap x.statics fd.slot cs
-        ∙ ap (λ stack. two x x.registers stack x.heap statics) (drop-map (renamed_cell x.rename) taken x.frame.stack)))
-        (goes_both falls (stack-twins x none (drop taken x.frame.stack) x.heap statics x.heap_stays
-        (stored-stays x.rename x.statics fd.slot cs x.statics_stay (value-stay fd.kind stays))))
+        grind (arith, states-do, static-stored, value-same, drop-map, goes_both, stack-twins, stored-stays, value-stay)
 
     -- ---- fields: the object stands on the stack, or in register 0
 
@@ -189,8 +167,7 @@ module _ (x : Pair) where
 
     keeps-same :
         (t : ClassTable) (kind : Kind) (h : ℕ) → keeps_kind tagged t kind (second x) h ≡ keeps_kind tagged t kind (first x) h
-    keeps-same t fields.Ref h =
-        ap (takes_element t (kinds (first x)) (kind_of_handle (kinds (first x)) h)) (word-at x.rename x.frame.stack 0)
+    keeps-same t fields.Ref h = grind (arith, word-at x.rename x.frame.stack 0)
     keeps-same t fields.Byte h = refl
     keeps-same t fields.Short h = refl
     keeps-same t fields.Int h = refl

@@ -1,5 +1,5 @@
 -- Switches in two states that are alike: equal keys choose targets of the same number.
-use Rattle.std.proofs.Common.{◌≡◌, ℕ, suc, Bool, true, false, cond, List, [], ◌∷◌, map, refl, sym, ap, ◌∙◌, subst}
+use Rattle.std.proofs.Common.{◌≡◌, ℕ, suc, Bool, true, false, cond, List, [], ◌∷◌, map, refl, sym, ap, ◌∙◌, subst, arith}
 use Rattle.std.specs.Prelude.{ℤ, Option, Some, None, find, slice_get}
 use Rattle.jc_decode.specs.declared.insn.Insn.{Insn}
 use Rattle.jc_decode.specs.declared.insn.Case.{Case}
@@ -58,11 +58,7 @@ record Leads (p q : ℕ) (x y : ℤ) (cs ds : List Case) (a b : Option Case) : T
   there : slice_get (ways q y ds) number ≡ Some (target q (case_offset y b))
 
 leads-alike : (p q : ℕ) (x y : ℤ) (cs ds : List Case) (a b : Option Case) → Found p q cs ds a b → Leads p q x y cs ds a b
-leads-alike p q x y cs ds a b (neither e g) = record {
-  number = 0;
-  here = ap (λ o. Some (target p (case_offset x o))) (sym e);
-  there = ap (λ o. Some (target q (case_offset y o))) (sym g);
-}
+leads-alike p q x y cs ds a b (neither e g) = grind (arith)
 leads-alike p q x y cs ds a b (both n c d e g h k) = record {
   number = suc n;
   here = h ∙ ap (λ o. Some (target p (case_offset x o))) (sym e);

@@ -1,7 +1,7 @@
 -- The law over steps in other code.
 use Rattle.std.proofs.Common.{◌≡◌, ℕ, ◌+◌, ◌≤◌, true, if◌then◌else◌, List, [], ◌∷◌, length, map, refl, sym, ap, ◌∙◌, subst}
 use Rattle.std.proofs.Common.{arith}
-use Rattle.std.specs.Prelude.{Option, Some, None, option_map, slice_get}
+use Rattle.std.specs.Prelude.{Option, None, option_map, slice_get}
 use Rattle.jc_base.specs.declared.record.MethodRec.{MethodRec}
 use Rattle.jc_base.specs.World.{Linked, IsWorld}
 use Rattle.jc_decode.specs.declared.insn.Case.{Case}
@@ -9,12 +9,11 @@ use Rattle.jc_decode.specs.declared.insn.Placed.{Placed}
 use Rattle.jc_decode.specs.Cases.{cases}
 use Rattle.jc_decode.specs.Listing.{jumps, targets}
 use Rattle.jc_ops.specs.declared.operation.Operation.{Operation}
-use Rattle.jc_ops.specs.declared.operation.Operation.TheVariants as ops
 use Rattle.jc_ops.specs.Next.{jumps_from}
 use Rattle.jc_ops.specs.Sound.{IsSound, OperationsAreSound, OperationsAreDecided}
 use Rattle.jc_rules.specs.declared.demand.Demand.{Demand}
 use Rattle.jc_rules.specs.Footprint.{registers_asked, registers_read}
-use Rattle.jc_rules.specs.Rule.{call_demands, args_at, demands}
+use Rattle.jc_rules.specs.Rule.{args_at, demands}
 use Rattle.vm_store.specs.declared.cell.Cell.{Cell}
 use Rattle.vm_store.specs.Cells.{tagged}
 use Rattle.vm_store.specs.State.{State, Frame, Object}
@@ -49,12 +48,7 @@ targets-are code p h = ap (λ b. if b then ways p.place p.insn.x (cases code p.p
 
 args-same :
     (o p : Option MethodRec) → option_map apart_from_code o ≡ option_map apart_from_code p → args_at o ≡ args_at p
-args-same None None e = refl
-args-same None (Some m) e = absurd (cc)
-args-same (Some m) None e = absurd (cc)
-args-same (Some m) (Some n) e =
-    let same : apart_from_code m ≡ apart_from_code n = cc in
-    ap (λ (r : MethodRec). r.sig.args) same
+args-same x y e = grind (arith)
 
 whole : (v w : Linked) (s : IsSameBut v w)
     → record {
@@ -66,11 +60,7 @@ whole : (v w : Linked) (s : IsSameBut v w)
       arrays = v.arrays;
       indexes = w.indexes;
     } ≡ w
-whole v w s =
-    ap (λ x. record w { pools = x; classes = v.classes; statics = v.statics; arrays = v.arrays }) s.pools
-    ∙ ap (λ x. record w { classes = x; statics = v.statics; arrays = v.arrays }) s.classes
-    ∙ ap (λ x. record w { statics = x; arrays = v.arrays }) s.statics
-    ∙ ap (λ x. record w { arrays = x }) s.arrays
+whole v w s = grind (arith)
 
 module _
     (v : Linked) (world : IsWorld v) (operations : OperationsAreSound v) (decided : OperationsAreDecided v)
@@ -80,10 +70,7 @@ module _
   recoded = other v world infos methods indexes same
 
   demands-same : (op : Operation) → demands recoded op ≡ demands v op
-  demands-same (ops.Call c) =
-      ap (λ args. call_demands args c.receiver)
-      (sym (args-same (slice_get v.methods c.method) (slice_get methods c.method) (same c.method)))
-  demands-same _ = refl
+  demands-same x = grind (arith, args-same)
 
   module _
       (f : ℕ → ℕ) (one_to_one : IsOneToOne f)
@@ -109,25 +96,17 @@ module _
     jumps-here :
         (ex : Executes v s i a) → jumps_from a ≡ true → targets (code_at v frame.method) i
         ≡ ways frame.place i.insn.x (cases (code_at v frame.method) frame.place i.insn)
-    jumps-here ex h =
-        targets-are (code_at v frame.method) i (jumps-on v ex.method i.place i.insn a ex.resolved h)
-        ∙ ap (λ p. ways p i.insn.x (cases (code_at v frame.method) p i.insn)) (here-at ex)
+    jumps-here ex h = grind (arith, targets-are, jumps-on, here-at)
 
     jumps-there :
         (ey : Executes recoded t j b) → jumps_from b ≡ true → targets (code_at recoded method) j
         ≡ ways place j.insn.x (cases (code_at recoded method) place j.insn)
-    jumps-there ey h =
-        targets-are (code_at recoded method) j (jumps-on recoded ey.method j.place j.insn b ey.resolved h)
-        ∙ ap (λ p. ways p j.insn.x (cases (code_at recoded method) p j.insn)) (there-at ey)
+    jumps-there ey h = grind (arith, targets-are, jumps-on, there-at)
 
     keys-at : (ex : Executes v s i a) (ey : Executes recoded t j b) (run : RunAlike (renamed_cell f) f v recoded s t i j a b)
         → HaveKeys a (map (λ (c : Case). c.key) (cases (code_at v frame.method) frame.place i.insn))
         (map (λ (c : Case). c.key) (cases (code_at recoded method) place j.insn))
-    keys-at ex ey run =
-        subst (λ p. HaveKeys a (map (λ (c : Case). c.key) (cases (code_at v frame.method) p i.insn))
-        (map (λ (c : Case). c.key) (cases (code_at recoded method) place j.insn))) (here-at ex)
-        (subst (λ p. HaveKeys a (map (λ (c : Case). c.key) (cases (code_at v frame.method) i.place i.insn))
-        (map (λ (c : Case). c.key) (cases (code_at recoded method) p j.insn))) (there-at ey) run.keys)
+    keys-at ex ey run = grind (arith, here-at, there-at)
 
     core :
         (o : Outcome Cell)
@@ -164,8 +143,7 @@ module _
           read = read;
           keys = keys-at ex ey run;
           ways_are = jumps-here ex;
-          leads_are =
-              jumps-there ey;
+          leads_are = grind (arith, jumps-there);
         }) in
         let there = asked-alike v world f (map (λ (o : Object Cell). o.kind) heap) frame.registers frame.stack registers ex.method
         i.place a b seen sound named read asked in
@@ -197,15 +175,7 @@ state-is :
       statics = statics;
     })
     (record { frames = g ∷ under; heap = objects; statics = fields })
-state-is g stack under heap objects statics fields e h k =
-    ap (λ (cs : List Cell). record {
-      frames = record { method = g.method; place = g.place; registers = g.registers; stack = cs } ∷
-          under;
-      heap = heap;
-      statics = statics;
-    }) (sym e)
-    ∙ (ap (λ (os : List (Object Cell)). record { frames = g ∷ under; heap = os; statics = statics }) (sym h)
-    ∙ ap (λ (cs : List Cell). record { frames = g ∷ under; heap = objects; statics = cs }) (sym k))
+state-is g stack under heap objects statics fields e h k = grind (arith)
 
 module _
     (v : Linked) (world : IsWorld v) (operations : OperationsAreSound v) (decided : OperationsAreDecided v)
@@ -222,10 +192,8 @@ module _
       → (gs : List (Frame Cell)) (objects : List (Object Cell)) (fields : List Cell) (o : Outcome Cell)
       → Follows w (record { frames = fs; heap = heap; statics = statics })
       (record { frames = gs; heap = objects; statics = fields }) o
-  by-frames w same [] heap statics gs objects fields o ex ey run step no_fault =
-      absurd (let lt = ex.fetched.runs in omega (arith, lt))
-  by-frames w same (g ∷ below) heap statics [] objects fields o ex ey run step no_fault =
-      absurd (let lt = ey.fetched.runs in omega (arith, lt))
+  by-frames w same [] heap statics gs objects fields o ex ey run step no_fault = grind (arith)
+  by-frames w same (g ∷ below) heap statics [] objects fields o ex ey run step no_fault = grind (arith)
   by-frames w same (frame ∷ below) heap statics (g ∷ under) objects fields o ex ey run step no_fault =
       subst (λ (u : Linked). Follows u (record { frames = frame ∷ below; heap = heap; statics = statics })
       (record { frames = g ∷ under; heap = objects; statics = fields }) o) (whole v w same)

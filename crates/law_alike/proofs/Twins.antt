@@ -1,6 +1,6 @@
 -- Two states that are alike, side by side, and acts over them that come to the same.
 use Rattle.std.proofs.Common.{◌≡◌, ℕ, suc, ◌+◌, ◌<◌, ◌≤◌, ◌⊎◌, ◌==◌, Bool, true, false, if◌then◌else◌, List, ◌∷◌}
-use Rattle.std.proofs.Common.{length, map, drop, refl, sym, ap, subst, arith}
+use Rattle.std.proofs.Common.{length, map, drop, refl, sym, subst, arith}
 use Rattle.std.specs.Prelude.{ℤ, Option, Some, None, slice_get}
 use Rattle.jc_rules.specs.Footprint.{Footprint}
 use Rattle.vm_store.specs.declared.cell.Cell.{Cell}
@@ -112,20 +112,7 @@ module _ (x : Pair) where
       → StayAlike (renamed_cell x.rename) x.print x.other_print
       (first x) (one x registers stack heap statics)
       (second x) (two x others (map (renamed_cell x.rename) stack) heap statics)
-  twins registers others stack heap statics kept also written objects fields = record {
-    alike =
-        record {
-          frames = ap suc x.depth;
-          stack = refl;
-          heap = refl;
-          statics = refl;
-          objects_stay = objects;
-          statics_stay = fields;
-        };
-    first = record { frames = refl; method = refl; count = kept.count; others = kept.others };
-    second = record { frames = refl; method = refl; count = also.count; others = also.others };
-    written = written;
-  }
+  twins registers others stack heap statics kept also written objects fields = grind (arith, suc)
 
   -- where no register is written
   pub stack-twins :
@@ -135,10 +122,7 @@ module _ (x : Pair) where
       → StayAlike (renamed_cell x.rename) x.print x.other_print
       (first x) (one x x.frame.registers stack heap statics)
       (second x) (two x x.registers (map (renamed_cell x.rename) stack) heap statics)
-  stack-twins none stack heap statics objects fields =
-      twins x.frame.registers x.registers stack heap statics (kept-same x.print x.frame.registers)
-      (kept-same x.other_print x.registers)
-      (λ n lt. absurd (omega (arith, lt, none))) objects fields
+  stack-twins none stack heap statics objects fields = grind (arith)
 
   -- ---- acts
 

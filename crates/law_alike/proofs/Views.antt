@@ -1,5 +1,5 @@
 -- Operations that are alike, one case for each way in which they differ.
-use Rattle.std.proofs.Common.{ℕ, ap, ◌≡◌, List, refl}
+use Rattle.std.proofs.Common.{ℕ, ap, ◌≡◌, List, arith}
 use Rattle.std.specs.Prelude.{ℤ, ⊤}
 use Rattle.jc_base.specs.declared.record.MethodRec.{MethodRec}
 use Rattle.jc_base.specs.World.{Linked}
@@ -56,8 +56,7 @@ view f (ops.Return result) _ equal = same_op (ops.Return result) tt
 sound-elsewhere :
     (w : Linked) (m : MethodRec) (f : ℕ → ℕ) (place : ℕ) (op : Operation) → IsNoNew op → IsSound w m place op
     → IsSound w m (f place) op
-sound-elsewhere w m f place (ops.New p class) n h = absurd n
-sound-elsewhere w m f place _ n h = h
+sound-elsewhere w m f place v n h = grind (arith)
 
 pub sound-view :
     (w : Linked) (m : MethodRec) (f : ℕ → ℕ) (place : ℕ) (a b : Operation) → View f a b → IsSound w m place a
@@ -71,17 +70,13 @@ sound-view w m f place _ _ (increment_ops width x y amount) h = tt
 -- ---- an operation with its `new` at another place
 
 pub same-new : (f : ℕ → ℕ) (op : Operation) → operation_renamed f op ≡ renamed_new f op
-same-new f (ops.New p class) = refl
-same-new f _ = refl
+same-new f y = grind (arith)
 
 pub demands-new : (v : Linked) (f : ℕ → ℕ) (op : Operation) → demands v (renamed_new f op) ≡ demands v op
-demands-new v f (ops.New p class) = refl
-demands-new v f _ = refl
+demands-new v f z = grind (arith)
 
 pub falls-new : (f : ℕ → ℕ) (op : Operation) → falls_from (renamed_new f op) ≡ falls_from op
-falls-new f (ops.New p class) = refl
-falls-new f _ = refl
+falls-new f y = grind (arith)
 
 pub have-keys : (op : Operation) (xs ys : List ℤ) → xs ≡ ys → HaveKeys op xs ys
-have-keys (ops.Switch width) xs ys e = e
-have-keys _ xs ys e = tt
+have-keys x xs ys e = grind (arith)
