@@ -6,9 +6,6 @@ use Rattle.cap_package.specs.PackageRecord.{PackageRecord}
 use Rattle.cap_package.specs.Parts.{Lent}
 use Rattle.cap_package.specs.StandsFor.{StandsFor, HavePackage}
 use Rattle.jc_base.specs.World.{Linked, method_numbered}
-use Rattle.jc_control.specs.Asked.{AllHave}
-use Rattle.jc_control.specs.Method.{IsMethodOf}
-use Rattle.card_typing.specs.Typing.{HasCardTyping}
 use Rattle.law_laid.specs.Apart.{IsSameBut}
 use Rattle.jc_link.specs.World.{IsLinked, LinkTells}
 use Rattle.jc_link.specs.LinkEnd.TheVariants as ends
@@ -23,8 +20,8 @@ use Rattle.capcheck_core.specs.declared.verdict.Verdict.{Verdict}
 use Rattle.capcheck_core.specs.declared.verdict.Verdict.TheVariants.{Done, Refused, Limit, Malformed, Usage, ReadFault, StoreFault, Memory}
 use Rattle.capcheck_core.specs.Defend.{method_entered, fault_of, run_fault, IsDefended}
 use Rattle.capcheck_core.specs.Outside.{CardWords}
-use Rattle.capcheck_core.specs.Run.{with_budget, IsRun, RunsWorldIn}
-use Rattle.capcheck_core.specs.Trial.{steps_each, HasNew, IsDoneOrMemory, IsTried, IsUntriedKept}
+use Rattle.capcheck_core.specs.Run.{with_budget, IsRun}
+use Rattle.capcheck_core.specs.Trial.{steps_each, HasNew, IsTried, IsUntriedKept}
 use Rattle.capcheck_core.proofs.WorldComplete.{one_package}
 
 module _ (packages : List PackageRecord) (roles : List ℕ) (w : Linked) (parts : List Lent) (t : IsTransformed packages roles w parts) where
@@ -71,25 +68,13 @@ module _ (packages : List PackageRecord) (roles : List ℕ) (w : Linked) (linked
         ∙ as_many t.keeps.libraries t.keeps.made t.keeps.source ∙ ap length (sym t.keeps.are) ∙ sym (infos_counted packages roles w linked)
 
     -- the entry of the new package is a method that begins where its source does
-    begins : (r : RunRequest) (text : List ℕ) → IsDefended w r text → run_fault new r ≡ None
+    pub begins : (r : RunRequest) (text : List ℕ) → IsDefended w r text → run_fault new r ≡ None
     begins r text d =
         let same : IsSameBut w new = subst (λ v. IsSameBut w v) has.1 t.anew.same in
         let entered : method_entered new r.entry ≡ Some d.comes.number =
         ap (λ n. method_numbered new.methods (n - 1) r.entry.class_no r.entry.method_no) counted
         ∙ sym (numbered new (length w.infos - 1) r.entry.class_no r.entry.method_no same) ∙ d.comes.entered in
         ap (fault_of new r.args) entered ∙ sym (alike new d.comes.number r.args same) ∙ d.comes.begins
-
-    pub new_runs : (r : RunRequest) (steps : ℕ) (c : CardWords) (text : List ℕ) (verdict : Verdict) → IsDefended w r text
-        → RunsWorldIn new (with_budget steps r) c verdict → IsDoneOrMemory verdict
-    new_runs r steps c text (Done said) d runs = tt {0}
-    new_runs r steps c text Memory d runs = tt {0}
-    new_runs r steps c text (Refused said) d runs =
-        absurd (runs.first.lacks (subst (λ v. AllHave (IsMethodOf v) (HasCardTyping v)) has.1 t.keeps.carded runs.method runs.first.asked))
-    new_runs r steps c text (Malformed said) d runs = let first = runs.unbegun.first in let none = begins r text d in absurd (cc)
-    new_runs r steps c text (Limit said) d runs = absurd runs
-    new_runs r steps c text Usage d runs = absurd runs
-    new_runs r steps c text ReadFault d runs = absurd runs
-    new_runs r steps c text StoreFault d runs = absurd runs
 
 -- what is told of both
 pub tried : (packages : List PackageRecord) (roles : List ℕ) (w : Linked) (parts : List Lent) (new : Linked) (r : RunRequest) (steps : ℕ) (c : CardWords)

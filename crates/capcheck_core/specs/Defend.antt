@@ -1,5 +1,6 @@
 -- What `defend` may answer, by the packages and the roles in its folders (JCVM 2.2, sections 3.5 and 7.5).
-use Rattle.std.specs.Prelude.{◌≡◌, ℕ, ◌-◌, List, length, Option, Some, None, string_bytes}
+use Rattle.std.specs.Prelude.{◌≡◌, ℕ, ◌-◌, List, length, Option, Some, None, Result, Ok, Err, String, string_bytes}
+use Rattle.std.specs.declared.alloc.Global.{Global}
 use Rattle.jc_base.specs.World.{Linked, method_numbered}
 use Rattle.vm_store.specs.declared.cell.Cell.{Cell}
 use Rattle.vm_store.specs.Cells.{tagged}
@@ -9,6 +10,8 @@ use Rattle.vm_step.specs.Run.{Runs}
 use Rattle.vm_step.specs.Start.{start_fault, entry_state}
 use Rattle.vm_step.specs.declared.start_fault.StartFault.{StartFault}
 use Rattle.vm_step.specs.declared.start_fault.StartFault.TheVariants.{NoEntry}
+use Rattle.vm_defend.specs.declared.starting.StartEnd.{StartEnd}
+use Rattle.vm_defend.specs.declared.starting.StartEnd.TheVariants as ends
 use Rattle.vm_text.specs.Text.{outcome_text}
 use Rattle.cap_text.specs.declared.entry.Entry.{Entry}
 use Rattle.cap_text.specs.Line.{not_started_line}
@@ -53,6 +56,12 @@ pub record IsUnbegun (w : Linked) (r : RunRequest) (text : List ℕ) : Type 0 wh
   pub fault : StartFault
   pub first : run_fault w r ≡ Some fault
   pub prints : text ≡ not_started_line fault
+
+-- the text tells what comes of the run, or the fault is the first reason why it does not begin; or there was no memory
+abbrev pub RunsOrRefuses : Linked → RunRequest → Result (String Global) StartEnd → Type 0
+RunsOrRefuses w r (Ok text) = IsDefended w r (string_bytes text)
+RunsOrRefuses w r (Err (ends.Fault fault)) = run_fault w r ≡ Some fault
+RunsOrRefuses w r (Err ends.Memory) = Unit {0}
 
 -- the answers of a world
 abbrev pub RunsDefended : Linked → RunRequest → Verdict → Type 0

@@ -43,12 +43,6 @@ pub record IsUntried (packages : List PackageRecord) (roles : List ℕ) (w : Lin
   pub made : IsTransformed packages roles w parts
   pub unbegun : IsUnbegun w r text
 
--- the command did its work, or there was no memory
-abbrev pub IsDoneOrMemory : Verdict → Type 0
-IsDoneOrMemory (Done text) = Unit {0}
-IsDoneOrMemory Memory = Unit {0}
-IsDoneOrMemory _ = ⊥
-
 -- the answers of a world
 abbrev pub TriesIn : List PackageRecord → List ℕ → Linked → RunRequest → CardWords → Verdict → Type 0
 TriesIn packages roles w r c (Done text) = IsTried packages roles w r c (string_bytes text)

@@ -4,7 +4,7 @@ ghost use Rattle.cap_text.specs.Word.{argument_read};
 ghost use Rattle.vm_step.specs.Start.{start_fault, entry_state};
 ghost use Rattle.vm_defend.specs.Begun.{IsBegun};
 ghost use Rattle.vm_defend.specs.Held.{IsRunOf};
-ghost use Rattle.capcheck_core.specs.Defend.{method_entered, RunsDefended};
+ghost use Rattle.capcheck_core.specs.Defend.{method_entered, RunsDefended, RunsOrRefuses};
 
 use crate::card::Card;
 use crate::step::LastStep;
@@ -48,9 +48,20 @@ impl LastStep for DefendStep<'_> {
 pub(crate) fn defend(alloc: Global, world: &World<'_>, run: &Run<'_>) -> Verdict
     ensures { RunsDefended world.now (run_request run.now) result }
 {
+    match defended(alloc, world, run) {
+        Ok(text) => Verdict::Done(text),
+        Err(StartEnd::Fault(fault)) => Verdict::malformed(not_started(alloc, fault)),
+        Err(StartEnd::Memory) => Verdict::Memory,
+    }
+}
+
+/// The text of what comes of such a run, or why it does not begin.
+pub(crate) fn defended(alloc: Global, world: &World<'_>, run: &Run<'_>) -> Result<String, StartEnd>
+    ensures { RunsOrRefuses world.now (run_request run.now) result }
+{
     match method_entered(world, run.entry) {
         Some(number) => with_arguments(alloc, world, run, number),
-        None => Verdict::malformed(not_started(alloc, StartFault::NoEntry)),
+        None => Err(StartEnd::Fault(StartFault::NoEntry)),
     }
 }
 
@@ -63,13 +74,18 @@ pub(crate) fn method_entered(world: &World<'_>, entry: Entry) -> Option<u16>
 }
 
 // Runs the method of a number with the arguments that the words wrote.
-fn with_arguments(alloc: Global, world: &World<'_>, run: &Run<'_>, number: u16) -> Verdict
+fn with_arguments(
+    alloc: Global,
+    world: &World<'_>,
+    run: &Run<'_>,
+    number: u16,
+) -> Result<String, StartEnd>
     requires { method_entered world.now run.now.entry ≡ Some number }
-    ensures { RunsDefended world.now (run_request run.now) result }
+    ensures { RunsOrRefuses world.now (run_request run.now) result }
 {
     match lent(alloc, &run.args) {
         Ok(args) => started(alloc, world, run, number, &args),
-        Err(_) => Verdict::Memory,
+        Err(_) => Err(StartEnd::Memory),
     }
 }
 
@@ -85,29 +101,40 @@ pub(crate) fn lent(alloc: Global, args: &Vec<OwnedArg>) -> Result<Args<'_>, Allo
 }
 
 // Begins the run, and goes on with it.
-fn started(alloc: Global, world: &World<'_>, run: &Run<'_>, number: u16, args: &Args<'_>) -> Verdict
+fn started(
+    alloc: Global,
+    world: &World<'_>,
+    run: &Run<'_>,
+    number: u16,
+    args: &Args<'_>,
+) -> Result<String, StartEnd>
     requires entered { method_entered world.now run.now.entry ≡ Some number }
     requires handed { args.now ≡ map argument_read run.now.args.items }
-    ensures { RunsDefended world.now (run_request run.now) result }
+    ensures { RunsOrRefuses world.now (run_request run.now) result }
 {
     match start(alloc, world, number, args) {
         Ok(mut state) => told(alloc, world, run, number, &mut state),
-        Err(StartEnd::Fault(fault)) => Verdict::malformed(not_started(alloc, fault)),
-        Err(StartEnd::Memory) => Verdict::Memory,
+        Err(end) => Err(end),
     }
 }
 
 // Takes the steps of a run that has begun, and tells what comes of it.
-fn told(alloc: Global, world: &World<'_>, run: &Run<'_>, number: u16, state: &mut State) -> Verdict
+fn told(
+    alloc: Global,
+    world: &World<'_>,
+    run: &Run<'_>,
+    number: u16,
+    state: &mut State,
+) -> Result<String, StartEnd>
     requires entered { method_entered world.now run.now.entry ≡ Some number }
     requires begun { IsBegun world.now number (run_request run.now).args state.old }
     requires run { IsRunOf world.now state.old }
-    ensures { RunsDefended world.now (run_request run.now) result }
+    ensures { RunsOrRefuses world.now (run_request run.now) result }
 {
     let Ok(mut text) = room(alloc, world) else {
-        return Verdict::Memory;
+        return Err(StartEnd::Memory);
     };
     let ending = vm_defend::run(world, state, u64::from(run.budget));
     write_run(&mut text, world, state, ending);
-    Verdict::Done(text.into_text())
+    Ok(text.into_text())
 }

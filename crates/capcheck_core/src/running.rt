@@ -1,4 +1,4 @@
-ghost use Rattle.std.specs.Prelude.{◌≡◌, ◌≤◌, Some, MatchResult, IfErr, OnErr, length, map, string_bytes};
+ghost use Rattle.std.specs.Prelude.{◌≡◌, ◌≤◌, Some, None, MatchResult, IfOk, IfErr, OnErr, length, map, string_bytes};
 ghost use Rattle.card_verify.specs.Answers.{AreAccepted};
 ghost use Rattle.cap_text.specs.Line.{not_started_line, refused_card_line};
 ghost use Rattle.cap_text.specs.Room.{HasRoom, IsEmpty, Writes};
@@ -12,7 +12,8 @@ ghost use Rattle.vm_store.specs.Cells.{words};
 ghost use Rattle.vm_text.specs.Left.{left_by};
 ghost use Rattle.vm_text.specs.Lent.{lent_state, IsLentRun};
 ghost use Rattle.vm_text.specs.Text.{left_text, most_text};
-ghost use Rattle.capcheck_core.specs.Defend.{method_entered};
+ghost use Rattle.xf_share.specs.Ends.{HaveCardTypings};
+ghost use Rattle.capcheck_core.specs.Defend.{method_entered, run_fault};
 ghost use Rattle.capcheck_core.specs.LentCard.{IsSameCard, words_of};
 ghost use Rattle.capcheck_core.specs.Outside.{CardWords, card_words};
 ghost use Rattle.capcheck_core.specs.Run.{bounded_request, IsCardKept, HasLengths, IsLeft, IsRun, StopsRun, RunsWithMemory, RunsWorldIn};
@@ -28,7 +29,7 @@ use cap_text::{MethodNumber, Room, Run, write_not_started, write_refused_card};
 use card_typing::CardFault;
 use card_verify::{Accepted, CardRoom, accept};
 use jc_base::World;
-use std::alloc::Global;
+use std::alloc::{AllocError, Global};
 use vm_offend::{Machine, sizes, start};
 use vm_step::{Args, Ending, Plain, StartFault};
 use vm_text::{LentRun, room, texts_are_alike, write_run};
@@ -186,6 +187,35 @@ fn unstarted_line(text: Room, fault: StartFault) -> String
     let mut text = text;
     write_not_started(&mut text, fault);
     text.into_text()
+}
+
+/// Runs an entry that begins, of a world whose methods with code have card typings, in the memory of the card, and gives the
+/// text of what comes of it. What it needs of other memory is taken before.
+#[tactic(auto, using(crate::proofs::Cardings::number_below))]
+pub(crate) fn run_carded(
+    alloc: Global,
+    world: &World<'_>,
+    run: Bounded<'_>,
+    card: &mut Card<'_>,
+) -> Result<String, AllocError>
+    requires lengths { HasLengths (words_of card.old) }
+    requires carded { HaveCardTypings world.now }
+    requires begins { run_fault world.now (bounded_request run) ≡ None }
+    ensures runs { IfOk result
+        (λ text. IsRun world.now (bounded_request run.entry) (words_of card.new) (string_bytes text)) }
+    ensures kept { OnErr result (words_of card.new ≡ words_of card.old) }
+    ensures same { IsSameCard card.old card.new }
+{
+    let args = lent(alloc, &run.run.args)?;
+    let mut text = room(alloc, world)?;
+    match run_verified(world, &run, &args, &mut text, card) {
+        Ok(()) => Ok(text.into_text()),
+        Err(RunStop::Refused(method, _)) => {
+            let _code = world.code(method);
+            unreachable!()
+        }
+        Err(RunStop::NotStarted(_)) => unreachable!(),
+    }
 }
 
 // Verifies all packages, and runs the entry.

@@ -1,4 +1,4 @@
-ghost use Rattle.std.specs.Prelude.{◌≡◌, IfOk, List, MatchResult};
+ghost use Rattle.std.specs.Prelude.{◌≡◌, IfOk, List};
 ghost use Rattle.cap_package.specs.PackageRecord.{PackageRecord};
 ghost use Rattle.law_relink.specs.Last.{and_last};
 ghost use Rattle.cap_text.specs.Run.{run_request};
@@ -7,21 +7,22 @@ ghost use Rattle.xf_pack.specs.Transformed.{IsTransformed};
 ghost use Rattle.capcheck_core.specs.Defend.{IsDefended};
 ghost use Rattle.capcheck_core.specs.LentCard.{IsSameCard, words_of};
 ghost use Rattle.capcheck_core.specs.Run.{HasLengths};
-ghost use Rattle.capcheck_core.specs.Trial.{HasNew, IsDoneOrMemory, IsUntriedKept, TriesIn};
+ghost use Rattle.capcheck_core.specs.Trial.{HasNew, IsUntriedKept, TriesIn};
 
 use crate::card::Card;
-use crate::defending::defend;
-use crate::running::{Bounded, run_in_card};
+use crate::defending::defended;
+use crate::running::{Bounded, run_carded};
 use crate::step::LastStep;
 use crate::transforming::untransformed;
 use crate::verdict::Verdict;
 use cap_files::Folder;
 use cap_package::{OwnedParts, Package, Packages, agreed_package};
-use cap_text::{Run, tried};
+use cap_text::{Run, not_started, tried};
 use jc_base::World;
 use jc_link::{LinkEnd, link};
 use law_alike::starts_refuse_alike;
 use std::alloc::{AllocError, Global};
+use vm_defend::StartEnd;
 use xf_pack::transform_linked;
 
 // The steps of the new package that one of its source may take.
@@ -34,13 +35,6 @@ struct Made<'m, 'p, 'a, 'w> {
     roles: [u8; 8],
     world: &'m World<'w>,
     parts: &'m OwnedParts,
-}
-
-/// An entry with its arguments, and the text of its run in the source.
-#[derive(Clone, Copy)]
-struct Told<'t> {
-    run: &'t Run<'t>,
-    source: &'t str,
 }
 
 /// The last step of `trial`: it runs an entry of the last package, and then of it in the form that a verifier on the card
@@ -102,6 +96,7 @@ pub(crate) fn try_last(
 }
 
 // The same with the parts of the new package. Its source is run first.
+#[tactic(auto, using(crate::proofs::Trials::untried_there))]
 fn try_made(
     alloc: Global,
     made: &Made<'_, '_, '_, '_>,
@@ -117,36 +112,28 @@ fn try_made(
         (words_of card.old) (words_of card.new) result }
     ensures same { IsSameCard card.old card.new }
 {
-    match defend(alloc, made.world, run) {
-        Verdict::Done(text) => try_new(
-            alloc,
-            made,
-            &Told {
-                run,
-                source: text.as_str(),
-            },
-            card,
-        ),
-        Verdict::Malformed(text) => Verdict::Malformed(text),
-        Verdict::Memory => Verdict::Memory,
-        _ => unreachable!(),
+    match defended(alloc, made.world, run) {
+        Ok(source) => try_new(alloc, made, run, source.as_str(), card),
+        Err(StartEnd::Fault(fault)) => Verdict::malformed(not_started(alloc, fault)),
+        Err(StartEnd::Memory) => Verdict::Memory,
     }
 }
 
-// Links the libraries with the new package, whose source was run.
+// Links the libraries with the new package, of whose source the text of its run is at hand.
 fn try_new(
     alloc: Global,
     made: &Made<'_, '_, '_, '_>,
-    told: &Told<'_>,
+    run: &Run<'_>,
+    source: &str,
     card: &mut Card<'_>,
 ) -> Verdict
     requires lengths { HasLengths (words_of card.old) }
     requires linked { IsLinked made.now.packages.now made.now.roles made.now.world.now }
     requires made { IsTransformed made.now.packages.now made.now.roles made.now.world.now made.now.parts.now }
-    requires defended { IsDefended made.now.world.now (run_request told.now.run.now) told.now.source.now }
-    ensures tries { TriesIn made.now.packages.now made.now.roles made.now.world.now (run_request told.now.run.now)
+    requires defended { IsDefended made.now.world.now (run_request run.now) source.now }
+    ensures tries { TriesIn made.now.packages.now made.now.roles made.now.world.now (run_request run.now)
         (words_of card.new) result }
-    ensures kept { IsUntriedKept made.now.packages.now made.now.roles made.now.world.now (run_request told.now.run.now)
+    ensures kept { IsUntriedKept made.now.packages.now made.now.roles made.now.world.now (run_request run.now)
         (words_of card.old) (words_of card.new) result }
     ensures same { IsSameCard card.old card.new }
 {
@@ -158,7 +145,7 @@ fn try_new(
         return Verdict::Memory;
     };
     match link(alloc, &all, made.roles) {
-        Ok(new) => run_new(alloc, made, &new, told, card),
+        Ok(new) => run_new(alloc, made, &new, run, source, card),
         Err(LinkEnd::Fault(_)) => unreachable!(),
         Err(LinkEnd::Memory) => Verdict::Memory,
     }
@@ -186,44 +173,25 @@ fn run_new(
     alloc: Global,
     made: &Made<'_, '_, '_, '_>,
     new: &World<'_>,
-    told: &Told<'_>,
+    run: &Run<'_>,
+    source: &str,
     card: &mut Card<'_>,
 ) -> Verdict
     requires lengths { HasLengths (words_of card.old) }
     requires linked { IsLinked made.now.packages.now made.now.roles made.now.world.now }
     requires made { HasNew made.now.packages.now made.now.roles made.now.world.now made.now.parts.now new.now }
-    requires defended { IsDefended made.now.world.now (run_request told.now.run.now) told.now.source.now }
-    ensures tries { TriesIn made.now.packages.now made.now.roles made.now.world.now (run_request told.now.run.now)
+    requires defended { IsDefended made.now.world.now (run_request run.now) source.now }
+    ensures tries { TriesIn made.now.packages.now made.now.roles made.now.world.now (run_request run.now)
         (words_of card.new) result }
-    ensures kept { IsUntriedKept made.now.packages.now made.now.roles made.now.world.now (run_request told.now.run.now)
+    ensures kept { IsUntriedKept made.now.packages.now made.now.roles made.now.world.now (run_request run.now)
         (words_of card.old) (words_of card.new) result }
     ensures same { IsSameCard card.old card.new }
 {
     starts_refuse_alike(made.world);
-    let steps = STEPS_EACH * u64::from(told.run.budget);
-    let verdict = run_in_card(
-        alloc,
-        new,
-        Bounded {
-            run: told.run,
-            steps,
-        },
-        card,
-    );
-    match text_of(verdict) {
-        Ok(target) => Verdict::done(tried(alloc, told.source, target.as_str())),
+    let steps = STEPS_EACH * u64::from(run.budget);
+    let bounded = Bounded { run, steps };
+    match run_carded(alloc, new, bounded, card) {
+        Ok(target) => Verdict::done(tried(alloc, source, target.as_str())),
         Err(_) => Verdict::Memory,
-    }
-}
-
-// The text of a command that did its work, unless there was no memory.
-fn text_of(verdict: Verdict) -> Result<String, AllocError>
-    requires { IsDoneOrMemory verdict }
-    ensures { MatchResult result (λ text. verdict ≡ Verdict.Done text) (λ _. verdict ≡ Verdict.Memory) }
-{
-    match verdict {
-        Verdict::Done(text) => Ok(text),
-        Verdict::Memory => Err(AllocError),
-        _ => unreachable!(),
     }
 }
