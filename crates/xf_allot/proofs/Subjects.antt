@@ -1,11 +1,9 @@
 -- A method of a world that has a card typing is a subject.
 use Rattle.std.proofs.Common.{◌≡◌, ℕ, ◌≤◌, List, length, sym, ◌∙◌, subst, arith}
-use Rattle.jc_base.specs.declared.record.MethodRec.{MethodRec}
 use Rattle.jc_base.specs.declared.ty.Ty.{Ty}
-use Rattle.jc_base.specs.Linked.{IsMethod, lacks_code}
+use Rattle.jc_base.specs.Linked.{IsMethod}
 use Rattle.jc_base.specs.World.{Linked, IsWorld}
 use Rattle.jc_base.proofs.Lists.{All-slice_get}
-use Rattle.jc_base.proofs.CodeLengths.{length-short}
 use Rattle.jc_control.specs.Method.{Method, IsMethodOf}
 use Rattle.jc_ops.specs.declared.operation.Operation.{Operation}
 use Rattle.jc_rules.specs.Footprint.{registers_asked}
@@ -19,9 +17,6 @@ use Rattle.xf_allot.specs.Subject.{AsksFew}
 use Rattle.jc_rules.proofs.Decides.{ok-same}
 
 -- ---- a method with a card typing
-
-pub short-code : (w : Linked) (rec : MethodRec) → IsMethod w.infos w.pools w.classes rec → rec.code_len ≤ 32767
-short-code w rec is = length-short (lacks_code w.classes rec) rec.code_len is.code
 
 module _ (w : Linked) (links : IsWorld w) (m : Method) (is : IsMethodOf w m) (regs : List Ty) (stacks : ℕ → List Ty) (ty : CardTyping w m regs stacks)
   where

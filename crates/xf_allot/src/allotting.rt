@@ -1,14 +1,14 @@
 ghost use Rattle.std.specs.Prelude.{◌≡◌, ◌+◌, ◌≤◌, ◌++◌, drop, length, max, map, All, IfOk, IfSome, MatchOption, OnOk};
+ghost use Rattle.jc_control.specs.Subject.{method, world_of};
 ghost use Rattle.law_share.specs.Sharing.{end_of};
 ghost use Rattle.xf_allot.specs.Allotting.{AreAllottedBy, Gives, IsAllottedTo, IsSized, LiesBefore, numbers_from};
 ghost use Rattle.xf_allot.specs.Graph.{AreFound};
-ghost use Rattle.xf_allot.specs.Subject.{method, world_of};
 ghost use Rattle.xf_allot.specs.Variable.{HasNone, allotted_of};
 
 use crate::fitting::least_fit;
-use crate::subject::Subject;
 use crate::variable::{Allotted, Variable, variable_at};
 use jc_base::Ty;
+use jc_control::Subject;
 use std::alloc::{AllocError, Global};
 use xf_live::Interference;
 

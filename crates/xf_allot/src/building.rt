@@ -2,15 +2,15 @@ ghost use Rattle.std.specs.Prelude.{◌≡◌, ◌<◌, suc, length, IfOk, OnOk}
 ghost use Rattle.jc_control.specs.Flags.{Marks};
 ghost use Rattle.jc_control.specs.Listing.{IsListingOf};
 ghost use Rattle.jc_control.specs.WellFormed.{HasInstruction};
+ghost use Rattle.jc_control.specs.Subject.{method, world_of};
 ghost use Rattle.law_share.specs.Live.{Operates};
 ghost use Rattle.xf_allot.specs.Building.{HasPlace, IsAwaited};
 ghost use Rattle.xf_allot.specs.Graph.{IsBound, IsGraphOf, IsGraphTo};
-ghost use Rattle.xf_allot.specs.Subject.{IsSubject, method, world_of};
+ghost use Rattle.xf_allot.specs.Subject.{IsSubject};
 
 use crate::edges::{catch, leave};
-use crate::subject::Subject;
 use crate::uses::{no_uses, uses_of};
-use jc_control::{Flags, Listing};
+use jc_control::{Flags, Listing, Subject};
 use jc_decode::Placed;
 use jc_ops::{Operation, Site, resolve};
 use std::alloc::{AllocError, Global};

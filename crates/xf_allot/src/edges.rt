@@ -2,13 +2,13 @@ ghost use Rattle.std.specs.Prelude.{◌≡◌, ◌<◌, length, Contains, OnOk};
 ghost use Rattle.jc_base.specs.declared.record.Handler.{Handler};
 ghost use Rattle.jc_control.specs.Flags.{Marks};
 ghost use Rattle.jc_control.specs.WellFormed.{HasInstruction, IsHandlerOf};
+ghost use Rattle.jc_control.specs.Subject.{method};
 ghost use Rattle.xf_allot.specs.Graph.{Adds, IsBound, IsCatch, IsEnter, IsEntryOf, IsFall, IsJump, IsOut, caught_at};
-ghost use Rattle.xf_allot.specs.Subject.{IsSubject, method};
+ghost use Rattle.xf_allot.specs.Subject.{IsSubject};
 ghost use Rattle.xf_live.specs.declared.graph.Edge.{Edge};
 
-use crate::subject::Subject;
 use jc_base::Handler;
-use jc_control::{Flags, Targets, covers, place_of};
+use jc_control::{Flags, Subject, Targets, covers, place_of};
 use jc_decode::Placed;
 use std::alloc::AllocError;
 use xf_live::Edge;

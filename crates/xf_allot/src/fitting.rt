@@ -1,14 +1,14 @@
 ghost use Rattle.std.specs.Prelude.{◌≡◌, ◌+◌, ◌≤◌, map, All, MatchBool};
+ghost use Rattle.jc_control.specs.Subject.{method, world_of};
 ghost use Rattle.law_share.specs.Sharing.{FitsBeside, IsLeastFit};
 ghost use Rattle.law_share.specs.Variable.{Interferes};
 ghost use Rattle.xf_allot.specs.Allotting.{AllFit, IsSized, LiesBefore, MeetsOne};
 ghost use Rattle.xf_allot.specs.Graph.{AreFound};
-ghost use Rattle.xf_allot.specs.Subject.{method, world_of};
 ghost use Rattle.xf_allot.specs.Variable.{allotted_of, variable_of};
 
-use crate::subject::Subject;
 use crate::variable::{Allotted, Variable};
 use jc_base::same_type;
+use jc_control::Subject;
 use xf_live::Interference;
 
 /// The least registers that a variable may have beside those that others have, all of which lie before its own.

@@ -11,7 +11,6 @@ mod building;
 mod edges;
 mod fitting;
 mod sharing;
-mod subject;
 mod uses;
 mod variable;
 

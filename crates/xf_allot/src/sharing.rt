@@ -1,17 +1,16 @@
 ghost use Rattle.std.specs.Prelude.{◌<◌, IfOk, IsSomeAnd, slice_get};
 ghost use Rattle.card_typing.specs.Typing.{IsLeastCardTyping};
 ghost use Rattle.jc_control.specs.Method.{method_in};
+ghost use Rattle.jc_control.specs.Subject.{method, world_of};
 ghost use Rattle.xf_allot.specs.Allotting.{AreAllottedBy};
 ghost use Rattle.xf_allot.specs.Graph.{AreFound};
 ghost use Rattle.xf_allot.specs.Sharing.{AnswersSharing, Shares};
-ghost use Rattle.xf_allot.specs.Subject.{IsSubject, method, world_of};
+ghost use Rattle.xf_allot.specs.Subject.{IsSubject};
 
 use crate::allotting::{Allotment, allot};
 use crate::building::Building;
-use crate::subject::Subject;
-use cap_bytes::View;
 use jc_base::{Ty, World};
-use jc_decode::instructions_are_listed;
+use jc_control::Subject;
 use std::alloc::{AllocError, Global};
 use xf_live::{Interference, find_interference};
 
@@ -36,16 +35,8 @@ pub fn share_registers(
     requires typed { IsSomeAnd (method_in world.now method) (λ m. IsLeastCardTyping world.now m types.now) }
     ensures { IsSomeAnd (method_in world.now method) (λ m. IfOk result (AnswersSharing world.now m)) }
 {
-    instructions_are_listed();
-    let _classes = world.classes();
-    let rec = world.method(method);
-    let code = View::of(world.code(method));
-    let subject = Subject {
-        world,
-        number: method,
-        rec,
-        code,
-    };
+    let subject = Subject::of(world, method);
+    let _classes = subject.world.classes();
     share(alloc, &subject, types)
 }
 

@@ -1,5 +1,5 @@
 use Rattle.std.proofs.Common.{◌≡◌, ℕ, drop, length, arith, subst}
-use Rattle.xf_allot.specs.Subject.{method, world_of}
+use Rattle.jc_control.specs.Subject.{method, world_of}
 use Rattle.xf_allot.specs.Variable.{IsFirstOf}
 use Rattle.xf_allot.proofs.Variables.{allotted-all, allotted-more}
 use Rattle.xf_allot.proofs.allotting.allot.Goals as goal

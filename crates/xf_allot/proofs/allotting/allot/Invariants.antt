@@ -1,6 +1,6 @@
 use Rattle.std.proofs.Common.{◌-◌, length}
 use Rattle.xf_allot.specs.Allotting.{IsAllottedTo}
-use Rattle.xf_allot.specs.Subject.{method, world_of}
+use Rattle.jc_control.specs.Subject.{method, world_of}
 use Rattle.xf_allot.proofs.allotting.allot.Given as goal
 
 abbrev pub invariant-variables : goal.invariant-variables

@@ -28,7 +28,7 @@ set-requires-in-handlers c =
     let hs = c.args.subject.now.rec.now.handlers in
     let n = c.handlers.handler-index in
     let inside : n < length hs = (let long = ap length same in let lt = c.handlers-test.true in omega (arith, long, lt)) in
-    let near = handler-near code c.requires.subject.listed (get_or hs n blank)
+    let near = handler-near code c.args.subject.now.listed (get_or hs n blank)
     (All-get_or (IsHandlerOf code) hs n blank inside c.requires.subject.formed.handlers) in
     subst (λ (xs : List Handler). (get_or xs n blank).start < length c.handlers.bounds) (sym same)
     (let start = near.0 in let size = c.handlers.invariant.size in omega (arith, start, size))
@@ -40,7 +40,7 @@ set-requires-in-handlers-2 c =
     let hs = c.args.subject.now.rec.now.handlers in
     let n = c.handlers.handler-index in
     let inside : n < length hs = (let long = ap length same in let lt = c.handlers-test.true in omega (arith, long, lt)) in
-    let near = handler-near code c.requires.subject.listed (get_or hs n blank)
+    let near = handler-near code c.args.subject.now.listed (get_or hs n blank)
     (All-get_or (IsHandlerOf code) hs n blank inside c.requires.subject.formed.handlers) in
     let stays = ap length c.set-in-handlers.ensures ∙ length-set c.handlers.bounds (get_or c.as_slice-handler-items.result.now n blank).start true in
     subst (λ (xs : List Handler). (get_or xs n blank).end < length c.set-in-handlers.new.self) (sym same)
@@ -55,7 +55,7 @@ handlers-preserved c =
     let n = c.handlers.handler-index in
     let old = c.handlers.bounds in
     let inside : n < length hs = (let long = ap length same in let lt = c.handlers-test.true in omega (arith, long, lt)) in
-    let near = handler-near code c.requires.subject.listed (get_or hs n blank)
+    let near = handler-near code c.args.subject.now.listed (get_or hs n blank)
     (All-get_or (IsHandlerOf code) hs n blank inside c.requires.subject.formed.handlers) in
     let size = c.handlers.invariant.size in
     let start = near.0 in

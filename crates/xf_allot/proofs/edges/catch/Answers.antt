@@ -2,7 +2,7 @@ use Rattle.std.proofs.Common.{◌≡◌, ◌-◌, ℕ, true, false, rules, arith
 use Rattle.std.proofs.lemmas.Bool.{false≢true}
 use Rattle.jc_control.specs.Flags.{flag}
 use Rattle.xf_allot.specs.Graph.{Adds, IsBound, IsCatch, IsEntryOf}
-use Rattle.xf_allot.specs.Subject.{method}
+use Rattle.jc_control.specs.Subject.{method}
 use Rattle.xf_allot.proofs.Adding.{IsOne, catch-entered, catch-passed}
 use Rattle.xf_live.proofs.Oks.{on-ok}
 use Rattle.xf_allot.proofs.edges.catch.Goals as goal

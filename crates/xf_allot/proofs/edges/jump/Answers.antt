@@ -13,7 +13,7 @@ use Rattle.xf_allot.proofs.Adding.{jumps-none, jumps-more}
 use Rattle.xf_allot.proofs.edges.jump.Goals as goal
 
 pub of-target-items-requires-clause-decoded : goal.of-target-items-requires-clause-decoded
-of-target-items-requires-clause-decoded c = c.requires.subject.listed.decodes c.args.placed c.requires.stands
+of-target-items-requires-clause-decoded c = c.args.subject.now.listed.decodes c.args.placed c.requires.stands
 
 pub place_of-requires-clause-low : goal.place_of-requires-clause-low
 place_of-requires-clause-low c =
@@ -25,7 +25,7 @@ place_of-requires-clause-low c =
     c.in-Some.ensures.steps in
     let leads = contained-in c.targets.yielded t (rest_of c.next.new.self) all whole in
     let place = All-contains (IsTargetPlace code) all t (c.requires.subject.formed.targets c.args.placed c.requires.stands) leads in
-    rw (to_z-of_z w32 t fits) ((target-range code c.requires.subject.listed t place c.requires.subject.short).0)
+    rw (to_z-of_z w32 t fits) ((target-range code c.args.subject.now.listed t place c.args.subject.now.short).0)
 
 pub place_of-requires-clause-high : goal.place_of-requires-clause-high
 place_of-requires-clause-high c =
@@ -37,7 +37,7 @@ place_of-requires-clause-high c =
     c.in-Some.ensures.steps in
     let leads = contained-in c.targets.yielded t (rest_of c.next.new.self) all whole in
     let place = All-contains (IsTargetPlace code) all t (c.requires.subject.formed.targets c.args.placed c.requires.stands) leads in
-    rw (to_z-of_z w32 t fits) ((target-range code c.requires.subject.listed t place c.requires.subject.short).1)
+    rw (to_z-of_z w32 t fits) ((target-range code c.args.subject.now.listed t place c.args.subject.now.short).1)
 
 pub targets-init : goal.targets-init
 targets-init c = record { adds = jumps-none c.args.placed c.args.edges.now.items; whole = search rules }

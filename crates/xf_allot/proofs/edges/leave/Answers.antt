@@ -1,6 +1,6 @@
 use Rattle.std.proofs.Common.{subst}
 use Rattle.xf_allot.specs.Graph.{Adds, IsOut}
-use Rattle.xf_allot.specs.Subject.{method}
+use Rattle.jc_control.specs.Subject.{method}
 use Rattle.std.proofs.Common.{ℕ}
 use Rattle.xf_allot.proofs.Adding.{IsOne, out-added}
 use Rattle.xf_live.proofs.Oks.{on-ok}

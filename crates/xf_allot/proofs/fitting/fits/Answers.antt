@@ -5,7 +5,7 @@ use Rattle.jc_base.specs.declared.ty.Ty.TheVariants.{Bottom}
 use Rattle.law_share.specs.Sharing.{FitsBeside}
 use Rattle.xf_allot.specs.declared.variable.Allotted.{Allotted}
 use Rattle.xf_allot.specs.Allotting.{AllFit}
-use Rattle.xf_allot.specs.Subject.{method, world_of}
+use Rattle.jc_control.specs.Subject.{method, world_of}
 use Rattle.xf_allot.specs.Variable.{allotted_of, variable_of}
 use Rattle.xf_allot.proofs.fitting.fits.Goals as goal
 

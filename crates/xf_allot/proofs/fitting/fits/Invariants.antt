@@ -1,6 +1,6 @@
 use Rattle.std.proofs.Common.{take}
 use Rattle.xf_allot.specs.Allotting.{AllFit}
-use Rattle.xf_allot.specs.Subject.{method, world_of}
+use Rattle.jc_control.specs.Subject.{method, world_of}
 use Rattle.xf_allot.proofs.fitting.fits.Given as goal
 
 abbrev pub invariant-others : goal.invariant-others

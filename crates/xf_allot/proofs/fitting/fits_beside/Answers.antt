@@ -1,5 +1,5 @@
 use Rattle.std.proofs.Common.{arith}
-use Rattle.xf_allot.specs.Subject.{method, world_of}
+use Rattle.jc_control.specs.Subject.{method, world_of}
 use Rattle.xf_allot.proofs.Variables.{fits-decided}
 use Rattle.xf_allot.proofs.fitting.fits_beside.Goals as goal
 

@@ -1,6 +1,6 @@
 use Rattle.std.proofs.Common.{MatchBool, arith, rules, subst}
 use Rattle.xf_allot.specs.Allotting.{MeetsOne}
-use Rattle.xf_allot.specs.Subject.{method, world_of}
+use Rattle.jc_control.specs.Subject.{method, world_of}
 use Rattle.xf_allot.specs.Variable.{variable_of}
 use Rattle.xf_allot.proofs.Variables.{one-interferes, meets-more, none-meet}
 use Rattle.xf_allot.proofs.fitting.interfere.Goals as goal

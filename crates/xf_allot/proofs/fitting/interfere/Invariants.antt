@@ -1,6 +1,6 @@
 use Rattle.std.proofs.Common.{◌≡◌, ℕ, ◌+◌, ◌<◌, ◌≤◌}
 use Rattle.xf_allot.specs.Allotting.{MeetsOne}
-use Rattle.xf_allot.specs.Subject.{method, world_of}
+use Rattle.jc_control.specs.Subject.{method, world_of}
 use Rattle.xf_allot.specs.Variable.{variable_of}
 use Rattle.xf_allot.proofs.fitting.interfere.Given as goal
 

@@ -1,6 +1,6 @@
 use Rattle.std.proofs.Common.{◌≡◌, MatchBool, arith, subst}
 use Rattle.xf_allot.specs.Allotting.{AllFit}
-use Rattle.xf_allot.specs.Subject.{method, world_of}
+use Rattle.jc_control.specs.Subject.{method, world_of}
 use Rattle.xf_allot.proofs.Variables.{fits-least, last-fits, unfit-more}
 use Rattle.xf_allot.proofs.fitting.least_fit.Goals as goal
 

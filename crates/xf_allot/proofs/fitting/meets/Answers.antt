@@ -1,5 +1,5 @@
 use Rattle.std.proofs.Common.{◌<◌, ◌+◌, MatchBool, arith, rules, subst}
-use Rattle.xf_allot.specs.Subject.{method, world_of}
+use Rattle.jc_control.specs.Subject.{method, world_of}
 use Rattle.xf_allot.specs.Variable.{variable_of}
 use Rattle.xf_allot.proofs.Variables.{found-here, none-more, none-found}
 use Rattle.xf_live.specs.Interference.{Tells}

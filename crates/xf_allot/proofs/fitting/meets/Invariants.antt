@@ -1,6 +1,6 @@
 use Rattle.std.proofs.Common.{◌≡◌, ℕ, ◌+◌, ◌<◌, ◌≤◌}
 use Rattle.xf_allot.specs.Graph.{AreApart}
-use Rattle.xf_allot.specs.Subject.{method, world_of}
+use Rattle.jc_control.specs.Subject.{method, world_of}
 use Rattle.xf_allot.proofs.fitting.meets.Given as goal
 
 abbrev pub invariant-registers : goal.invariant-registers

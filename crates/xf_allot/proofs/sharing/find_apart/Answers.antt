@@ -1,6 +1,6 @@
 use Rattle.std.proofs.Common.{List, subst}
 use Rattle.xf_allot.specs.Graph.{AreFound}
-use Rattle.xf_allot.specs.Subject.{method, world_of}
+use Rattle.jc_control.specs.Subject.{method, world_of}
 use Rattle.xf_allot.proofs.Adding.{bound-decided}
 use Rattle.xf_allot.proofs.Flowing.{found-apart}
 use Rattle.xf_live.proofs.Oks.{if-ok}
@@ -16,6 +16,6 @@ returns c =
     let uses = c.in_ok-graph.graph.uses.items in
     let edges = c.in_ok-graph.graph.edges.items in
     if-ok c.find_interference.result (AreInterfering c.as_slice.result.now c.as_slice-2.result.now) (AreFound w m)
-    (λ found are. found-apart w m c.requires.listed c.requires.formed uses edges c.in_ok-graph.ensures (bound-decided m.rec.handlers) found
+    (λ found are. found-apart w m c.args.subject.now.listed c.requires.formed uses edges c.in_ok-graph.ensures (bound-decided m.rec.handlers) found
     (subst (λ (us : List Uses). AreInterfering us edges found) c.as_slice.ensures.value
     (subst (λ (es : List Edge). AreInterfering c.as_slice.result.now es found) c.as_slice-2.ensures.value are))) c.find_interference.ensures

@@ -1,6 +1,6 @@
 use Rattle.std.proofs.Common.{arith}
 use Rattle.xf_allot.specs.declared.allotting.Allotment.{Allotment}
-use Rattle.xf_allot.specs.Subject.{method, world_of}
+use Rattle.jc_control.specs.Subject.{method, world_of}
 use Rattle.xf_allot.proofs.Variables.{allotted-none}
 use Rattle.xf_allot.proofs.allotting.Allotment.of.Goals as goal
 

@@ -4,7 +4,7 @@ use Rattle.std.specs.Vec.{with_item}
 use Rattle.xf_allot.specs.declared.building.Building.{Building}
 use Rattle.xf_allot.specs.Building.{HasPlace}
 use Rattle.xf_allot.specs.Graph.{Adds, IsOut}
-use Rattle.xf_allot.specs.Subject.{method, world_of}
+use Rattle.jc_control.specs.Subject.{method, world_of}
 use Rattle.xf_allot.proofs.Placing.{place-one}
 use Rattle.xf_live.proofs.Oks.{on-ok}
 use Rattle.xf_allot.proofs.building.Building.add_operation.Goals as goal
@@ -18,5 +18,5 @@ returns c =
     let u = c.uses_of.result in
     let new : Building = record { uses = with_item old.uses c.from.result u; edges = c.leave.new.edges } in
     on-ok (Adds (IsOut m i) old.edges.items new.edges.items) (HasPlace w m i.place old new) c.leave.result
-    (λ adds. place-one w m i c.args.operation u old new c.requires.subject.listed c.requires.awaited c.requires.operates c.uses_of.ensures
+    (λ adds. place-one w m i c.args.operation u old new c.args.subject.now.listed c.requires.awaited c.requires.operates c.uses_of.ensures
     (ap (λ (n : ℕ). set old.uses.items n u) c.from.ensures) adds) c.leave.ensures

@@ -1,7 +1,7 @@
 use Rattle.std.proofs.Common.{refl, suc}
 use Rattle.xf_allot.specs.declared.building.Building.{Building}
 use Rattle.xf_allot.specs.Graph.{Adds, IsCatch, IsGraphTo}
-use Rattle.xf_allot.specs.Subject.{method, world_of}
+use Rattle.jc_control.specs.Subject.{method, world_of}
 use Rattle.xf_allot.proofs.Placing.{awaited-next, graph-more}
 use Rattle.xf_live.proofs.Oks.{on-ok}
 use Rattle.xf_allot.proofs.building.Building.add_place.Goals as goal

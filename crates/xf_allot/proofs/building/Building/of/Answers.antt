@@ -1,6 +1,6 @@
 use Rattle.std.proofs.Common.{◌≡◌, ◌+◌, ℕ, suc, length, arith, subst}
 use Rattle.xf_allot.specs.Graph.{IsGraphTo}
-use Rattle.xf_allot.specs.Subject.{method, world_of}
+use Rattle.jc_control.specs.Subject.{method, world_of}
 use Rattle.xf_allot.proofs.building.Building.of.Goals as goal
 
 pub places-preserved : goal.places-preserved

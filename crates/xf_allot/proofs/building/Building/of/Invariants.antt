@@ -1,6 +1,6 @@
 use Rattle.std.proofs.Common.{◌≤◌, length}
 use Rattle.xf_allot.specs.Graph.{IsGraphTo}
-use Rattle.xf_allot.specs.Subject.{method, world_of}
+use Rattle.jc_control.specs.Subject.{method, world_of}
 use Rattle.xf_allot.proofs.building.Building.of.Given as goal
 
 abbrev pub invariant-places : goal.invariant-places
