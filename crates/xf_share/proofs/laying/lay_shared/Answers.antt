@@ -4,7 +4,8 @@ use Rattle.jc_base.specs.World.{code_of}
 use Rattle.jc_control.specs.Method.{Method, IsMethodOf}
 use Rattle.xf_allot.specs.Sharing.{AnswersSharing}
 use Rattle.jc_control.proofs.OwnMethod.{is-own, of-method, own-length, record-fact, to-method}
-use Rattle.xf_allot.proofs.Subjects.{short-code}
+use Rattle.jc_base.proofs.CodeLengths.{length-short}
+use Rattle.jc_base.specs.Linked.{lacks_code}
 use Rattle.xf_share.specs.Numbering.{IsRenumbered}
 use Rattle.xf_share.proofs.Coded.{readable-of}
 use Rattle.xf_share.proofs.laying.lay_shared.Goals as goal
@@ -21,7 +22,7 @@ symbols_of-requires c =
     let filled = record-fact w n rec code here bytes (λ r. 0 < r.code_len) c.requires.code in
     let m : Method = record { number = n; rec = rec; code = code } in
     let is : IsMethodOf w m = is-own w n rec code here bytes (omega (arith, long, filled)) in
-    let short = short-code w rec c.method-rec.ensures.links in
+    let short = length-short (lacks_code w.classes rec) rec.code_len c.method-rec.ensures.links.code in
     readable-of c.instructions_are_listed.ensures m (omega (arith, long, short)) (c.requires.accepted m is).typing.formed
 
 pub lay_symbols-requires-clause-symbols : goal.lay_symbols-requires-clause-symbols
@@ -36,7 +37,7 @@ lay_symbols-requires-clause-symbols c =
     let filled = record-fact w n rec code here bytes (λ r. 0 < r.code_len) c.requires.code in
     let m : Method = record { number = n; rec = rec; code = code } in
     let is : IsMethodOf w m = is-own w n rec code here bytes (omega (arith, long, filled)) in
-    let short = short-code w rec c.method-rec.ensures.links in
+    let short = length-short (lacks_code w.classes rec) rec.code_len c.method-rec.ensures.links.code in
     to-method w n rec code here bytes (λ (x : Method). IsRenumbered w x c.args.sharing.now c.in-Ok.symbols) (record {
       method = is;
       formed = (c.requires.accepted m is).typing.formed;
