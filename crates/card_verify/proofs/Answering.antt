@@ -31,7 +31,7 @@ use Rattle.card_verify.specs.Walk.{HasSlices, CanBeginPass, IsFinished}
 
 -- ---- a well-formed method
 
-pub begun-start : (v : Verifier) (marked : ℕ → Type 0) (regs stack : List Ty) → regs ≡ (start_frame v.rec.now Bottom).regs
+pub begun-start : (v : Verifier) (marked : ℕ → Type 0) (regs stack : List Ty) → regs ≡ (start_frame v.subject.rec.now Bottom).regs
     → HasSlices v regs stack → CanBeginPass v marked 0 regs stack
 begun-start v marked regs stack e slices = record {
   met = λ given a. subst (λ (xs : List Ty). IsMetAfter (world_of v) (method v) marked 0 0 (record { regs = xs; stack = given })) (sym e) (met_start given a);

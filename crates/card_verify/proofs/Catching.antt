@@ -132,6 +132,3 @@ handler-class w m t items n d own is mo e inside =
     let method = All-slice_get (IsMethod w.infos w.pools w.classes) w.methods m.number m.rec is.methods mo.rec in
     subst (λ (u : ClassTable). IsClass u (get_or items n d).class) (sym own)
     (subst (All (IsHandler w.classes (list_at w.pools m.rec.package) m.rec.code_len)) (sym e) method.handlers n d inside).class
-
-pub few-handlers : (w : Linked) (m : Method) → IsWorld w → IsMethodOf w m → length m.rec.handlers ≤ 255
-few-handlers w m is mo = (All-slice_get (IsMethod w.infos w.pools w.classes) w.methods m.number m.rec is.methods mo.rec).few_handlers

@@ -24,17 +24,17 @@ use Rattle.card_verify.specs.Walk.{IsVerifier, HasSlices, IsLanded, IsMislanded,
 use Rattle.card_verify.proofs.Landing.{no-cells}
 
 module _ (v : Verifier) (marked : ℕ → Type 0) (is : IsVerifier v marked) where
-  pub has-room : (regs stack : List Ty) (depth : ℕ) → HasSlices v regs stack → depth ≤ v.rec.now.max_stack
-      → IsSomeAnd (slice_get (world_of v).methods v.number) (λ m. HasDeclaredLengths m regs stack depth)
+  pub has-room : (regs stack : List Ty) (depth : ℕ) → HasSlices v regs stack → depth ≤ v.subject.rec.now.max_stack
+      → IsSomeAnd (slice_get (world_of v).methods v.subject.number) (λ m. HasDeclaredLengths m regs stack depth)
   has-room regs stack depth slices le =
       subst (λ (o : Option MethodRec). IsSomeAnd o (λ m. HasDeclaredLengths m regs stack depth)) (sym is.known.rec)
       (record { registers = slices.registers; cells = slices.cells; within = le })
 
   module _ (i : Placed) (there : HasInstruction (method v).code i) (regs stack regs_after stack_after : List Ty) (depth : ℕ)
-      (long : length stack_after ≡ v.rec.now.max_stack)
+      (long : length stack_after ≡ v.subject.rec.now.max_stack)
       (suits : IsOpenTo (method v) marked i.place (cells stack depth)) where
-    pub fail-rule : (fault : RuleFault) → depth ≤ v.rec.now.max_stack → (regs_after ≡ regs) × (stack_after ≡ stack)
-        → Refuses (world_of v) (record { method = v.number; place = i.place }) i.insn (frame_of regs stack depth) fault
+    pub fail-rule : (fault : RuleFault) → depth ≤ v.subject.rec.now.max_stack → (regs_after ≡ regs) × (stack_after ≡ stack)
+        → Refuses (world_of v) (record { method = v.subject.number; place = i.place }) i.insn (frame_of regs stack depth) fault
         → IsFailing v marked i regs (cells stack depth) regs_after stack_after (record { place = i.place; depth = depth; kind = Rule fault })
     fail-rule fault le same refuses = record {
       place = refl;
@@ -46,9 +46,9 @@ module _ (v : Verifier) (marked : ℕ → Type 0) (is : IsVerifier v marked) whe
       within = omega (arith, le, long);
     }
 
-    module _ (o : Outcome) (applies : Applies (world_of v) (record { method = v.number; place = i.place }) i.insn Card (frame_of regs stack depth)
+    module _ (o : Outcome) (applies : Applies (world_of v) (record { method = v.subject.number; place = i.place }) i.insn Card (frame_of regs stack depth)
         (frame_of regs_after stack_after o.depth) o) where
-      shallow : o.depth ≤ v.rec.now.max_stack
+      shallow : o.depth ≤ v.subject.rec.now.max_stack
       shallow =
           let does = (is.records.applies (method v) i.place i.insn Card (frame_of regs stack depth) (frame_of regs_after stack_after o.depth) o is.known
           applies).does in
@@ -57,7 +57,7 @@ module _ (v : Verifier) (marked : ℕ → Type 0) (is : IsVerifier v marked) whe
       left-none : o.depth ≡ 0 → cells stack_after o.depth ≡ []
       left-none e = ap (cells stack_after) e ∙ no-cells stack_after
 
-      pub stepped : IsLeftWell v i o.depth → length regs_after ≡ v.rec.now.nargs + v.rec.now.max_locals
+      pub stepped : IsLeftWell v i o.depth → length regs_after ≡ v.subject.rec.now.nargs + v.subject.rec.now.max_locals
           → MatchBool o.rose (sum_by (rises_left (world_of v).classes) regs_after < sum_by (rises_left (world_of v).classes) regs) (regs_after ≡ regs)
           → IsStepped v marked i regs (cells stack depth) regs_after stack_after o
       stepped well count rises = record {

@@ -126,7 +126,7 @@ module _ (v : Verifier) (marked : ℕ → Type 0) (is : IsVerifier v marked) whe
         inside = λ e. s.passed.goes_on (sym falling ∙ e);
         begins = λ lt. begins-here i before regs stack regs_after stack_after o visited (λ other. coming.begins (positive i.place other));
         slices = s.slices;
-        depth = subst (λ n. n ≤ v.rec.now.max_stack) (sym deep) s.depth;
+        depth = subst (λ n. n ≤ v.subject.rec.now.max_stack) (sym deep) s.depth;
       }
     where
       positive : (n : ℕ) → ¬ (n ≡ 0) → 0 < n

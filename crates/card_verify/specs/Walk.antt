@@ -42,8 +42,8 @@ pub record IsVerifier (v : Verifier) (marked : ℕ → Type 0) : Type 0 where
 
 -- the lent slices have the lengths that the method declares
 pub record HasSlices (v : Verifier) (regs stack : List Ty) : Type 0 where
-  pub registers : length regs ≡ v.rec.now.nargs + v.rec.now.max_locals
-  pub cells : length stack ≡ v.rec.now.max_stack
+  pub registers : length regs ≡ (method v).rec.nargs + (method v).rec.max_locals
+  pub cells : length stack ≡ (method v).rec.max_stack
 
 -- a walk comes to a place, which may be the end, after so many visits: the state with which it goes on is met, and no
 -- handler begins at the method's first place once that is passed
@@ -57,7 +57,7 @@ pub record IsComing (v : Verifier) (marked : ℕ → Type 0) (visits at : ℕ) (
   pub inside : arrival.may_fall ≡ true → at < length (method v).code
   pub begins : 0 < at → ¬ (IsEntry (method v) 0)
   pub slices : HasSlices v regs stack
-  pub depth : arrival.depth ≤ v.rec.now.max_stack
+  pub depth : arrival.depth ≤ (method v).rec.max_stack
 
 -- how many cells it comes with
 abbrev pub left : Arrival → ℕ
@@ -127,7 +127,7 @@ pub record IsStepped (v : Verifier) (marked : ℕ → Type 0) (i : Placed) (regs
       (sum_by (rises_left (world_of v).classes) regs_after < sum_by (rises_left (world_of v).classes) regs)
       (regs_after ≡ regs)
   pub slices : HasSlices v regs_after stack_after
-  pub depth : o.depth ≤ v.rec.now.max_stack
+  pub depth : o.depth ≤ (method v).rec.max_stack
 
 -- nothing is wrong at an instruction
 pub record IsVisited (v : Verifier) (marked : ℕ → Type 0) (i : Placed) (arrival : Arrival)

@@ -196,8 +196,8 @@ impl Verifier<'_> {
     {
         instructions_are_listed();
         let mut best = None;
-        'walk: for placed in Instructions::of(self.code) {
-            best = nearest(self.code, placed, from, best);
+        'walk: for placed in Instructions::of(self.subject.code) {
+            best = nearest(self.subject.code, placed, from, best);
         }
         best
     }
@@ -207,7 +207,7 @@ impl Verifier<'_> {
         ensures { IsLeastFrom (IsEntry (method self.now)) from result }
     {
         let mut best = None;
-        'handlers: for handler in self.rec.handlers.as_slice() {
+        'handlers: for handler in self.subject.rec.handlers.as_slice() {
             best = nearer(from, best, u32::from(handler.entry));
         }
         best

@@ -2,7 +2,6 @@ ghost use Rattle.std.specs.Prelude.{◌≤◌, take, length, IfSome};
 ghost use Rattle.jc_base.specs.Class.{IsClass};
 ghost use Rattle.jc_base.specs.Order.{IsJoin};
 ghost use Rattle.jc_base.specs.World.{IsWorld};
-ghost use Rattle.jc_control.specs.Method.{IsMethodOf};
 ghost use Rattle.jc_base.specs.declared.ty.Ty.TheVariants.{Class};
 ghost use Rattle.card_typing.specs.Place.{IsEntry, CatchesAt};
 ghost use Rattle.card_verify.specs.Verifier.{method, world_of};
@@ -14,14 +13,13 @@ use jc_base::{Classes, Handler, Ty, join};
 impl Verifier<'_> {
     /// The class of the object that is on the stack where handlers begin: the join of those that they catch.
     pub(crate) fn caught(&self, place: u16) -> u16
-        requires known { IsMethodOf (world_of self.now) (method self.now) }
         requires world { IsWorld (world_of self.now) }
         requires entry { IsEntry (method self.now) place }
-        ensures { CatchesAt self.now.world.now.classes (method self.now) place result }
+        ensures { CatchesAt (world_of self.now).classes (method self.now) place result }
     {
-        let classes = self.world.classes();
+        let classes = self.subject.world.classes();
         let mut class = None;
-        'handlers: for handler in self.rec.handlers.as_slice() {
+        'handlers: for handler in self.subject.rec.handlers.as_slice() {
             class = caught_with(classes, class, *handler, place);
         }
         match class {

@@ -1,25 +1,24 @@
 ghost use Rattle.std.specs.Prelude.{◌≡◌, ◌↔◌, ◌≤◌, length, All, IsTrue};
 ghost use Rattle.jc_decode.specs.Listing.{listing_end};
 ghost use Rattle.jc_control.specs.WellFormed.{IsHandlerOf};
-ghost use Rattle.card_verify.specs.Verifier.{method};
+ghost use Rattle.jc_control.specs.Subject.{method};
 
-use crate::Verifier;
 use cap_bytes::View;
 use jc_base::Handler;
-use jc_control::Places;
+use jc_control::{Places, Subject};
 use jc_decode::code_end;
 
 /// Whether the code of a method is decoded to its end, and each of its handlers is well formed: what is left to ask where
 /// all targets are known to be places of instructions.
-pub(crate) fn is_rest_formed(verifier: Verifier<'_>) -> bool
-    ensures ends { IsTrue result → listing_end (method verifier.entry).code ≡ length (method verifier.entry).code }
-    ensures handlers { IsTrue result → All (IsHandlerOf (method verifier.entry).code) (method verifier.entry).rec.handlers }
+pub(crate) fn is_rest_formed(subject: Subject<'_>) -> bool
+    ensures ends { IsTrue result → listing_end (method subject.entry).code ≡ length (method subject.entry).code }
+    ensures handlers { IsTrue result → All (IsHandlerOf (method subject.entry).code) (method subject.entry).rec.handlers }
 {
-    let (end, _) = code_end(verifier.code);
-    if usize::from(end) != verifier.code.bytes.len() {
+    let (end, _) = code_end(subject.code);
+    if usize::from(end) != subject.code.bytes.len() {
         return false;
     }
-    are_formed(verifier.code, verifier.rec.handlers.as_slice())
+    are_formed(subject.code, subject.rec.handlers.as_slice())
 }
 
 /// Whether handlers are well formed.

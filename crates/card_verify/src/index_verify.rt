@@ -23,6 +23,7 @@ use crate::over_index::index_laws;
 use crate::scan::{Lacking, first_lacking};
 use card_typing::{CardFault, CardKind, card_laws};
 use jc_base::{Steps, TargetIndex, Ty, World};
+use jc_control::Subject;
 use jc_decode::instructions_are_listed;
 use std::sync::ledger::Ledger;
 
@@ -70,7 +71,8 @@ pub fn verify_indexed<L: Ledger>(
         → length index.now < 2 ^ digits
         → steps.new ≤ steps.old + step_bound world.now m (length index.now) digits) }
 {
-    let verifier = Verifier::of(world, method);
+    let subject = Subject::of(world, method);
+    let verifier = Verifier { subject };
     let indexed = Indexed { verifier, index };
     indexed.verify(regs, stack, steps)
 }
@@ -83,7 +85,6 @@ impl Indexed<'_, '_> {
         stack: &mut [Ty],
         steps: &mut Steps<L>,
     ) -> Result<(), CardFault>
-        requires method { IsMethodOf (world_in self.now) (subject self.now) }
         requires slices { HasSlices self.now.verifier regs.old stack.old }
         ensures typing { OnOk result (HasIndexTyping (world_in self.now) (subject self.now) (listed self.now)) }
         ensures least { OnOk result (IsLeastCardTyping (world_in self.now) (subject self.now) regs.new) }
@@ -103,8 +104,8 @@ impl Indexed<'_, '_> {
             → length (listed self.now) < 2 ^ b
             → steps.new ≤ steps.old + step_bound (world_in self.now) (subject self.now) (length (listed self.now)) b }
     {
-        card_laws(self.verifier.world);
-        index_laws(self.verifier.world);
+        card_laws(self.verifier.subject.world);
+        index_laws(self.verifier.subject.world);
         match self.check(steps) {
             Ok(()) => self.verify_types(regs, stack, steps),
             Err(fault) => Err(fault),
@@ -113,7 +114,6 @@ impl Indexed<'_, '_> {
 
     /// Whether the method is well formed and the index is one of it, or else what is wrong first.
     fn check<L: Ledger>(&self, steps: &mut Steps<L>) -> Result<(), CardFault>
-        requires { IsMethodOf (world_in self.now) (subject self.now) }
         ensures formed { OnOk result (IsWellFormed (subject self.now)) }
         ensures index { OnOk result (IsIndex (subject self.now) (listed self.now)) }
         ensures refused { IfErr result
@@ -128,7 +128,7 @@ impl Indexed<'_, '_> {
             → length (listed self.now) < 2 ^ b
             → steps.new ≤ steps.old + (length (listed self.now) + target_count (subject self.now) * b) }
     {
-        match bad_entry(self.verifier.code, self.index, steps) {
+        match bad_entry(self.verifier.subject.code, self.index, steps) {
             Some(entry) => self.refuse_entry(entry),
             None => self.check_targets(steps),
         }
@@ -136,7 +136,6 @@ impl Indexed<'_, '_> {
 
     /// The same, where the entries of the index are places in ascending order.
     fn check_targets<L: Ledger>(&self, steps: &mut Steps<L>) -> Result<(), CardFault>
-        requires method { IsMethodOf (world_in self.now) (subject self.now) }
         requires ascending { IsAscending (listed self.now) }
         requires places { All (IsPlace (subject self.now).code) (listed self.now) }
         ensures formed { OnOk result (IsWellFormed (subject self.now)) }
@@ -152,7 +151,7 @@ impl Indexed<'_, '_> {
             → length (listed self.now) < 2 ^ b
             → steps.new ≤ steps.old + target_count (subject self.now) * b }
     {
-        match first_lacking(self.verifier.code, self.index, steps) {
+        match first_lacking(self.verifier.subject.code, self.index, steps) {
             Some(lacks) => self.refuse_target(lacks),
             None => self.check_rest(),
         }
@@ -160,7 +159,6 @@ impl Indexed<'_, '_> {
 
     /// The refusal of an index with a bad entry; but a flaw of the method comes first.
     fn refuse_entry(&self, entry: u32) -> Result<(), CardFault>
-        requires method { IsMethodOf (world_in self.now) (subject self.now) }
         requires bad { IsFirstBadEntry (subject self.now).code (listed self.now) entry }
         ensures err { IsErr result }
         ensures refused { IfErr result
@@ -181,7 +179,6 @@ impl Indexed<'_, '_> {
 
     /// The refusal of an index of places that lacks a target; but a flaw of the method comes first.
     fn refuse_target(&self, lacks: Lacking) -> Result<(), CardFault>
-        requires method { IsMethodOf (world_in self.now) (subject self.now) }
         requires ascending { IsAscending (listed self.now) }
         requires places { All (IsPlace (subject self.now).code) (listed self.now) }
         requires lacks { IsFirstLacking (subject self.now).code (listed self.now) lacks.place lacks.target }
@@ -202,7 +199,6 @@ impl Indexed<'_, '_> {
 
     /// Whether the method is well formed, where the index lists places alone and every target.
     fn check_rest(&self) -> Result<(), CardFault>
-        requires method { IsMethodOf (world_in self.now) (subject self.now) }
         requires places { All (IsPlace (subject self.now).code) (listed self.now) }
         requires leads { All (LeadsToListed (subject self.now).code (listed self.now)) (listing (subject self.now).code) }
         ensures formed { OnOk result (IsWellFormed (subject self.now)) }
@@ -213,7 +209,7 @@ impl Indexed<'_, '_> {
         ensures all_read { IfErr result
             (λ fault. entries_read (length (listed self.now)) fault.kind ≤ length (listed self.now)) }
     {
-        if is_rest_formed(self.verifier) {
+        if is_rest_formed(self.verifier.subject) {
             return Ok(());
         }
         self.verifier.check_form()
@@ -226,7 +222,6 @@ impl Indexed<'_, '_> {
         stack: &mut [Ty],
         steps: &mut Steps<L>,
     ) -> Result<(), CardFault>
-        requires method { IsMethodOf (world_in self.now) (subject self.now) }
         requires formed { IsWellFormed (subject self.now) }
         requires index { IsIndex (subject self.now) (listed self.now) }
         requires slices { HasSlices self.now.verifier regs.old stack.old }

@@ -75,7 +75,7 @@ impl Verifier<'_> {
             depth: 0,
         };
         let mut rose = false;
-        'walk: for placed in Instructions::of(self.code) {
+        'walk: for placed in Instructions::of(self.subject.code) {
             let outcome = match self.visit(marks, placed, &mut ahead, arrival, regs, stack, steps) {
                 Ok(outcome) => outcome,
                 Err(fault) => return Err(fault),
@@ -138,12 +138,12 @@ impl Verifier<'_> {
         requires fallen { MatchBool arrival.may_fall
             (IsFallenInto (method self.now) ahead.from)
             (¬ (IsFallenInto (method self.now) ahead.from)) }
-        requires cells { length stack.old ≡ self.now.rec.now.max_stack }
-        requires depth { arrival.depth ≤ self.now.rec.now.max_stack }
+        requires cells { length stack.old ≡ (method self.now).rec.max_stack }
+        requires depth { arrival.depth ≤ (method self.now).rec.max_stack }
         ensures landed { IfOk result
             (λ depth.
             IsLanded self.now (M.marks marks.now) ahead.from arrival stack.old (cells stack.new depth)) }
-        ensures depth { IfOk result (λ depth. depth ≤ self.now.rec.now.max_stack) }
+        ensures depth { IfOk result (λ depth. depth ≤ (method self.now).rec.max_stack) }
         ensures wrong { IfErr result (λ fault. IsMislanded self.now (M.marks marks.now) arrival stack.old stack.new fault) }
         ensures place { IfErr result (λ fault. fault.place ≡ ahead.from) }
         ensures still { arrival.may_fall ≡ true → steps.new ≡ steps.old }
@@ -177,11 +177,11 @@ impl Verifier<'_> {
         requires fallen { MatchBool arrival.may_fall
             (IsFallenInto (method self.now) place)
             (¬ (IsFallenInto (method self.now) place)) }
-        requires cells { length stack.old ≡ self.now.rec.now.max_stack }
+        requires cells { length stack.old ≡ (method self.now).rec.max_stack }
         ensures landed { IfOk result
             (λ depth.
             IsLanded self.now (M.marks marks.now) place arrival stack.old (cells stack.new depth)) }
-        ensures depth { IfOk result (λ depth. depth ≤ self.now.rec.now.max_stack) }
+        ensures depth { IfOk result (λ depth. depth ≤ (method self.now).rec.max_stack) }
         ensures wrong { IfErr result (λ fault. IsMislanded self.now (M.marks marks.now) arrival stack.old stack.new fault) }
         ensures place { IfErr result (λ fault. fault.place ≡ place) }
         ensures still { arrival.may_fall ≡ true → steps.new ≡ steps.old }
@@ -219,7 +219,7 @@ impl Verifier<'_> {
         requires verifier { IsVerifier self.now (M.marks marks.now) }
         requires stands { HasInstruction (method self.now).code placed }
         requires slices { HasSlices self.now regs.old stack.old }
-        requires depth { depth ≤ self.now.rec.now.max_stack }
+        requires depth { depth ≤ (method self.now).rec.max_stack }
         requires known { All (IsKnown (world_of self.now).classes) regs.old
             × All (IsKnown (world_of self.now).classes) (cells stack.old depth) }
         requires suits { IsOpenTo (method self.now) (M.marks marks.now) placed.place (cells stack.old depth) }
@@ -234,11 +234,11 @@ impl Verifier<'_> {
         let _marks = marks;
         let place = placed.place;
         let site = Site {
-            method: self.number,
+            method: self.subject.number,
             place,
         };
         let outcome = match apply_counted(
-            self.world,
+            self.subject.world,
             site,
             placed.insn,
             regs,
@@ -274,7 +274,7 @@ impl Verifier<'_> {
             return Some(CardKind::StackAtBranch);
         }
         let next = u64::from(placed.place) + u64::from(placed.insn.len);
-        if placed.insn.falls() && self.code.bytes.len() as u64 <= next {
+        if placed.insn.falls() && self.subject.code.bytes.len() as u64 <= next {
             return Some(CardKind::FallsOff);
         }
         None

@@ -1,14 +1,7 @@
-ghost use Rattle.std.specs.Prelude.{◌≤◌, length};
+use jc_control::Subject;
 
-use cap_bytes::View;
-use jc_base::{MethodRec, World};
-
-/// A method with code that is verified: its number in the world, its record and the bytes of its code.
+/// The verifier of a method.
 #[derive(Clone, Copy)]
 pub struct Verifier<'a> {
-    pub world: &'a World<'a>,
-    pub number: u16,
-    pub rec: &'a MethodRec,
-    pub code: View<'a>,
-    ghost short: { length code.bytes.now ≤ 32767 },
+    pub subject: Subject<'a>,
 }

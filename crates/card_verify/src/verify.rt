@@ -1,4 +1,4 @@
-ghost use Rattle.std.specs.Prelude.{◌≡◌, ◌↔◌, ℕ, ◌+◌, ◌*◌, ◌<◌, ◌≤◌, length, Some, slice_get, sum_by, IsSomeAnd, IfErr, OnOk, OnErr};
+ghost use Rattle.std.specs.Prelude.{◌≡◌, ◌↔◌, ℕ, ◌+◌, ◌*◌, ◌<◌, ◌≤◌, length, slice_get, sum_by, IsSomeAnd, IfErr, OnOk, OnErr};
 ghost use Rattle.jc_base.specs.Order.{rises_left};
 ghost use Rattle.jc_base.specs.declared.ty.Ty.TheVariants.{Bottom};
 ghost use Rattle.jc_control.specs.Method.{IsMethodOf, method_in};
@@ -16,7 +16,6 @@ ghost use Rattle.card_verify.specs.Walk.{IsVerifier, HasSlices, CanBeginPass, Is
 use crate::marks::Marks;
 use crate::start::start;
 use crate::verifier::Verifier;
-use cap_bytes::View;
 use card_typing::{CardFault, CardKind, card_laws};
 use jc_base::{Steps, Ty, World};
 use jc_control::{Flaw, Places, Subject, find_flaw, instructions_are_placed};
@@ -53,7 +52,8 @@ pub fn verify_method(
     ensures flawed { IsSomeAnd (method_in world.now method) (λ m. IfErr result (λ fault. IsFlawKind fault.kind ↔ ¬ (IsWellFormed m))) }
     ensures as_before { IfErr result (λ fault. IsFlawKind fault.kind → (regs.new ≡ regs.old) × (stack.new ≡ stack.old)) }
 {
-    let verifier = Verifier::of(world, method);
+    let subject = Subject::of(world, method);
+    let verifier = Verifier { subject };
     verifier.verify(regs, stack)
 }
 
@@ -80,30 +80,9 @@ fn fault_of(flaw: Flaw) -> CardFault
     }
 }
 
-impl<'w> Verifier<'w> {
-    /// The verifier of a method of a number.
-    pub(crate) fn of(world: &'w World<'w>, number: u16) -> Verifier<'w>
-        requires { IsSomeAnd (slice_get world.now.methods number) (λ m. 0 < m.code_len) }
-        ensures world { world_of result ≡ world.now }
-        ensures rec { slice_get world.now.methods number ≡ Some result.rec.now }
-        ensures is { method_in world.now number ≡ Some (method result) }
-        ensures known { IsMethodOf (world_of result) (method result) }
-    {
-        let rec = world.method(number);
-        let code = View::of(world.code(number));
-        Verifier {
-            world,
-            number,
-            rec,
-            code,
-        }
-    }
-}
-
 impl Verifier<'_> {
     /// Verifies the method: first its form, then pass after pass its types.
     fn verify(&self, regs: &mut [Ty], stack: &mut [Ty]) -> Result<(), CardFault>
-        requires method { IsMethodOf (world_of self.now) (method self.now) }
         requires slices { HasSlices self.now regs.old stack.old }
         ensures typing { OnOk result (IsLeastCardTyping (world_of self.now) (method self.now) regs.new) }
         ensures flow { OnOk result (HasFlowTyping (world_of self.now) (method self.now) Bottom) }
@@ -115,7 +94,7 @@ impl Verifier<'_> {
         ensures flawed { IfErr result (λ fault. IsFlawKind fault.kind ↔ ¬ (IsWellFormed (method self.now))) }
         ensures as_before { IfErr result (λ fault. IsFlawKind fault.kind → (regs.new ≡ regs.old) × (stack.new ≡ stack.old)) }
     {
-        card_laws(self.world);
+        card_laws(self.subject.world);
         match self.check_form() {
             Ok(()) => self.verify_types(regs, stack),
             Err(fault) => Err(fault),
@@ -124,7 +103,6 @@ impl Verifier<'_> {
 
     /// Verifies the types of a well-formed method, over its own targets.
     fn verify_types(&self, regs: &mut [Ty], stack: &mut [Ty]) -> Result<(), CardFault>
-        requires method { IsMethodOf (world_of self.now) (method self.now) }
         requires formed { IsWellFormed (method self.now) }
         requires slices { HasSlices self.now regs.old stack.old }
         ensures typing { OnOk result (IsLeastCardTyping (world_of self.now) (method self.now) regs.new) }
@@ -146,7 +124,6 @@ impl Verifier<'_> {
         requires name { blank.name ≡ L.name }
         requires parts { blank.parts ≡ L.parts }
         requires one { blank.parts ≡ 1 }
-        requires method { IsMethodOf (world_of self.now) (method self.now) }
         requires formed { IsWellFormed (method self.now) }
         requires slices { HasSlices self.now regs.old stack.old }
         ensures typing { OnOk result (IsLeastCardTyping (world_of self.now) (method self.now) regs.new) }
@@ -168,7 +145,6 @@ impl Verifier<'_> {
         stack: &mut [Ty],
         steps: &mut Steps<L>,
     ) -> Result<(), CardFault>
-        requires method { IsMethodOf (world_of self.now) (method self.now) }
         requires formed { IsWellFormed (method self.now) }
         requires targets { (q : ℕ) → IsTarget (method self.now) q → M.marks marks.now q }
         requires places { (q : ℕ) → M.marks marks.now q → IsPlace (method self.now).code q }
@@ -188,29 +164,21 @@ impl Verifier<'_> {
             + most_passes (world_of self.now) (method self.now)
             * (instruction_count (method self.now) * (most + 1)) }
     {
-        card_laws(self.world);
-        rule_laws(self.world);
-        rule_raises(self.world);
+        card_laws(self.subject.world);
+        rule_laws(self.subject.world);
+        rule_raises(self.subject.world);
         instructions_are_placed();
         instructions_are_listed();
-        start(self.rec, regs);
+        start(self.subject.rec, regs);
         self.settle(marks, regs, stack, steps)
     }
 
     /// Whether the method is well formed, and else its first flaw.
     pub fn check_form(&self) -> Result<(), CardFault>
-        requires { IsMethodOf (world_of self.now) (method self.now) }
         ensures formed { OnOk result (IsWellFormed (method self.now)) }
         ensures flawed { IfErr result (λ fault. TellsFlaw (method self.now) fault) }
     {
-        rule_laws(self.world);
-        instructions_are_listed();
-        let subject = Subject {
-            number: self.number,
-            rec: self.rec,
-            code: self.code,
-        };
-        match find_flaw(subject, Places::Sought) {
+        match find_flaw(self.subject, Places::Sought) {
             Ok(()) => Ok(()),
             Err(flaw) => Err(fault_of(flaw)),
         }

@@ -6,7 +6,8 @@ use Rattle.card_verify.proofs.indexed.Indexed.refuse_target.Goals as goal
 pub not_indexed-requires : goal.not_indexed-requires
 not_indexed-requires c =
     let x = c.args.self.now in
-    lacking-number (world_in x) (subject x) (listed x) c.args.lacks c.instructions_are_listed.ensures x.verifier.short c.in-Ok.ensures.formed c.requires.lacks
+    lacking-number (world_in x) (subject x) (listed x) c.args.lacks c.instructions_are_listed.ensures x.verifier.subject.short c.in-Ok.ensures.formed
+    c.requires.lacks
 
 pub returns-in-Ok-clause-refused : goal.returns-in-Ok-clause-refused
 returns-in-Ok-clause-refused c =

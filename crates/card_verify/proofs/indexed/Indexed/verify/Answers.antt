@@ -8,7 +8,7 @@ pub returns-in-Ok-clause-none : goal.returns-in-Ok-clause-none
 returns-in-Ok-clause-none g c =
     let x = c.args.self.now in
     none-over (world_in x) (subject x) (listed x) c.verify_types.new.regs c.verify_types.new.stack c.verify_types.result c.index_laws.ensures.denies
-    c.requires.method c.verify_types.ensures.refused
+    x.verifier.subject.there c.verify_types.ensures.refused
 
 pub returns-in-Ok-clause-cost : goal.returns-in-Ok-clause-cost
 returns-in-Ok-clause-cost g c = λ b lt.
@@ -19,7 +19,7 @@ pub returns-in-Err-clause-none : goal.returns-in-Err-clause-none
 returns-in-Err-clause-none g c =
     let x = c.args.self.now in
     let kept = frame_of c.args.regs.now c.args.stack.now c.in-Err.fault.depth in
-    c.index_laws.ensures.denies (subject x) (listed x) c.in-Err.fault kept c.requires.method (c.in-Err.ensures.refused kept)
+    c.index_laws.ensures.denies (subject x) (listed x) c.in-Err.fault kept x.verifier.subject.there (c.in-Err.ensures.refused kept)
 
 pub returns-in-Err-clause-refused : goal.returns-in-Err-clause-refused
 returns-in-Err-clause-refused g c = c.in-Err.ensures.refused (frame_of c.args.regs.now c.args.stack.now c.in-Err.fault.depth)

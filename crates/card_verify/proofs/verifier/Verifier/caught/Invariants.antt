@@ -2,4 +2,4 @@ use Rattle.card_verify.proofs.Catching.{CaughtBelow}
 use Rattle.card_verify.proofs.verifier.Verifier.caught.Given as goal
 
 abbrev pub invariant-handlers : goal.invariant-handlers
-invariant-handlers l = CaughtBelow l.classes l.self.rec.now.handlers l.handler-index l.place l.class
+invariant-handlers l = CaughtBelow l.classes l.self.subject.rec.now.handlers l.handler-index l.place l.class

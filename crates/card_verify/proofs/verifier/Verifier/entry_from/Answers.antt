@@ -5,7 +5,7 @@ use Rattle.card_verify.proofs.verifier.Verifier.entry_from.Goals as goal
 
 pub handlers-preserved : goal.handlers-preserved
 handlers-preserved c =
-    entry-next c.args.self.now.rec.now.handlers c.as_slice-handler-items.result.now c.args.from c.handlers.handler-index _ c.handlers.best
+    entry-next c.args.self.now.subject.rec.now.handlers c.as_slice-handler-items.result.now c.args.from c.handlers.handler-index _ c.handlers.best
     c.nearer-best.result c.from.result
     c.as_slice-handler-items.ensures c.handlers-test.true c.from.ensures c.nearer-best.ensures c.handlers.invariant
 

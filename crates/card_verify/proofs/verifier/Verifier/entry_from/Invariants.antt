@@ -3,4 +3,4 @@ use Rattle.card_verify.proofs.Nearest.{EntryBelow}
 use Rattle.card_verify.proofs.verifier.Verifier.entry_from.Given as goal
 
 abbrev pub invariant-handlers : goal.invariant-handlers
-invariant-handlers l = IsLeastFrom (EntryBelow l.self.rec.now.handlers l.handler-index) l.from l.best
+invariant-handlers l = IsLeastFrom (EntryBelow l.self.subject.rec.now.handlers l.handler-index) l.from l.best

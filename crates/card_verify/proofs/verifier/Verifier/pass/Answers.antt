@@ -76,7 +76,7 @@ returns-in-Err-clause-forward g c = omega (arith, c.walk.invariant.counted, c.vi
 
 pub returns-in-Err-clause-cost : goal.returns-in-Err-clause-cost
 returns-in-Err-clause-cost g c = λ most takes.
-    let code = listing c.args.self.now.code.bytes.now in
+    let code = listing c.args.self.now.subject.code.bytes.now in
     let whole = at-next c.walk.yielded (rest_of c.walk.placed-iterator) c.in-Some.placed (rest_of c.next.new.self) code c.walk.invariant.whole
     c.in-Some.ensures.steps in
     omega (
@@ -101,7 +101,7 @@ walk-preserved g c =
     let arrival : Arrival = record { may_fall = c.falls.result; depth = o.depth } in
     record {
       whole =
-          next-whole c.walk.yielded (rest_of c.walk.placed-iterator) i (rest_of c.next.new.self) (listing v.code.bytes.now) c.walk.invariant.whole
+          next-whole c.walk.yielded (rest_of c.walk.placed-iterator) i (rest_of c.next.new.self) (listing v.subject.code.bytes.now) c.walk.invariant.whole
           c.in-Some.ensures.steps;
       coming = λ visits begun.
           let here = subst (λ n. IsComing v marked (visits + length c.walk.yielded) n c.walk.arrival c.walk.regs c.walk.stack) (sym place)
@@ -128,26 +128,26 @@ pub returns-clause-done : goal.returns-clause-done
 returns-clause-done g c =
     pass-done c.args.self.now (g.M.Marks.marks c.args.marks.now) c.requires.verifier c.args.regs.now c.walk.rose c.walk.yielded c.walk.arrival.may_fall
     c.walk.regs (cells c.walk.stack c.walk.arrival.depth)
-    (at-last c.walk.yielded (rest_of c.walk.placed-iterator) (listing c.args.self.now.code.bytes.now) c.walk.invariant.whole c.in-None.ensures.steps.0)
+    (at-last c.walk.yielded (rest_of c.walk.placed-iterator) (listing c.args.self.now.subject.code.bytes.now) c.walk.invariant.whole c.in-None.ensures.steps.0)
     c.walk.invariant.progress
 
 pub returns-clause-again : goal.returns-clause-again
 returns-clause-again g c =
     passed-over c.args.self.now (g.M.Marks.marks c.args.marks.now) c.requires.verifier c.args.regs.now c.args.stack.now c.walk.yielded c.walk.arrival
     c.walk.regs c.walk.stack
-    (at-last c.walk.yielded (rest_of c.walk.placed-iterator) (listing c.args.self.now.code.bytes.now) c.walk.invariant.whole c.in-None.ensures.steps.0)
+    (at-last c.walk.yielded (rest_of c.walk.placed-iterator) (listing c.args.self.now.subject.code.bytes.now) c.walk.invariant.whole c.in-None.ensures.steps.0)
     c.walk.invariant.coming
 
 pub returns-clause-begins : goal.returns-clause-begins
 returns-clause-begins g c =
     passed-begins c.args.self.now (g.M.Marks.marks c.args.marks.now) c.requires.verifier c.args.regs.now c.args.stack.now c.walk.yielded c.walk.arrival
     c.walk.regs c.walk.stack
-    (at-last c.walk.yielded (rest_of c.walk.placed-iterator) (listing c.args.self.now.code.bytes.now) c.walk.invariant.whole c.in-None.ensures.steps.0)
+    (at-last c.walk.yielded (rest_of c.walk.placed-iterator) (listing c.args.self.now.subject.code.bytes.now) c.walk.invariant.whole c.in-None.ensures.steps.0)
     c.requires.begun c.walk.invariant.coming
 
 pub returns-clause-counted : goal.returns-clause-counted
 returns-clause-counted g c =
-    let whole = at-last c.walk.yielded (rest_of c.walk.placed-iterator) (listing c.args.self.now.code.bytes.now) c.walk.invariant.whole
+    let whole = at-last c.walk.yielded (rest_of c.walk.placed-iterator) (listing c.args.self.now.subject.code.bytes.now) c.walk.invariant.whole
     c.in-None.ensures.steps.0 in
     subst (λ xs. c.args.steps.now + length xs ≤ c.walk.steps) whole c.walk.invariant.counted
 
@@ -156,6 +156,6 @@ returns-clause-forward g c = omega (arith, c.walk.invariant.counted)
 
 pub returns-clause-cost : goal.returns-clause-cost
 returns-clause-cost g c = λ most takes.
-    let whole = at-last c.walk.yielded (rest_of c.walk.placed-iterator) (listing c.args.self.now.code.bytes.now) c.walk.invariant.whole
+    let whole = at-last c.walk.yielded (rest_of c.walk.placed-iterator) (listing c.args.self.now.subject.code.bytes.now) c.walk.invariant.whole
     c.in-None.ensures.steps.0 in
     subst (λ xs. c.walk.steps ≤ c.args.steps.now + length xs * (most + 1)) whole (c.walk.invariant.cost most takes)

@@ -9,7 +9,7 @@ use Rattle.card_verify.proofs.verifier.Verifier.pass.Given as goal
 
 abbrev pub invariant-walk : goal.invariant-walk
 invariant-walk g l = record {
-  whole : l.yielded ++ rest_of l.placed-iterator ≡ listing l.self.code.bytes.now;
+  whole : l.yielded ++ rest_of l.placed-iterator ≡ listing l.self.subject.code.bytes.now;
   coming :
       (visits : ℕ)
       → CanBeginPass l.self (g.M.Marks.marks l.marks) visits l.initial.regs l.initial.stack

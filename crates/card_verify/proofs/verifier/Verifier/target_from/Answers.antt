@@ -10,7 +10,7 @@ use Rattle.card_verify.proofs.verifier.Verifier.target_from.Goals as goal
 
 pub walk-preserved : goal.walk-preserved
 walk-preserved c =
-    let code = c.args.self.now.code.bytes.now in
+    let code = c.args.self.now.subject.code.bytes.now in
     record {
       whole =
           next-whole c.walk.yielded (rest_of c.walk.placed-iterator) c.in-Some.placed (rest_of c.next.new.self) (listing code) c.walk.invariant.whole
@@ -22,5 +22,5 @@ walk-preserved c =
 pub returns : goal.returns
 returns c =
     led-all (method c.args.self.now) c.args.from c.walk.yielded c.walk.best
-    (at-last c.walk.yielded (rest_of c.walk.placed-iterator) (listing c.args.self.now.code.bytes.now) c.walk.invariant.whole c.in-None.ensures.steps.0)
+    (at-last c.walk.yielded (rest_of c.walk.placed-iterator) (listing c.args.self.now.subject.code.bytes.now) c.walk.invariant.whole c.in-None.ensures.steps.0)
     c.walk.invariant.least

@@ -7,6 +7,6 @@ use Rattle.card_verify.proofs.verifier.Verifier.target_from.Given as goal
 
 abbrev pub invariant-walk : goal.invariant-walk
 invariant-walk l = record {
-  whole : l.yielded ++ rest_of l.placed-iterator ≡ listing l.self.code.bytes.now;
-  least : IsLeastFrom (IsTargetIn l.self.code.bytes.now l.yielded) l.from l.best;
+  whole : l.yielded ++ rest_of l.placed-iterator ≡ listing l.self.subject.code.bytes.now;
+  least : IsLeastFrom (IsTargetIn l.self.subject.code.bytes.now l.yielded) l.from l.best;
 }

@@ -20,11 +20,11 @@ settle-requires-clause-verifier g c =
     let m = method c.args.self.now in
     let marked = g.M.Marks.marks c.args.marks.now in
     record {
-      known = c.requires.method;
+      known = c.args.self.now.subject.there;
       formed = c.requires.formed;
       world = c.rule_laws.ensures.world;
-      sound = met-is-sound w c.rule_laws.ensures c.rule_raises.ensures.raises m marked c.requires.method;
-      one = met-is-one w c.rule_laws.ensures m marked c.requires.method;
+      sound = met-is-sound w c.rule_laws.ensures c.rule_raises.ensures.raises m marked c.args.self.now.subject.there;
+      one = met-is-one w c.rule_laws.ensures m marked c.args.self.now.subject.there;
       order = c.instructions_are_listed.ensures;
       records = c.card_laws.ensures.records;
     }
@@ -40,8 +40,8 @@ returns-clause-typing g c =
     let marked = g.M.Marks.marks c.args.marks.now in
     on-ok (IsFinished v marked c.settle.new.regs) (IsLeastOver (world_of v) (method v) marked c.settle.new.regs) c.settle.result
     (least-of v marked c.rule_laws.ensures c.rule_raises.ensures.raises c.rule_raises.ensures.rests c.instructions_are_placed.ensures
-    c.instructions_are_listed.ensures c.requires.method c.requires.formed c.requires.targets c.requires.places
-    (c.card_laws.ensures.met (method v) c.requires.method) c.settle.new.regs)
+    c.instructions_are_listed.ensures c.args.self.now.subject.there c.requires.formed c.requires.targets c.requires.places
+    (c.card_laws.ensures.met (method v) c.args.self.now.subject.there) c.settle.new.regs)
     c.settle.ensures.finished
 
 pub returns-clause-cost : goal.returns-clause-cost
