@@ -83,10 +83,11 @@ fn with_arguments(
     requires { method_entered world.now run.now.entry ≡ Some number }
     ensures { RunsOrRefuses world.now (run_request run.now) result }
 {
-    match lent(alloc, &run.args) {
-        Ok(args) => started(alloc, world, run, number, &args),
-        Err(_) => Err(StartEnd::Memory),
-    }
+    let Ok(args) = lent(alloc, &run.args) else {
+        return Err(StartEnd::Memory);
+    };
+    let mut state = start(alloc, world, number, &args)?;
+    told(alloc, world, run, number, &mut state)
 }
 
 /// The arguments as a machine takes them.
@@ -98,24 +99,6 @@ pub(crate) fn lent(alloc: Global, args: &Vec<OwnedArg>) -> Result<Args<'_>, Allo
         lent.push(arg.lend())?;
     }
     Ok(lent)
-}
-
-// Begins the run, and goes on with it.
-fn started(
-    alloc: Global,
-    world: &World<'_>,
-    run: &Run<'_>,
-    number: u16,
-    args: &Args<'_>,
-) -> Result<String, StartEnd>
-    requires entered { method_entered world.now run.now.entry ≡ Some number }
-    requires handed { args.now ≡ map argument_read run.now.args.items }
-    ensures { RunsOrRefuses world.now (run_request run.now) result }
-{
-    match start(alloc, world, number, args) {
-        Ok(mut state) => told(alloc, world, run, number, &mut state),
-        Err(end) => Err(end),
-    }
 }
 
 // Takes the steps of a run that has begun, and tells what comes of it.
