@@ -12,7 +12,8 @@ use Rattle.card_verify.proofs.verifier.Verifier.verify_over.Goals as goal
 
 pub start-requires : goal.start-requires
 start-requires g c =
-    c.requires.slices.registers ∙ sym (start-length c.args.self.now.world.now c.rule_laws.ensures.world (method c.args.self.now) c.requires.method)
+    c.requires.slices.registers ∙ sym
+    (start-length c.args.self.now.subject.world.now c.rule_laws.ensures.world (method c.args.self.now) c.args.self.now.subject.there)
 
 pub settle-requires-clause-verifier : goal.settle-requires-clause-verifier
 settle-requires-clause-verifier g c =
