@@ -8,11 +8,9 @@ use crate::arguments::argument_set;
 use crate::found::Homes;
 use crate::home::Home;
 use crate::walk::HomeWalk;
-use cap_bytes::View;
 use indexmap::IndexSet;
 use jc_base::{World, types_are_ordered};
-use jc_control::{ControlEnd, control_flow, flaws_decide, instructions_are_placed};
-use jc_decode::instructions_are_listed;
+use jc_control::{ControlEnd, Subject, flaws_decide, instructions_are_placed};
 use jc_rules::Typing;
 use std::alloc::{AllocError, Global};
 
@@ -49,25 +47,24 @@ pub fn homes(
     ensures end { IsSomeAnd (method_in world.now method)
         (λ m. IfErr result (TellsHomes world.now m (state_at typing.now))) }
 {
-    types_are_ordered(world.classes());
-    instructions_are_listed();
+    let subject = Subject::of(world, method);
+    types_are_ordered(subject.world.classes());
     instructions_are_placed();
     flaws_decide();
-    let control = match control_flow(alloc, world, method) {
+    let control = match subject.control_flow(alloc) {
         Ok(control) => control,
         Err(ControlEnd::Memory) => return Err(HomeEnd::Memory),
         Err(ControlEnd::Flawed(_)) => unreachable!(),
     };
-    let rec = world.method(method);
     let walk = HomeWalk {
-        world,
-        number: method,
-        rec,
-        code: View::of(world.code(method)),
+        world: subject.world,
+        number: subject.number,
+        rec: subject.rec,
+        code: subject.code,
         typing,
         control: &control,
     };
-    let mut homes = argument_set(alloc, rec)?;
+    let mut homes = argument_set(alloc, subject.rec)?;
     walk.find(&mut homes)?;
     counted(alloc, homes)
 }
