@@ -1,5 +1,6 @@
 -- The ends of classes at and below one, found on one walk over an order.
-use Rattle.std.proofs.Common.{◌≡◌, ℕ, ◌+◌, ◌<◌, ◌≤◌, ◌⊎◌, inl, inr, ⊎_elim, set, List, [], ◌∷◌, ◌++◌, length, replicate, refl, sym, ap, ◌∙◌, subst, arith}
+use Rattle.std.proofs.Common.{◌≡◌, ℕ, ◌+◌, ◌<◌, ◌≤◌, ◌⊎◌, inl, inr, ⊎_elim, set, List}
+use Rattle.std.proofs.Common.{[], ◌∷◌, ◌++◌, length, replicate, refl, sym, ap, ◌∙◌, subst, arith}
 use Rattle.std.specs.Prelude.{Option, Some, None, Contains, slice_get}
 use Rattle.std.proofs.lemmas.Bool.{cases_lt, cases_eq}
 use Rattle.std.proofs.lemmas.Option.{same_Some, slice_get_within}
@@ -120,14 +121,7 @@ module _ (t : ClassTable) (order : List ℕ) where
         ⊎_elim
         (λ k. ⊎_elim (λ was. wider u p (walk.apart u p (inl was) less)) (λ e. wider u p (walk.apart u p (inr (sym e)) less)) (Contains-push_cases begun at u k))
         (λ e. after u p e less) among;
-    under = λ q d l here. elim (cases_lt q at) [
-      | inl lower ↦ walk.under q d lower here
-      | inr past ↦
-          let same : at ≡ q = omega (arith, l, past) in
-          let one : c ≡ d = same_Some c d (sym (subst (λ (x : ℕ). slice_get order x ≡ Some c) same class) ∙ here) in
-          subst (λ (x : ℕ). IsUnderParent order ends q (parent_of t x)) one
-          (subst (λ (x : ℕ). IsUnderParent order ends x (parent_of t c)) same is)
-    ];
+    under = grind (arith, cases_lt, same_Some);
   }
     where
       wider : (u p : ℕ) → Contains begun p ⊎ (end_of ends p ≤ u) → Contains (begun ++ at ∷ []) p ⊎ (end_of ends p ≤ u)
@@ -196,8 +190,4 @@ module _ (t : ClassTable) (order : List ℕ) where
       ]
 
   pub walk-ends : (at : ℕ) (begun ends : List ℕ) → length order ≤ at → IsWalk t order at begun ends → AreEnds t order ends
-  walk-ends at begun ends past walk = record {
-    count = walk.count;
-    own = walk.own;
-    under = λ q c here. let l = slice_get_within order q c here in walk.under q c (omega (arith, l, past)) here;
-  }
+  walk-ends at begun ends past walk = grind (arith, slice_get_within)

@@ -1,5 +1,6 @@
 -- The positions of the classes that name an interface, found in one pass over an order.
-use Rattle.std.proofs.Common.{◌≡◌, ℕ, ◌+◌, ◌<◌, ◌≤◌, ◌⊎◌, inl, inr, ⊎_elim, Bool, true, false, List, [], ◌∷◌, ◌++◌, length, replicate, refl, sym, ap}
+use Rattle.std.proofs.Common.{◌≡◌, ℕ, ◌+◌, ◌<◌, ◌≤◌, ◌⊎◌, inl, inr, ⊎_elim, Bool, true}
+use Rattle.std.proofs.Common.{false, List, [], ◌∷◌, ◌++◌, length, replicate, refl, sym, ap}
 use Rattle.std.proofs.Common.{◌∙◌, subst, arith}
 use Rattle.std.specs.Prelude.{Some, is_some, Contains, find, slice_get}
 use Rattle.std.specs.List.Sorted.{IsNonDecreasing}
@@ -25,8 +26,7 @@ use Rattle.vm_bound.proofs.Subclassing.{empty-next, added-count, added-here, add
 
 finds : (i : ℕ) (entries : List Iface) (e : Iface) → IsAmong e entries → e.class ≡ i → is_some (find (Is i) entries) ≡ true
 finds i [] e among class = absurd among
-finds i (x ∷ xs) e (inl same) class =
-    ap is_some (find-yes (Is i) x xs (eq-eqb x.class i (ap (λ (y : Iface). y.class) same ∙ class)))
+finds i (x ∷ xs) e (inl same) class = grind (arith, find-yes, eq-eqb)
 finds i (x ∷ xs) e (inr more) class = here (Is i x) refl (finds i xs e more class)
   where
     here : (b : Bool) → Is i x ≡ b → is_some (find (Is i) xs) ≡ true → is_some (find (Is i) (x ∷ xs)) ≡ true

@@ -1,5 +1,6 @@
 -- Direct subclasses, found in one pass.
-use Rattle.std.proofs.Common.{◌≡◌, ℕ, ◌+◌, ◌<◌, inl, inr, ⊎_elim, set, List, [], ◌∷◌, ◌++◌, length, replicate, refl, sym, ap, ◌∙◌, subst, arith}
+use Rattle.std.proofs.Common.{◌≡◌, ℕ, ◌+◌, ◌<◌, inl, inr, ⊎_elim, set, List, []}
+use Rattle.std.proofs.Common.{◌∷◌, ◌++◌, length, replicate, refl, sym, ap, ◌∙◌, subst, arith}
 use Rattle.std.specs.Prelude.{Option, Some, None, Contains, slice_get}
 use Rattle.std.proofs.lemmas.Bool.{cases_lt, cases_eq}
 use Rattle.std.proofs.lemmas.Option.{same_Some, none-some, slice_get_within, get_or_from_slice_get}
@@ -26,14 +27,10 @@ module _ (c d : ℕ) (old new : List (List ℕ)) (is : IsAdded old c d new) wher
   added-count = ap length is.set_is ∙ length-set old c (is.before ++ d ∷ [])
 
   pub added-here : next new c ≡ next old c ++ d ∷ []
-  added-here =
-      ap (λ (rows : List (List ℕ)). next rows c) is.set_is
-      ∙ (get_or-set_same old c (is.before ++ d ∷ []) [] added-inside
-      ∙ ap (λ (row : List ℕ). row ++ d ∷ []) (sym (get_or_from_slice_get old c is.before [] is.found)))
+  added-here = grind (arith, get_or-set_same, added-inside, get_or_from_slice_get)
 
   pub added-there : (k : ℕ) → ¬ (k ≡ c) → next new k ≡ next old k
-  added-there k not =
-      ap (λ (rows : List (List ℕ)). next rows k) is.set_is ∙ get_or-set_other old c k (is.before ++ d ∷ []) [] not
+  added-there k not = grind (arith, get_or-set_other)
 
 -- the rows have the direct subclasses among the classes below a bound
 pub record AreSubclassesBelow (t : ClassTable) (bound : ℕ) (rows : List (List ℕ)) : Type 0 where
@@ -41,26 +38,14 @@ pub record AreSubclassesBelow (t : ClassTable) (bound : ℕ) (rows : List (List 
   pub all : (c d : ℕ) → c < length rows → d < bound → parent_of t d ≡ Some c → Contains (next rows c) d
 
 pub empty-next : (n c : ℕ) → next (replicate n []) c ≡ []
-empty-next n c = elim (cases_lt c n) [
-  | inl inside ↦ get_or-replicate n c [] [] inside
-  | inr past ↦ let e : length (replicate {A = List ℕ} n []) ≡ n = length-replicate n [] in get_or_past (replicate n []) c [] (omega (arith, e, past))
-]
+empty-next n c = grind (arith, cases_lt, get_or-replicate, replicate, length-replicate, get_or_past)
 
 module _ (t : ClassTable) where
   pub subclasses-none : (n : ℕ) → AreSubclassesBelow t 0 (replicate n [])
-  subclasses-none n = record {
-    only = λ c d h. absurd (nothing-in d (subst (λ (row : List ℕ). Contains row d) (empty-next n c) h));
-    all = λ c d k l link. absurd (omega (arith, l));
-  }
+  subclasses-none n = grind (arith, nothing-in, empty-next)
 
   pub subclasses-not : (d : ℕ) (rows : List (List ℕ)) → parent_of t d ≡ None → AreSubclassesBelow t d rows → AreSubclassesBelow t (d + 1) rows
-  subclasses-not d rows none before = record {
-    only = before.only;
-    all = λ c k l m link. elim (cases_lt k d) [
-      | inl lower ↦ before.all c k l lower link
-      | inr past ↦ let e : k ≡ d = omega arith in absurd (none-some c (sym none ∙ subst (λ (x : ℕ). parent_of t x ≡ Some c) e link))
-    ];
-  }
+  subclasses-not d rows none before = grind (arith, cases_lt, none-some)
 
   pub subclasses-is : (d p : ℕ) (old new : List (List ℕ)) → parent_of t d ≡ Some p → IsAdded old p d new → AreSubclassesBelow t d old
       → AreSubclassesBelow t (d + 1) new
