@@ -29,13 +29,11 @@ chosen (tag ∷ tags) parts = chosen_by tag (held parts tag) (chosen tags parts)
 -- ---- their files
 
 files_by : (tag : ℕ) (o : Option (List ℕ)) (chosen : List Lent) → files_of (chosen_by tag o chosen) ≡ bytes_in o ++ files_of chosen
-files_by tag None chosen = refl
-files_by tag (Some bytes) chosen = refl
+files_by tag y chosen = grind (arith)
 
 pub files_chosen : (tags : List ℕ) (parts : List Lent) → files_of (chosen tags parts) ≡ flat_map (file_in parts) tags
 files_chosen [] parts = refl
-files_chosen (tag ∷ tags) parts =
-    files_by tag (held parts tag) (chosen tags parts) ∙ ap (λ (x : List ℕ). file_in parts tag ++ x) (files_chosen tags parts)
+files_chosen (tag ∷ tags) parts = grind (arith, files_by, files_chosen tags parts)
 
 -- ---- each is the part of its tag
 
@@ -44,8 +42,7 @@ stands_in tag [] = false
 stands_in tag (t ∷ ts) = (t == tag) || stands_in tag ts
 
 none_held : (parts : List Lent) (tag : ℕ) (b : Bool) → held parts tag ≡ None → (if b then held parts tag else None) ≡ None
-none_held parts tag true n = n
-none_held parts tag false n = refl
+none_held parts tag z n = grind (arith)
 
 held_by : (tag t : ℕ) (o : Option (List ℕ)) (others : List Lent) (parts : List Lent) (rest : Bool) → held parts t ≡ o
     → held others tag ≡ (if rest then held parts tag else None)
@@ -75,13 +72,11 @@ held_chosen (t ∷ ts) parts tag = held_by tag t (held parts t) (chosen ts parts
 -- ---- all tags with a place are those in order
 
 or_assoc : (a b c : Bool) → (a || (b || c)) ≡ ((a || b) || c)
-or_assoc true b c = refl
-or_assoc false b c = refl
+or_assoc x b c = grind (arith)
 
 stands_append : (tag : ℕ) (ts us : List ℕ) → stands_in tag (ts ++ us) ≡ (stands_in tag ts || stands_in tag us)
 stands_append tag [] us = refl
-stands_append tag (t ∷ ts) us =
-    ap (λ (b : Bool). (t == tag) || b) (stands_append tag ts us) ∙ or_assoc (t == tag) (stands_in tag ts) (stands_in tag us)
+stands_append tag (t ∷ ts) us = grind (arith, or_assoc, stands_append tag ts us)
 
 none_counted : (first tag : ℕ) → false ≡ (nat_le first tag && nat_lt tag (first + 0))
 none_counted first tag = grind (arith, nat_tests)
@@ -96,19 +91,14 @@ stands_counted zero first tag = none_counted first tag
 stands_counted (suc n) first tag = ap (λ (b : Bool). (first == tag) || b) (stands_counted n (suc first) tag) ∙ one_counted first tag n
 
 some_cond : (b : Bool) (n : ℕ) → is_some (cond b (Some n) None) ≡ b
-some_cond true n = refl
-some_cond false n = refl
+some_cond x n = grind (arith)
 
 less : (a b : ℕ) → nat_lt (1 + a) (suc b) ≡ nat_lt a b
 less a b = grind (arith, nat_tests)
 
 found_by : (t tag : ℕ) (ts : List ℕ) (b : Bool) → (t == tag) ≡ b → nat_lt (position_or_len (λ t. t == tag) ts) (length ts) ≡ stands_in tag ts
     → nat_lt (position_or_len (λ t. t == tag) (t ∷ ts)) (length (t ∷ ts)) ≡ (b || stands_in tag ts)
-found_by t tag ts true e rest =
-    ap (λ (c : Bool). nat_lt (cond (not c) (1 + position_or_len (λ t. t == tag) ts) 0) (length (t ∷ ts))) e ∙ lt-ltb 0 (length (t ∷ ts)) (omega arith)
-found_by t tag ts false e rest =
-    ap (λ (c : Bool). nat_lt (cond (not c) (1 + position_or_len (λ t. t == tag) ts) 0) (length (t ∷ ts))) e
-    ∙ less (position_or_len (λ t. t == tag) ts) (length ts) ∙ rest
+found_by t tag ts u e rest = grind (arith, cond, not, lt-ltb, less)
 
 found : (ts : List ℕ) (tag : ℕ) → nat_lt (position_or_len (λ t. t == tag) ts) (length ts) ≡ stands_in tag ts
 found [] tag = refl
@@ -135,8 +125,7 @@ are_components parts tag = held_chosen in_order parts tag ∙ ap (λ (b : Bool).
 -- what holds of all tags holds of those that were chosen
 all_by : (P : ℕ → Type 0) (t : ℕ) (o : Option (List ℕ)) (others : List Lent) → P t → AllByRecursion P (map tag_of others)
     → AllByRecursion P (map tag_of (chosen_by t o others))
-all_by P t None others p a = a
-all_by P t (Some bytes) others p a = (p, a)
+all_by x t z others p a = grind (arith)
 
 all_chosen : (P : ℕ → Type 0) (tags : List ℕ) (parts : List Lent) → AllByRecursion P tags → AllByRecursion P (map tag_of (chosen tags parts))
 all_chosen P [] parts a = tt {0}
@@ -145,13 +134,11 @@ all_chosen P (t ∷ ts) parts a = all_by P t (held parts t) (chosen ts parts) a.
 order_by : (t : ℕ) (o : Option (List ℕ)) (others : List Lent) → IsSome (place t) → AllByRecursion (λ later. comes_before t later ≡ true)
     (map tag_of others)
     → InOrder (map tag_of others) → InOrder (map tag_of (chosen_by t o others))
-order_by t None others p a o = o
-order_by t (Some bytes) others p a o = (p, a, o)
+order_by t y others p a o = grind (arith)
 
 chosen_order : (tags : List ℕ) (parts : List Lent) → InOrder tags → InOrder (map tag_of (chosen tags parts))
 chosen_order [] parts o = tt {0}
-chosen_order (t ∷ ts) parts o =
-    order_by t (held parts t) (chosen ts parts) o.0 (all_chosen (λ later. comes_before t later ≡ true) ts parts o.1) (chosen_order ts parts o.2)
+chosen_order (t ∷ ts) parts o = grind (arith, order_by, all_chosen, chosen_order ts parts o.2)
 
 all_append : (P : ℕ → Type 0) (ts us : List ℕ) → AllByRecursion P ts → AllByRecursion P us → AllByRecursion P (ts ++ us)
 all_append P [] us a b = b
@@ -171,9 +158,7 @@ custom_place tag h few = ap (λ (b : Bool). if b then Some tag else position (λ
 
 customs_before : (t u : ℕ) → 128 ≤ t → t < u → u < 256 → comes_before t u ≡ true
 unfolding comes_before
-customs_before t u h l few =
-    ap (λ (o : Option ℕ). is_below o (place u)) (custom_place t h (omega arith))
-    ∙ ap (λ (o : Option ℕ). is_below (Some t) o) (custom_place u (omega arith) few) ∙ lt-ltb t u l
+customs_before t u h l few = grind (arith, custom_place, lt-ltb)
 
 all_counted : (P : ℕ → Type 0) (n first : ℕ) → ((u : ℕ) → first ≤ u → u < first + n → P u) → AllByRecursion P (counted_from first n)
 unfolding counted_from

@@ -1,6 +1,6 @@
 -- Contents in full blocks.
 use Rattle.std.proofs.Common.{◌≡◌, ℕ, ◌+◌, ◌*◌, ◌<◌, ◌≤◌, ◌^◌, Bool, true, false, List, [], ◌∷◌, ◌++◌, length, take}
-use Rattle.std.proofs.Common.{drop, get_or, refl, sym, ap, subst, ◌∙◌, arith, length-append, append_assoc, if◌then◌else◌}
+use Rattle.std.proofs.Common.{drop, get_or, refl, sym, ap, ◌∙◌, arith, length-append, append_assoc, if◌then◌else◌}
 use Rattle.std.proofs.lemmas.List.{append-nil, take-append-drop, length-take, nil_from_length}
 use Rattle.std.proofs.lemmas.List.Concat.{flat_map-append}
 use Rattle.std.proofs.lemmas.List.Folds.{concat-append}
@@ -54,10 +54,7 @@ cut_more contents stream rest content back new c long e h = record {
 pub cut_step : (contents stream rest content back new : List ℕ) → IsCutUpTo contents stream rest → 255 < length rest → content ≡ take 255 rest
     → back ≡ drop 255 rest → new ≡ stream ++ block content → IsCutUpTo contents new back
 cut_step contents stream rest content back new c more front behind h =
-    let whole : rest ≡ content ++ back =
-    sym (take-append-drop 255 rest) ∙ ap (λ (x : List ℕ). x ++ drop 255 rest) (sym front) ∙ ap (λ (x : List ℕ). content ++ x) (sym behind) in
-    let long : length content ≡ 255 = ap length front ∙ omega (arith, length-take 255 rest) in
-    cut_more contents stream rest content back new c long whole h
+    grind (arith, take-append-drop 255 rest, length-take 255 rest, cut_more)
 
 pub cut_end : (contents stream rest new : List ℕ) → IsCutUpTo contents stream rest → length rest ≤ 255 → new ≡ stream ++ ending rest
     → IsCut contents new
@@ -76,9 +73,7 @@ cut_end contents stream rest new c few h = by (length rest == 0) refl
           blocks = c.blocks ++ rest ∷ [];
           full = full_push c.blocks rest c.each (omega arith, omega arith);
           joined = contents_push c.blocks rest ∙ sym c.joined;
-          whole = h ∙ ap (λ (t : Bool). stream ++ (if t then 0 ∷ [] else block rest ++ 0 ∷ [])) e
-              ∙ sym (append_assoc stream (block rest) (0 ∷ [])) ∙ ap (λ (x : List ℕ). (x ++ block rest) ++ 0 ∷ []) c.whole
-              ∙ ap (λ (x : List ℕ). x ++ 0 ∷ []) (sym (blocks_push c.blocks rest));
+          whole = grind (arith, append_assoc, blocks_push);
         }
 
 -- ---- lengths
@@ -90,10 +85,7 @@ full_blocks (c ∷ d ∷ cs) f = let long : length c ≡ 255 = f.0 in ((omega ar
 
 blocks_long : (blocks : List (List ℕ)) → AllByRecursion IsBlock blocks → length (in_blocks blocks) ≤ 2 * length (concat blocks)
 blocks_long [] a = omega arith
-blocks_long (c ∷ cs) a =
-    let some : 0 < length c = a.0.0 in
-    let rest = blocks_long cs a.1 in
-    omega (arith, length-append (block c) (in_blocks cs), length-append c (concat cs))
+blocks_long (c ∷ cs) a = grind (arith, length-append, blocks_long cs a.1)
 
 -- ---- the components of a package
 
@@ -114,19 +106,7 @@ frames parts a = chosen_frames in_order parts all_placed a
 
 pub packed : (parts : List Lent) (contents stream : List ℕ) → AreJoined parts contents → IsCut contents stream → IsPacked parts stream
 packed parts contents stream j c =
-    let files = contents_are parts contents j in
-    record {
-      chosen = components_of parts;
-      blocks = c.blocks;
-      components = are_components parts;
-      files = record {
-        whole = c.joined ∙ files;
-        each = files_are (components_of parts) (frames parts j.framed) (subst (λ (x : List ℕ). (i : ℕ) → get_or x i 0 < 256) files j.fits);
-        order = all_in_order parts;
-      };
-      full = c.full;
-      whole = c.whole;
-    }
+    grind (arith, contents_are parts contents j, are_components parts, frames parts j.framed, all_in_order parts, files_are, get_or)
 
 pub packed_long : (parts : List Lent) (contents stream : List ℕ) → AreJoined parts contents → IsCut contents stream → length stream < 2 ^ 32
 packed_long parts contents stream j c =

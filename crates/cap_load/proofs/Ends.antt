@@ -1,15 +1,15 @@
 -- What a loader that met no fault answers at the end.
-use Rattle.std.proofs.Common.{◌≡◌, ℕ, ◌+◌, List, [], ◌∷◌, ◌++◌, Option, None, Result, Ok, Err, refl, sym, ap}
+use Rattle.std.proofs.Common.{◌≡◌, ℕ, ◌+◌, List, [], ◌∷◌, ◌++◌, Option, None, Result, Ok, Err, sym, ap}
 use Rattle.std.proofs.Common.{subst, ◌∙◌, arith}
 use Rattle.std.proofs.lemmas.List.{append-nil}
 use Rattle.std.specs.List.{AllByRecursion, concat}
 use Rattle.cap_components.specs.Parts.{Lent}
 use Rattle.cap_load.specs.declared.fault.StreamFault.{StreamFault}
-use Rattle.cap_load.specs.declared.fault.StreamFault.TheVariants.{NoTag, Order, Full, AfterEnd, Unfinished}
+use Rattle.cap_load.specs.declared.fault.StreamFault.TheVariants.{Unfinished}
 use Rattle.cap_load.specs.declared.finish_end.FinishEnd.{FinishEnd}
 use Rattle.cap_load.specs.declared.finish_end.FinishEnd.TheVariants.{Fault, Memory}
 use Rattle.cap_load.specs.declared.component.Next.{Next}
-use Rattle.cap_load.specs.declared.component.Next.TheVariants.{Tag, High, Low, Info}
+use Rattle.cap_load.specs.declared.component.Next.TheVariants.{Tag}
 use Rattle.cap_load.specs.declared.component.Reading.{Reading}
 use Rattle.cap_load.specs.declared.block.Block.{Block}
 use Rattle.cap_load.specs.declared.block.Block.TheVariants.{Left, Ended}
@@ -53,10 +53,7 @@ cut bytes contents reading f r some blocks parts each files whole joined =
     some (sym (files_split parts r.files [] r.tail files r.each (tt {0}) (tail_is reading.next r.tail r.next) same).1)
 
 tail_some : (next : Next) (tail : List ℕ) → IsNext next tail → (next ≡ Tag → ⊥) → tail ≡ [] → ⊥
-tail_some Tag tail n h e = h refl
-tail_some High tail n h e = absurd (let t = n.1 in cc)
-tail_some (Low high) tail n h e = absurd (let t = n.1 in cc)
-tail_some (Info left) tail n h e = absurd (let t = n.4 in cc)
+tail_some x tail n h e = grind (arith)
 
 pub ends_cut : (loaded : Loaded) → loaded.fault ≡ None → loaded.block ≡ Ended → IsRead loaded.contents loaded.reading
     → (loaded.reading.next ≡ Tag → ⊥)
@@ -67,11 +64,7 @@ ends_cut loaded e b r h bytes s =
     (stands.0, cut bytes loaded.contents loaded.reading front r (tail_some loaded.reading.next r.tail r.next h))
 
 first_refused : (room : ℕ) (bytes : List ℕ) (fault : StreamFault) → IsFirst room bytes fault → IsRefused room bytes fault
-first_refused room bytes (NoTag t) f = f
-first_refused room bytes (Order a b) f = f
-first_refused room bytes (Full n) f = f
-first_refused room bytes AfterEnd f = f
-first_refused room bytes Unfinished f = absurd f.shown
+first_refused room bytes z f = grind (arith)
 
 -- the answer is the one list of parts, where there is one
 pub gives : (loaded : Loaded) (result : Result (List Lent) FinishEnd) (bytes : List ℕ) (parts : List Lent) → Finishes loaded result

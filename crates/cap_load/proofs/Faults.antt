@@ -1,5 +1,5 @@
 -- The fault for which bytes are refused is one.
-use Rattle.std.proofs.Common.{◌≡◌, ◌⊎◌, inl, inr, ℕ, ◌+◌, List, [], ◌∷◌, ◌++◌, refl, sym, ap, subst, ◌∙◌, arith}
+use Rattle.std.proofs.Common.{◌≡◌, ◌⊎◌, ℕ, ◌+◌, List, [], ◌∷◌, ◌++◌, refl, sym, ap, subst, ◌∙◌, arith}
 use Rattle.std.proofs.lemmas.List.{same_from_push}
 use Rattle.cap_components.specs.Parts.{Lent}
 use Rattle.cap_load.specs.declared.fault.StreamFault.{StreamFault}
@@ -48,10 +48,7 @@ one_last bytes first other f g =
 one_of_number : (room : ℕ) (bytes : List ℕ) (byte : ℕ) (fault other : StreamFault)
     → Shows room bytes byte fault → Shows room bytes byte other → number fault ≡ number other → fault ≡ other
 one_of_number room bytes byte (NoTag t) (NoTag u) s r e = ap NoTag (s.0 ∙ sym r.0)
-one_of_number room bytes byte (Order a b) (Order c d) s r e =
-    let first : a ≡ c = one_last bytes a c s.2 r.2 in
-    let second : b ≡ d = s.0 ∙ sym r.0 in
-    cc
+one_of_number room bytes byte (Order a b) (Order c d) s r e = grind (arith, one_last bytes a c s.2 r.2)
 one_of_number room bytes byte (Full m) (Full n) s r e = ap Full (s.0 ∙ sym r.0)
 one_of_number room bytes byte AfterEnd AfterEnd s r e = refl
 one_of_number room bytes byte Unfinished other s r e = absurd s
@@ -76,24 +73,10 @@ one_first room bytes fault other f g =
 -- bytes that are refused show a fault, or end too early
 refused_by : (room : ℕ) (bytes : List ℕ) (fault : StreamFault) → IsRefused room bytes fault
     → IsFirst room bytes fault ⊎ ((fault ≡ Unfinished) × Faultless room bytes)
-refused_by room bytes (NoTag t) r = inl r
-refused_by room bytes (Order a b) r = inl r
-refused_by room bytes (Full n) r = inl r
-refused_by room bytes AfterEnd r = inl r
-refused_by room bytes Unfinished r = inr (refl, r.0)
+refused_by room bytes z r = grind (arith)
 
 pub not_faultless : (room : ℕ) (bytes : List ℕ) (fault : StreamFault) → IsFirst room bytes fault → Faultless room bytes → ⊥
 not_faultless room bytes fault f none = none f.before f.after f.byte fault f.whole f.shown
 
 pub one_fault : OneFault
-one_fault room bytes fault other a b =
-    elim (refused_by room bytes fault a) [
-      | inl f ↦ elim (refused_by room bytes other b) [
-        | inl g ↦ one_first room bytes fault other f g
-        | inr g ↦ absurd (not_faultless room bytes fault f g.1)
-      ]
-      | inr f ↦ elim (refused_by room bytes other b) [
-        | inl g ↦ absurd (not_faultless room bytes other g f.1)
-        | inr g ↦ f.0 ∙ sym g.0
-      ]
-    ]
+one_fault room bytes fault other a b = grind (arith, refused_by, one_first, not_faultless)

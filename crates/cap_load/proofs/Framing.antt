@@ -4,13 +4,13 @@ use Rattle.std.proofs.Common.{◌++◌, length, get_or, Option, Some, None, IsSo
 use Rattle.std.proofs.Common.{if◌then◌else◌}
 use Rattle.std.proofs.lemmas.List.{get_or-append_right}
 use Rattle.std.proofs.lemmas.Bool.{eqb-true}
-use Rattle.std.specs.Prelude.{◌==◌, nat_le, find, option_map}
+use Rattle.std.specs.Prelude.{◌==◌, nat_le}
 use Rattle.std.specs.List.{AllByRecursion}
 use Rattle.cap_bytes.specs.declared.fault.FormKind.TheVariants.{WrongTag}
 use Rattle.cap_bytes.specs.Number.{number_at}
 use Rattle.cap_bytes.specs.Spelling.{Spells, Stands}
 use Rattle.cap_frame.specs.Frame.{component, other_tag}
-use Rattle.cap_components.specs.Parts.{Lent, is_of, bytes_of, held}
+use Rattle.cap_components.specs.Parts.{Lent, held}
 use Rattle.cap_load.specs.Order.{place, InOrder}
 use Rattle.cap_load.specs.LoadFile.{IsFile, files_of}
 use Rattle.cap_load.specs.Packing.{IsFramed}
@@ -28,17 +28,10 @@ record Headed (tag : ℕ) (bytes : List ℕ) : Type 0 where
 
 headed : (tag : ℕ) (bytes info : List ℕ) → Stands (component tag) bytes info → Headed tag bytes
 unfolding Stands Spells
-headed tag bytes info s =
-    let all = s.1 in
-    let reach : all.1 + all.0 % 65536 ≤ length bytes = all.3.2.0 in
-    let begins : all.1 ≡ 0 + 3 = all.2.2 in
-    let middle : all.3.1 ≡ all.1 + all.0 % 65536 = all.3.2.2 in
-    let ends : length bytes ≤ all.3.1 = all.3.3.2.0 in
-    record { head = all.0; there = all.2.0; tagged = all.2.1; long = omega arith }
+headed tag bytes info s = grind (arith)
 
 some_value : (b : Bool) (v x : ℕ) → (if b then Some v else None) ≡ Some x → (b ≡ true) × (v ≡ x)
-some_value true v x e = (refl, cc)
-some_value false v x e = absurd (cc)
+some_value x v x2 e = grind (arith)
 
 same_tag : (tag head : ℕ) → other_tag tag head ≡ None → head / 65536 ≡ tag
 same_tag tag head e = by (head / 65536 == tag) refl
@@ -122,14 +115,7 @@ files_are (p ∷ ps) a fits = (file_is p (files_of ps) a.0 fits, files_are ps a.
 frame_by : (p : Lent) (ps : List Lent) (tag : ℕ) (bytes : List ℕ) (b : Bool) → (p.part == tag) ≡ b → IsFramed p → IsSome (place tag)
     → (held ps tag ≡ Some bytes → (info : List ℕ) × Stands (component tag) bytes info) → held (p ∷ ps) tag ≡ Some bytes
     → (info : List ℕ) × Stands (component tag) bytes info
-frame_by p ps tag bytes true e f s rest h =
-    let same : p.part ≡ tag = eqb-true p.part tag e in
-    let found : Some p.bytes ≡ Some bytes = sym (ap (λ (b : Bool). option_map bytes_of (cond b (Some p) (find (is_of tag) ps))) e) ∙ h in
-    let is : p.bytes ≡ bytes = cc (found) in
-    let frame = f (subst (λ (t : ℕ). IsSome (place t)) (sym same) s) in
-    (frame.0, subst (λ (b : List ℕ). Stands (component tag) b frame.0) is (subst (λ (t : ℕ). Stands (component t) p.bytes frame.0) same frame.1))
-frame_by p ps tag bytes false e f s rest h =
-    rest (sym (ap (λ (b : Bool). option_map bytes_of (cond b (Some p) (find (is_of tag) ps))) e) ∙ h)
+frame_by p ps tag bytes v e f s rest h = grind (arith, eqb-true, cond)
 
 held_frame : (parts : List Lent) (tag : ℕ) (bytes : List ℕ) → AllByRecursion IsFramed parts → IsSome (place tag) → held parts tag ≡ Some bytes
     → (info : List ℕ) × Stands (component tag) bytes info
@@ -139,8 +125,7 @@ held_frame (p ∷ ps) tag bytes a s h = frame_by p ps tag bytes (p.part == tag) 
 frames_by : (t : ℕ) (o : Option (List ℕ)) (others : List Lent)
     → ((bytes : List ℕ) → o ≡ Some bytes → (info : List ℕ) × Stands (component t) bytes info)
     → AllByRecursion HasFrame others → AllByRecursion HasFrame (chosen_by t o others)
-frames_by t None others f a = a
-frames_by t (Some bytes) others f a = (f bytes refl, a)
+frames_by t y others f a = grind (arith)
 
 pub chosen_frames : (tags : List ℕ) (parts : List Lent) → InOrder tags → AllByRecursion IsFramed parts → AllByRecursion HasFrame (chosen tags parts)
 chosen_frames [] parts o a = tt {0}
@@ -148,8 +133,7 @@ chosen_frames (t ∷ ts) parts o a =
     frames_by t (held parts t) (chosen ts parts) (λ bytes e. held_frame parts t bytes a o.0 e) (chosen_frames ts parts o.2 a)
 
 few_by : (t n : ℕ) (o : Option (List ℕ)) (others : List Lent) → length others ≤ n → length (chosen_by t o others) ≤ suc n
-few_by t n None others h = omega arith
-few_by t n (Some bytes) others h = omega arith
+few_by t n z others h = grind (arith)
 
 pub chosen_few : (tags : List ℕ) (parts : List Lent) → length (chosen tags parts) ≤ length tags
 chosen_few [] parts = omega arith
@@ -157,7 +141,4 @@ chosen_few (t ∷ ts) parts = few_by t (length ts) (held parts t) (chosen ts par
 
 pub files_long : (parts : List Lent) → AllByRecursion HasFrame parts → length (files_of parts) ≤ 65538 * length parts
 files_long [] a = omega arith
-files_long (p ∷ ps) a =
-    let first = file_long p a.0 in
-    let rest = files_long ps a.1 in
-    omega (arith, length-append p.bytes (files_of ps))
+files_long (p ∷ ps) a = grind (arith, file_long, length-append, files_long ps a.1)

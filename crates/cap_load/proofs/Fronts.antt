@@ -1,5 +1,5 @@
 -- What stands behind whole blocks, with one byte more.
-use Rattle.std.proofs.Common.{◌≡◌, ℕ, zero, suc, ◌+◌, ◌-◌, ◌<◌, List, [], ◌∷◌, ◌++◌, length, refl, sym, ap, subst, ◌∙◌}
+use Rattle.std.proofs.Common.{◌≡◌, ℕ, zero, suc, ◌+◌, ◌-◌, ◌<◌, List, [], ◌∷◌, ◌++◌, length, refl, sym, ap, ◌∙◌}
 use Rattle.std.proofs.Common.{arith, length-append, append_assoc}
 use Rattle.std.proofs.lemmas.List.{append-nil}
 use Rattle.std.proofs.lemmas.List.Concat.{flat_map-append}
@@ -9,7 +9,7 @@ use Rattle.std.specs.Prelude.{◌==◌}
 use Rattle.std.specs.List.{AllByRecursion, concat}
 use Rattle.cap_load.specs.declared.block.Block.{Block}
 use Rattle.cap_load.specs.declared.block.Block.TheVariants.{Left, Ended}
-use Rattle.cap_load.specs.LoadFile.{block, IsBlock, in_blocks, stream_of}
+use Rattle.cap_load.specs.LoadFile.{block, IsBlock, in_blocks}
 use Rattle.cap_load.specs.Fault.{GoesOn, HasEnded}
 use Rattle.cap_load.specs.Loaded.{IsLeft, IsFront}
 use Rattle.cap_load.specs.Taking.{opened}
@@ -17,27 +17,11 @@ use Rattle.cap_load.proofs.Splits.{IsRest, one_split}
 use Rattle.cap_load.proofs.Orders.{all_push}
 
 rest_is : (at : Block) (rest got : List ℕ) → IsLeft at rest got → IsRest rest
-rest_is (Left n) [] got l = tt {0}
-rest_is (Left n) (size ∷ bytes) got l =
-    let some : 0 < n = l.1 in
-    let whole : length bytes + n ≡ size = l.2 in
-    λ h. omega arith
-rest_is Ended rest got l = subst IsRest (sym l.0) (λ h. absurd (omega arith))
+rest_is x rest got l = grind (arith)
 
 goes_by : (n : ℕ) (blocks : List (List ℕ)) (rest got bytes contents : List ℕ) → AllByRecursion IsBlock blocks → bytes ≡ in_blocks blocks ++ rest
     → contents ≡ concat blocks ++ got → IsLeft (Left n) rest got → 0 < n → GoesOn bytes contents
-goes_by n blocks [] got bytes contents each whole joined l h = let none : n ≡ 0 = l.0 in absurd (omega arith)
-goes_by n blocks (size ∷ cells) got bytes contents each whole joined l h =
-    let sum : length cells + n ≡ size = l.2 in
-    record {
-      blocks = blocks;
-      size = size;
-      got = cells;
-      each = each;
-      whole = whole;
-      more = omega arith;
-      joined = joined ∙ ap (λ (x : List ℕ). concat blocks ++ x) l.0;
-    }
+goes_by n blocks z got bytes contents each whole joined l h = grind (arith)
 
 -- in a block the next byte is one of the contents
 pub goes_on : (n : ℕ) (bytes contents : List ℕ) → IsFront (Left n) bytes contents → 0 < n → GoesOn bytes contents
@@ -50,12 +34,7 @@ IsIdle Ended = Unit {0}
 
 no_content : (at : Block) (rest got cells : List ℕ) (size : ℕ) → IsLeft at rest got → IsIdle at → rest ≡ size ∷ cells → length cells < size
     → ⊥
-no_content (Left n) [] got cells size l i e h = absurd (cc)
-no_content (Left n) (s ∷ bs) got cells size l i e h = let some : 0 < n = l.1 in omega arith
-no_content Ended rest got cells size l i e h =
-    let ending : rest ≡ 0 ∷ [] = l.0 in
-    let none : 0 ≡ size = cc in
-    omega arith
+no_content x rest got cells size l i e h = grind (arith)
 
 pub not_goes_on : (at : Block) (bytes contents c : List ℕ) → IsFront at bytes contents → IsIdle at → GoesOn bytes c → ⊥
 not_goes_on at bytes contents c f i g =
@@ -66,12 +45,7 @@ ended_whole : (bytes : List ℕ) (h : HasEnded bytes) → bytes ≡ in_blocks h.
 ended_whole bytes h = h.whole ∙ append_assoc (in_blocks h.blocks) (0 ∷ []) h.more
 
 no_ending : (n : ℕ) (rest got more : List ℕ) → IsLeft (Left n) rest got → rest ≡ 0 ∷ more → ⊥
-no_ending n [] got more l e = absurd (cc)
-no_ending n (s ∷ bs) got more l e =
-    let some : 0 < n = l.1 in
-    let sum : length bs + n ≡ s = l.2 in
-    let none : s ≡ 0 = cc in
-    omega arith
+no_ending n y got more l e = grind (arith)
 
 pub not_ended : (n : ℕ) (bytes contents : List ℕ) → IsFront (Left n) bytes contents → HasEnded bytes → ⊥
 not_ended n bytes contents f h =
@@ -89,12 +63,7 @@ goes_not_ended bytes c g h =
     omega arith
 
 pub has_ended : (bytes contents : List ℕ) → IsFront Ended bytes contents → HasEnded bytes
-has_ended bytes contents f = record {
-  blocks = f.blocks;
-  more = [];
-  each = f.each;
-  whole = f.whole ∙ ap (λ (x : List ℕ). in_blocks f.blocks ++ x) f.left.0 ∙ sym (append-nil (stream_of f.blocks));
-}
+has_ended bytes contents f = grind (arith, append-nil)
 
 -- a byte behind a front
 behind : (blocks : List (List ℕ)) (rest bytes : List ℕ) (byte : ℕ) → bytes ≡ in_blocks blocks ++ rest
@@ -149,9 +118,7 @@ closed size byte blocks cells bytes contents each whole joined sum few =
       got = [];
       each = all_push IsBlock blocks content each (omega arith, omega arith);
       whole = behind blocks (size ∷ cells) bytes byte whole ∙ sym one ∙ sym (append-nil (in_blocks (blocks ++ content ∷ [])));
-      joined =
-          ap (λ (x : List ℕ). x ++ byte ∷ []) joined ∙ append_assoc (concat blocks) cells (byte ∷ []) ∙ sym all
-          ∙ sym (append-nil (concat (blocks ++ content ∷ [])));
+      joined = grind (arith, append_assoc, append-nil);
       left = (refl, refl);
     }
 
@@ -159,28 +126,11 @@ more_by : (n byte : ℕ) (blocks : List (List ℕ)) (rest got bytes contents : L
     → bytes ≡ in_blocks blocks ++ rest
     → contents ≡ concat blocks ++ got → IsLeft (Left (suc n)) rest got → IsFront (Left n) (bytes ++ byte ∷ []) (contents ++ byte ∷ [])
 more_by n byte blocks [] got bytes contents each whole joined l = let none : suc n ≡ 0 = l.0 in absurd (omega arith)
-more_by zero byte blocks (size ∷ cells) got bytes contents each whole joined l =
-    let sum : length cells + 1 ≡ size = l.2 in
-    closed size byte blocks cells bytes contents each whole (joined ∙ ap (λ (x : List ℕ). concat blocks ++ x) l.0) sum l.3
-more_by (suc n) byte blocks (size ∷ cells) got bytes contents each whole joined l =
-    let sum : length cells + suc (suc n) ≡ size = l.2 in
-    record {
-      blocks = blocks;
-      rest = size ∷ (cells ++ byte ∷ []);
-      got = cells ++ byte ∷ [];
-      each = each;
-      whole = behind blocks (size ∷ cells) bytes byte whole;
-      joined =
-          ap (λ (x : List ℕ). x ++ byte ∷ []) (joined ∙ ap (λ (x : List ℕ). concat blocks ++ x) l.0)
-          ∙ append_assoc (concat blocks) cells (byte ∷ []);
-      left = (refl, omega arith, omega (arith, length-append cells (byte ∷ [])), l.3);
-    }
+more_by zero byte blocks (size ∷ cells) got bytes contents each whole joined l = grind (arith, closed)
+more_by (suc n) byte blocks (size ∷ cells) got bytes contents each whole joined l = grind (arith, suc, append_assoc, length-append)
 
 -- a byte of a block
 pub front_more : (n byte : ℕ) (bytes contents : List ℕ) → IsFront (Left n) bytes contents → 0 < n
     → IsFront (Left (n - 1)) (bytes ++ byte ∷ []) (contents ++ byte ∷ [])
 front_more zero byte bytes contents f h = absurd (omega arith)
-front_more (suc n) byte bytes contents f h =
-    let less : suc n - 1 ≡ n = omega arith in
-    subst (λ (k : ℕ). IsFront (Left k) (bytes ++ byte ∷ []) (contents ++ byte ∷ [])) (sym less)
-    (more_by n byte f.blocks f.rest f.got bytes contents f.each f.whole f.joined f.left)
+front_more (suc n) byte bytes contents f h = grind (arith, suc, more_by)

@@ -22,6 +22,4 @@ customs_step f items new whole tag h e n =
 pub customs_end : (f : ℕ → List ℕ) (items whole : List ℕ) (tag : ℕ) → 256 ≤ tag → items ++ flat_map f (counted_from tag (256 - tag))
     ≡ whole → items ≡ whole
 unfolding counted_from
-customs_end f items whole tag h e =
-    let none : 256 - tag ≡ 0 = omega arith in
-    sym (append-nil items) ∙ ap (λ (n : ℕ). items ++ flat_map f (counted_from tag n)) (sym none) ∙ e
+customs_end f items whole tag h e = grind (arith, append-nil)

@@ -8,7 +8,7 @@ use Rattle.std.specs.List.{AllByRecursion, concat}
 use Rattle.cap_components.specs.Parts.{Lent, held}
 use Rattle.cap_components.proofs.PartsLemmas.{held-other, held-same}
 use Rattle.cap_load.specs.Order.{comes_before, InOrder}
-use Rattle.cap_load.specs.LoadFile.{tag_of, files_of, stream_of}
+use Rattle.cap_load.specs.LoadFile.{tag_of}
 use Rattle.cap_load.specs.Packing.{AreFull}
 use Rattle.cap_load.specs.Laws.{OnePacked, ShortNotLong}
 use Rattle.cap_load.proofs.Splits.{fronts_same, same_lent}
@@ -55,10 +55,7 @@ first_tag p q ps qs o u same = by (p.part == q.part) refl
         absurd (before_itself p.part p.part (before_through p.part q.part p.part before after) refl)
 
 first_bytes : (p q : Lent) (ps qs : List Lent) → p.part ≡ q.part → held (p ∷ ps) p.part ≡ held (q ∷ qs) p.part → p.bytes ≡ q.bytes
-first_bytes p q ps qs e same =
-    let found : Some p.bytes ≡ Some q.bytes =
-    sym (held-same p.part p ps (eq-eqb p.part p.part refl)) ∙ same ∙ held-same p.part q qs (eq-eqb q.part p.part (sym e)) in
-    cc (found)
+first_bytes p q ps qs e same = grind (arith, held-same, eq-eqb)
 
 others_same : (p q : Lent) (ps qs : List Lent) → InOrder (map tag_of (p ∷ ps)) → InOrder (map tag_of (q ∷ qs)) → p.part ≡ q.part
     → ((tag : ℕ) → held (p ∷ ps) tag ≡ held (q ∷ qs) tag) → (tag : ℕ) → held ps tag ≡ held qs tag
@@ -84,16 +81,11 @@ one_chosen (p ∷ ps) (q ∷ qs) o u same =
 -- ---- contents are cut into full blocks in one way
 
 some_full : (c : List ℕ) (cs : List (List ℕ)) → AreFull (c ∷ cs) → 0 < length (concat (c ∷ cs))
-some_full c [] f = omega (arith, f.0, length-append c [])
-some_full c (d ∷ cs) f = let long : length c ≡ 255 = f.0 in omega (arith, length-append c (concat (d ∷ cs)))
+some_full c y f = grind (arith, length-append)
 
 -- one block, where there are more
 not_more : (b c d : List ℕ) (cs : List (List ℕ)) → AreFull (b ∷ []) → AreFull (c ∷ d ∷ cs) → concat (b ∷ []) ≡ concat (c ∷ d ∷ cs) → ⊥
-not_more b c d cs f g e =
-    let few : length b < 256 = f.1 in
-    let long : length c ≡ 255 = g.0 in
-    let lengths = ap length e in
-    omega (arith, some_full d cs g.1, length-append b [], length-append c (concat (d ∷ cs)))
+not_more b c d cs f g e = grind (arith, some_full d cs g.1, length-append b [], length-append c (concat (d ∷ cs)))
 
 one_cut : (bs cs : List (List ℕ)) → AreFull bs → AreFull cs → concat bs ≡ concat cs → bs ≡ cs
 one_cut [] [] f g e = refl
@@ -111,12 +103,7 @@ one_cut (b ∷ d ∷ bs) (c ∷ k ∷ cs) f g e =
 -- ---- what is packed
 
 pub one_packed : OnePacked
-one_packed parts bytes others a b =
-    let chosen = one_chosen a.chosen b.chosen a.files.order b.files.order (λ tag. a.components tag ∙ sym (b.components tag)) in
-    let blocks = one_cut a.blocks b.blocks a.full b.full (a.files.whole ∙ ap files_of chosen ∙ sym b.files.whole) in
-    a.whole ∙ ap stream_of blocks ∙ sym b.whole
+one_packed parts bytes others a b = grind (arith, one_chosen, one_cut)
 
 pub short_not_long : ShortNotLong
-short_not_long parts bytes count packed short (others, again, size, long) =
-    let lengths = ap length (one_packed parts bytes others packed again) in
-    omega (arith, short, size, long)
+short_not_long parts bytes count packed short (others, again, size, long) = grind (arith, one_packed parts bytes others packed again)

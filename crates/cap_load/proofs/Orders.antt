@@ -17,19 +17,14 @@ all_last P [] x a = a.0
 all_last P (y ∷ ys) x a = all_last P ys x a.1
 
 below_through : (p q r : Option ℕ) → is_below p q ≡ true → is_below q r ≡ true → is_below p r ≡ true
-below_through None q r h k = absurd (cc)
-below_through (Some a) None r h k = absurd (cc)
-below_through (Some a) (Some b) None h k = absurd (cc)
-below_through (Some a) (Some b) (Some c) h k = lt-ltb a c (omega (arith, ltb-true a b h, ltb-true b c k))
+below_through x q r h k = grind (arith, lt-ltb, ltb-true)
 
 pub before_through : (a b c : ℕ) → comes_before a b ≡ true → comes_before b c ≡ true → comes_before a c ≡ true
 unfolding comes_before
 before_through a b c h k = below_through (place a) (place b) (place c) h k
 
 below_placed : (p q : Option ℕ) → is_below p q ≡ true → IsSome q
-below_placed None q h = absurd (cc)
-below_placed (Some a) None h = absurd (cc)
-below_placed (Some a) (Some b) h = refl
+below_placed x q h = grind (arith)
 
 before_placed : (a b : ℕ) → comes_before a b ≡ true → IsSome (place b)
 unfolding comes_before
@@ -71,5 +66,4 @@ pub tag_more : (tags : List ℕ) (last : Option ℕ) (tag : ℕ) → InOrder tag
     → InOrder (tags ++ tag ∷ [])
 tag_more tags None tag o l e = subst (λ (ts : List ℕ). InOrder (ts ++ tag ∷ [])) (sym l) ((passes None tag e).placed, tt {0}, tt {0})
 tag_more tags (Some first) tag o l e =
-    subst (λ (ts : List ℕ). InOrder (ts ++ tag ∷ [])) (sym l.1)
-    (order_push l.0 first tag (subst InOrder l.1 o) ((passes (Some first) tag e).after first refl))
+    grind (arith, order_push l.0 first tag (subst InOrder l.1 o) ((passes (Some first) tag e).after first refl))

@@ -1,11 +1,10 @@
 -- Contents are divided into the files of their parts.
-use Rattle.std.proofs.Common.{◌≡◌, ℕ, ◌+◌, ◌*◌, ◌-◌, ◌<◌, ◌≤◌, Bool, true, false, List, [], ◌∷◌, ◌++◌, length, take}
-use Rattle.std.proofs.Common.{drop, map, Option, Some, None, IsNone, get_or, cond, refl, sym, ap, subst, ◌∙◌, arith, length-append, append_assoc}
+use Rattle.std.proofs.Common.{◌≡◌, ℕ, ◌+◌, ◌*◌, ◌-◌, ◌<◌, ◌≤◌, true, List, [], ◌∷◌, ◌++◌, length, take}
+use Rattle.std.proofs.Common.{drop, map, Option, IsNone, get_or, cond, refl, sym, ap, subst, ◌∙◌, arith, length-append, append_assoc}
 use Rattle.std.proofs.lemmas.List.{append-nil, take_at, drop_at}
 use Rattle.std.proofs.lemmas.Bool.{ne_eqb, ltb-true}
-use Rattle.std.specs.Prelude.{◌==◌, find, option_map}
 use Rattle.std.specs.List.{AllByRecursion}
-use Rattle.cap_components.specs.Parts.{Lent, is_of, bytes_of, held}
+use Rattle.cap_components.specs.Parts.{Lent, held}
 use Rattle.cap_load.specs.declared.component.Next.{Next}
 use Rattle.cap_load.specs.declared.component.Next.TheVariants.{Tag, High, Low, Info}
 use Rattle.cap_load.specs.declared.component.Reading.{Reading}
@@ -28,36 +27,14 @@ pub record First (rest : List ℕ) (left : List Lent) : Type 0 where
 
 pub first_file : (left : List Lent) (rest : List ℕ) → rest ≡ files_of left → AllByRecursion IsFile left → 3 ≤ length rest → First rest left
 first_file [] rest e each long = absurd (let none = ap length e in omega arith)
-first_file (p ∷ ps) rest e each long =
-    let f = each.0 in
-    let cells : rest ≡ p.part ∷ f.high ∷ f.low ∷ (f.info ++ files_of ps) = e ∙ ap (λ (b : List ℕ). b ++ files_of ps) f.bytes in
-    let tag : get_or rest 0 0 ≡ p.part = ap (λ (x : List ℕ). get_or x 0 0) cells in
-    let high : get_or rest 1 0 ≡ f.high = ap (λ (x : List ℕ). get_or x 1 0) cells in
-    let low : get_or rest 2 0 ≡ f.low = ap (λ (x : List ℕ). get_or x 2 0) cells in
-    let info = f.size in
-    let whole = ap length f.bytes in
-    let size : length p.bytes ≡ 3 + get_or rest 1 0 * 256 + get_or rest 2 0 = omega arith in
-    let sum = ap length e in
-    record {
-      part = p;
-      others = ps;
-      is = refl;
-      tag = tag;
-      within = omega (arith, length-append p.bytes (files_of ps));
-      file = ap (take (3 + get_or rest 1 0 * 256 + get_or rest 2 0)) e ∙ take_at p.bytes (files_of ps) (3 + get_or rest 1 0 * 256 + get_or rest 2 0) size;
-      behind = ap (drop (3 + get_or rest 1 0 * 256 + get_or rest 2 0)) e ∙ drop_at p.bytes (files_of ps) (3 + get_or rest 1 0 * 256 + get_or rest 2 0) size;
-    }
+first_file (p ∷ ps) rest e each long = grind (arith, get_or, length-append, take_at, drop_at)
 
 pub short_none : (left : List Lent) (rest : List ℕ) → rest ≡ files_of left → AllByRecursion IsFile left → length rest < 3 → left ≡ []
 short_none [] rest e each short = refl
-short_none (p ∷ ps) rest e each short =
-    let f = each.0 in
-    let cells : rest ≡ p.part ∷ f.high ∷ f.low ∷ (f.info ++ files_of ps) = e ∙ ap (λ (b : List ℕ). b ++ files_of ps) f.bytes in
-    absurd (let long = ap length cells in omega arith)
+short_none (p ∷ ps) rest e each short = grind (arith)
 
 below_itself : (o : Option ℕ) → is_below o o ≡ true → ⊥
-below_itself None h = absurd (cc)
-below_itself (Some n) h = omega (arith, ltb-true n n h)
+below_itself x h = grind (arith, ltb-true)
 
 pub before_itself : (a b : ℕ) → comes_before a b ≡ true → a ≡ b → ⊥
 unfolding comes_before
@@ -67,8 +44,7 @@ before_itself a b h e = below_itself (place a) (subst (λ (n : ℕ). is_below (p
 pub not_held : (before others : List Lent) (p : Lent) → InOrder (map tag_of (before ++ p ∷ others)) → IsNone (held before p.part)
 not_held [] others p o = refl
 not_held (b ∷ bs) others p o =
-    let other : (b.part == p.part) ≡ false = ne_eqb b.part p.part (before_itself b.part p.part (later others bs p b.part o.1)) in
-    subst (λ (t : Bool). IsNone (option_map bytes_of (cond t (Some b) (find (is_of p.part) bs)))) (sym other) (not_held bs others p o.2)
+    grind (arith, ne_eqb b.part p.part (before_itself b.part p.part (later others bs p b.part o.1)), not_held bs others p o.2, cond)
 
 -- contents at the end of a component are whole
 pub read_whole : (contents : List ℕ) (reading : Reading) → IsRead contents reading → reading.next ≡ Tag → AreWhole contents
@@ -101,10 +77,7 @@ next_file contents rest done left e f long = first_file left rest e (each_behind
 pub next_absent : (contents rest : List ℕ) (done left : List Lent) → (e : rest ≡ files_of left) → (f : AreFiles contents (done ++ left))
     → 3 ≤ length rest
     → IsNone (held done (get_or rest 0 0))
-next_absent contents rest done left e f long =
-    let next = next_file contents rest done left e f long in
-    let order : InOrder (map tag_of (done ++ next.part ∷ next.others)) = subst (λ (ps : List Lent). InOrder (map tag_of (done ++ ps))) next.is f.order in
-    subst (λ (t : ℕ). IsNone (held done t)) (sym next.tag) (not_held done next.others next.part order)
+next_absent contents rest done left e f long = grind (arith, next_file contents rest done left e f long, not_held)
 
 same_part : (p : Lent) (tag : ℕ) (bytes : List ℕ) → tag ≡ p.part → bytes ≡ p.bytes
     → p ≡ (let part : Lent = record { part = tag; bytes = bytes } in part)
@@ -117,15 +90,8 @@ pub next_parts : (contents rest back file : List ℕ) (done left new : List Lent
     → back ≡ drop (3 + get_or rest 1 0 * 256 + get_or rest 2 0) rest → new ≡ done ++ record { part = tag; bytes = file } ∷ []
     → (others : List Lent) × (back ≡ files_of others) × AreFiles contents (new ++ others)
 next_parts contents rest back file done left new tag e f long t front behind push =
-    let next = next_file contents rest done left e f long in
-    let part = same_part next.part tag file (t ∙ next.tag) (front ∙ next.file) in
-    let grown : done ++ left ≡ new ++ next.others =
-    ap (λ (ps : List Lent). done ++ ps) next.is ∙ sym (append_assoc done (next.part ∷ []) next.others)
-    ∙ ap (λ (p : Lent). (done ++ p ∷ []) ++ next.others) part ∙ ap (λ (ps : List Lent). ps ++ next.others) (sym push) in
-    (next.others, behind ∙ next.behind, subst (AreFiles contents) grown f)
+    grind (arith, next_file contents rest done left e f long, same_part, append_assoc)
 
 pub last_parts : (contents rest : List ℕ) (done left : List Lent) → rest ≡ files_of left → AreFiles contents (done ++ left) → length rest < 3
     → AreFiles contents done
-last_parts contents rest done left e f short =
-    let none = short_none left rest e (each_behind done left f.each) short in
-    subst (AreFiles contents) (ap (λ (ps : List Lent). done ++ ps) none ∙ append-nil done) f
+last_parts contents rest done left e f short = grind (arith, short_none, each_behind, append-nil)

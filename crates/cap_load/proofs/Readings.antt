@@ -51,15 +51,7 @@ read_left contents last zero i =
       next = refl;
       last = subst (IsLast last) (sym tags) i.is_last;
     }
-read_left contents last (suc n) i = record {
-  files = i.files;
-  tail = i.tag ∷ i.high ∷ i.low ∷ i.info;
-  each = i.each;
-  whole = i.whole;
-  order = i.order;
-  next = (i.tag, i.high, i.low, i.info, refl, omega arith, i.size, i.fit.0, i.fit.1, i.fit.2);
-  last = i.is_last;
-}
+read_left contents last (suc n) i = grind (arith)
 
 more : (contents : List ℕ) (files : List Lent) (tail : List ℕ) (byte : ℕ) → contents ≡ files_of files ++ tail
     → contents ++ byte ∷ [] ≡ files_of files ++ (tail ++ byte ∷ [])
@@ -67,19 +59,7 @@ more contents files tail byte e = ap (λ (x : List ℕ). x ++ byte ∷ []) e ∙
 
 read_by_more : (next : Next) (last : Option ℕ) (contents : List ℕ) (byte : ℕ) → IsRead contents (record { last = last; next = next })
     → shown_by next last byte ≡ None → byte < 256 → IsRead (contents ++ byte ∷ []) (read_by next last byte)
-read_by_more Tag last contents byte r e fits =
-    let no_tail : r.tail ≡ [] = r.next in
-    let tags : map tag_of r.files ++ begun r.tail ≡ map tag_of r.files =
-    ap (λ (t : List ℕ). map tag_of r.files ++ begun t) no_tail ∙ append-nil (map tag_of r.files) in
-    record {
-      files = r.files;
-      tail = byte ∷ [];
-      each = r.each;
-      whole = more contents r.files r.tail byte r.whole ∙ ap (λ (t : List ℕ). files_of r.files ++ (t ++ byte ∷ [])) no_tail;
-      order = tag_more (map tag_of r.files) last byte (subst InOrder tags r.order) (subst (IsLast last) tags r.last) e;
-      next = (byte, refl, fits);
-      last = (map tag_of r.files, refl);
-    }
+read_by_more Tag last contents byte r e fits = grind (arith, append-nil, tag_more)
 read_by_more High last contents byte r e fits =
     let tag = r.next.0 in
     let tail : r.tail ≡ tag ∷ [] = r.next.1 in

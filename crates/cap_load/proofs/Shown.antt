@@ -1,5 +1,5 @@
 -- The fault that a loader finds at a byte is the one of least number that the byte shows.
-use Rattle.std.proofs.Common.{◌≡◌, ℕ, ◌+◌, ◌*◌, ◌-◌, ◌<◌, ◌≤◌, Bool, true, false, List, [], ◌∷◌, ◌++◌, length, map}
+use Rattle.std.proofs.Common.{◌≡◌, ℕ, ◌+◌, ◌-◌, ◌≤◌, Bool, true, false, List, [], ◌∷◌, ◌++◌, length, map}
 use Rattle.std.proofs.Common.{Option, Some, None, IsNone, is_none, refl, sym, ap, subst, ◌∙◌, arith, length-append, if◌then◌else◌}
 use Rattle.std.proofs.lemmas.List.{append-nil, same_from_push}
 use Rattle.std.proofs.lemmas.Bool.{leb-true, le-leb, cond-true, cond-false, eqb-true, eqb-false}
@@ -16,7 +16,7 @@ use Rattle.cap_load.specs.Order.{place, comes_before}
 use Rattle.cap_load.specs.LoadFile.{tag_of, files_of}
 use Rattle.cap_load.specs.Fault.{number, GoesOn, Begins, Follows, HasEnded, Shows}
 use Rattle.cap_load.specs.Reading.{tag_fault, order_fault, shown, shown_by}
-use Rattle.cap_load.specs.Loaded.{Loaded, begun, IsNext, IsLast, IsFront, IsRead}
+use Rattle.cap_load.specs.Loaded.{Loaded, IsNext, IsLast, IsFront, IsRead}
 use Rattle.cap_load.specs.Taking.{content_fault, or_full, fault_by}
 use Rattle.cap_load.proofs.Splits.{IsTail, files_split}
 use Rattle.cap_load.proofs.Faults.{one_content, one_before}
@@ -99,8 +99,7 @@ tag_sound room bytes byte last fault s e = by (place byte) refl
         (subst (λ (o : Option ℕ). (if is_none o then Some (NoTag byte) else order_fault last byte) ≡ Some fault) p e)
 
 no_place : (o : Option ℕ) → IsNone o → o ≡ None
-no_place None h = refl
-no_place (Some n) h = absurd (cc)
+no_place x h = grind (arith)
 
 tag_least : (room : ℕ) (bytes : List ℕ) (byte : ℕ) (last : Option ℕ) (other : StreamFault) → AtStart bytes last → number other ≤ 101
     → Shows room bytes byte other → (fault : StreamFault) × (tag_fault last byte ≡ Some fault) × (number fault ≤ number other)
@@ -137,14 +136,7 @@ tag_finds room bytes byte last s = record {
 -- ---- any byte of a component
 
 pub tail_is : (next : Next) (tail : List ℕ) → IsNext next tail → IsTail tail
-tail_is Tag tail n = subst IsTail (sym n) (tt {0})
-tail_is High tail n = subst IsTail (sym n.1) (tt {0})
-tail_is (Low high) tail n = subst IsTail (sym n.1) (tt {0})
-tail_is (Info left) tail n =
-    let some : 0 < left = n.5 in
-    let size : length n.3 + left ≡ 256 * n.1 + n.2 = n.6 in
-    let short : length n.3 < 256 * n.1 + n.2 = omega arith in
-    subst IsTail (sym n.4) short
+tail_is x tail n = grind (arith)
 
 -- inside a component none begins
 none_begins : (bytes contents : List ℕ) (reading : Reading) (parts : List Lent) (r : IsRead contents reading) → GoesOn bytes contents
@@ -171,16 +163,7 @@ none_finds room bytes byte none = record {
 
 finds_by : (next : Next) (last : Option ℕ) (room : ℕ) (bytes contents : List ℕ) (byte : ℕ) → IsRead contents (record { last = last; next = next })
     → GoesOn bytes contents → FindsPart room bytes byte (shown_by next last byte)
-finds_by Tag last room bytes contents byte r g =
-    let no_tail : r.tail ≡ [] = r.next in
-    let tags : map tag_of r.files ++ begun r.tail ≡ map tag_of r.files =
-    ap (λ (t : List ℕ). map tag_of r.files ++ begun t) no_tail ∙ append-nil (map tag_of r.files) in
-    let whole : contents ≡ files_of r.files = r.whole ∙ ap (λ (t : List ℕ). files_of r.files ++ t) no_tail ∙ append-nil (files_of r.files) in
-    tag_finds room bytes byte last (record {
-      files = r.files;
-      begins = record { goes_on = subst (GoesOn bytes) whole g; each = r.each };
-      is_last = subst (IsLast last) tags r.last;
-    })
+finds_by Tag last room bytes contents byte r g = grind (arith, append-nil, tag_finds)
 finds_by High last room bytes contents byte r g = none_finds room bytes byte (λ parts b.
     none_begins bytes contents (record { last = last; next = High }) parts r g (λ e. let t = r.next.1 in absurd (cc)) b)
 finds_by (Low high) last room bytes contents byte r g = none_finds room bytes byte (λ parts b.
@@ -259,10 +242,7 @@ left_finds : (n : ℕ) (loaded : Loaded) (bytes : List ℕ) (byte : ℕ) (b : Bo
     → IsRead loaded.contents loaded.reading → Finds loaded.room bytes byte (fault_by (Left n) loaded byte)
 left_finds n loaded bytes byte true e f r = subst (Finds loaded.room bytes byte) (sym (cond-true (n == 0) None (content_fault loaded byte) e))
     (idle_finds (Left n) loaded.room bytes loaded.contents byte f (eqb-true n 0 e) (not_ended n bytes loaded.contents f))
-left_finds n loaded bytes byte false e f r =
-    let some : n ≡ 0 → ⊥ = eqb-false n 0 e in
-    subst (Finds loaded.room bytes byte) (sym (cond-false (n == 0) None (content_fault loaded byte) e))
-    (content_finds loaded bytes byte r (goes_on n bytes loaded.contents f (omega arith)))
+left_finds n loaded bytes byte false e f r = grind (arith, eqb-false, cond-false, content_finds)
 
 pub finds : (at : Block) (loaded : Loaded) (bytes : List ℕ) (byte : ℕ) → IsFront at bytes loaded.contents
     → IsRead loaded.contents loaded.reading → Finds loaded.room bytes byte (fault_by at loaded byte)

@@ -23,9 +23,7 @@ IsRest [] = Unit {0}
 IsRest (size ∷ bytes) = 0 < size → length bytes < size
 
 not_whole : (c more rest : List ℕ) → IsBlock c → IsRest (length c ∷ ((c ++ more) ++ rest)) → ⊥
-not_whole c more rest block h =
-    let few : length ((c ++ more) ++ rest) < length c = h block.0 in
-    omega (arith, length-append (c ++ more) rest, length-append c more)
+not_whole c more rest block h = grind (arith, length-append)
 
 pub one_split : (bs cs : List (List ℕ)) (r s : List ℕ) → AllByRecursion IsBlock bs → AllByRecursion IsBlock cs → IsRest r → IsRest s
     → in_blocks bs ++ r ≡ in_blocks cs ++ s → (bs ≡ cs) × (r ≡ s)
@@ -58,35 +56,16 @@ opened : (p : Lent) (f : IsFile p) (x : List ℕ) → p.bytes ++ x ≡ p.part �
 opened p f x = ap (λ (b : List ℕ). b ++ x) f.bytes
 
 pub same_file : (p q : Lent) (x y : List ℕ) → IsFile p → IsFile q → p.bytes ++ x ≡ q.bytes ++ y → (p ≡ q) × (x ≡ y)
-same_file p q x y f g e =
-    let cells : (p.part ∷ f.high ∷ f.low ∷ (f.info ++ x)) ≡ (q.part ∷ g.high ∷ g.low ∷ (g.info ++ y)) = sym (opened p f x) ∙ e
-    ∙ opened q g y in
-    let high : f.high ≡ g.high = cc in
-    let low : f.low ≡ g.low = cc in
-    let tag : p.part ≡ q.part = cc in
-    let infos : f.info ++ x ≡ g.info ++ y = cc in
-    let fsize = f.size in
-    let gsize = g.size in
-    let behind = fronts_same f.info g.info x y (omega arith) infos in
-    let info : f.info ≡ g.info = behind.0 in
-    let fbytes = f.bytes in
-    let gbytes = g.bytes in
-    let bytes : p.bytes ≡ q.bytes = cc in
-    (same_lent p.part q.part p.bytes q.bytes tag bytes, behind.1)
+same_file p q x y f g e = grind (arith, fronts_same, same_lent)
 
 pub not_tail : (q : Lent) (x : List ℕ) → IsFile q → IsTail (q.bytes ++ x) → ⊥
-not_tail q x f t =
-    let short : length (f.info ++ x) < 256 * f.high + f.low = subst IsTail (opened q f x) t in
-    let size = f.size in
-    omega (arith, length-append f.info x)
+not_tail q x f t = grind (arith, length-append)
 
 pub files_split : (ps qs : List Lent) (s t : List ℕ) → AllByRecursion IsFile ps → AllByRecursion IsFile qs → IsTail s → IsTail t
     → files_of ps ++ s ≡ files_of qs ++ t → (ps ≡ qs) × (s ≡ t)
 files_split [] [] s t fp fq ts te e = (refl, e)
-files_split [] (q ∷ qs) s t fp fq ts te e =
-    absurd (not_tail q (files_of qs ++ t) fq.0 (subst IsTail (e ∙ append_assoc q.bytes (files_of qs) t) ts))
-files_split (p ∷ ps) [] s t fp fq ts te e =
-    absurd (not_tail p (files_of ps ++ s) fp.0 (subst IsTail (sym e ∙ append_assoc p.bytes (files_of ps) s) te))
+files_split [] (q ∷ qs) s t fp fq ts te e = grind (arith, not_tail, append_assoc)
+files_split (p ∷ ps) [] s t fp fq ts te e = grind (arith, not_tail, append_assoc)
 files_split (p ∷ ps) (q ∷ qs) s t fp fq ts te e =
     let first = same_file p q (files_of ps ++ s) (files_of qs ++ t) fp.0 fq.0
     (sym (append_assoc p.bytes (files_of ps) s) ∙ e ∙ append_assoc q.bytes (files_of qs) t) in

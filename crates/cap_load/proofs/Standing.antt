@@ -3,30 +3,20 @@ use Rattle.std.proofs.Common.{◌≡◌, ℕ, ◌+◌, ◌-◌, ◌<◌, ◌≤�
 use Rattle.std.proofs.Common.{None, refl, sym, ap, subst, ◌∙◌, arith, length-append, append_assoc}
 use Rattle.std.proofs.lemmas.Bool.{eqb-true, eqb-false, cond_both}
 use Rattle.std.proofs.lemmas.List.{take-append-drop, take_more}
-use Rattle.std.specs.Prelude.{◌==◌}
 use Rattle.cap_load.specs.declared.fault.StreamFault.{StreamFault}
 use Rattle.cap_load.specs.declared.component.Reading.{Reading}
 use Rattle.cap_load.specs.declared.block.Block.{Block}
-use Rattle.cap_load.specs.declared.block.Block.TheVariants.{Left, Ended}
+use Rattle.cap_load.specs.declared.block.Block.TheVariants.{Left}
 use Rattle.cap_load.specs.Fault.{number, Shows, Faultless, IsFirst}
-use Rattle.cap_load.specs.Reading.{read_byte}
 use Rattle.cap_load.specs.Loaded.{Loaded, IsFront, IsRead, StandsBy, StandsFor}
-use Rattle.cap_load.specs.Taking.{fault_by, opened, moved_by, taken_by, taken_after, taken}
+use Rattle.cap_load.specs.Taking.{fault_by, moved_by, taken_by, taken_after, taken}
 use Rattle.cap_load.proofs.Faults.{behind, before, same, places}
 use Rattle.cap_load.proofs.Fronts.{front_open, front_more}
 use Rattle.cap_load.proofs.Shown.{Finds, finds}
 
 -- the first fault stays, whatever follows
 pub first_more : (room : ℕ) (bytes more : List ℕ) (fault : StreamFault) → IsFirst room bytes fault → IsFirst room (bytes ++ more) fault
-first_more room bytes more fault f = record {
-  before = f.before;
-  byte = f.byte;
-  after = f.after ++ more;
-  whole = ap (λ (x : List ℕ). x ++ more) f.whole ∙ append_assoc f.before (f.byte ∷ f.after) more;
-  shown = f.shown;
-  first = f.first;
-  least = f.least;
-}
+first_more room bytes more fault f = grind (arith, append_assoc)
 
 faultless_more : (room : ℕ) (bytes : List ℕ) (byte : ℕ) → Faultless room bytes → ((fault : StreamFault) → Shows room bytes byte fault → ⊥)
     → Faultless room (bytes ++ byte ∷ [])
@@ -65,19 +55,11 @@ found_first room bytes byte fault none f = record {
 
 front_moved : (n : ℕ) (loaded : Loaded) (bytes : List ℕ) (byte : ℕ) → IsFront (Left n) bytes loaded.contents → byte < 256
     → let moved : Loaded = moved_by (Left n) loaded byte in IsFront moved.block (bytes ++ byte ∷ []) moved.contents
-front_moved n loaded bytes byte f few = cond_both (n == 0) (record loaded { block = opened byte })
-    (record loaded { contents = loaded.contents ++ byte ∷ []; block = Left (n - 1); reading = read_byte loaded.reading byte })
-    (λ (moved : Loaded). IsFront moved.block (bytes ++ byte ∷ []) moved.contents)
-    (λ e. front_open n byte bytes loaded.contents f (eqb-true n 0 e) few)
-    (λ e. let some : n ≡ 0 → ⊥ = eqb-false n 0 e in front_more n byte bytes loaded.contents f (omega arith))
+front_moved n loaded bytes byte f few = grind (arith, cond_both, front_open, eqb-true, eqb-false, front_more)
 
 kept_fault : (n : ℕ) (loaded : Loaded) (byte : ℕ) → let moved : Loaded =
     moved_by (Left n) loaded byte in (moved.fault ≡ loaded.fault) × (moved.room ≡ loaded.room)
-kept_fault n loaded byte = cond_both (n == 0) (record loaded { block = opened byte })
-    (record loaded { contents = loaded.contents ++ byte ∷ []; block = Left (n - 1); reading = read_byte loaded.reading byte })
-    (λ (moved : Loaded). (moved.fault ≡ loaded.fault) × (moved.room ≡ loaded.room))
-    (λ e. (refl, refl))
-    (λ e. (refl, refl))
+kept_fault n loaded byte = grind (arith, cond_both)
 
 stands_at : (loaded : Loaded) (bytes : List ℕ) → loaded.fault ≡ None → Faultless loaded.room bytes → IsFront loaded.block bytes loaded.contents
     → StandsFor loaded bytes
@@ -85,25 +67,16 @@ stands_at loaded bytes e none f = subst (λ (o : Option StreamFault). StandsBy o
 
 moved_stands : (at : Block) (loaded : Loaded) (bytes : List ℕ) (byte : ℕ) → loaded.fault ≡ None → byte < 256 → fault_by at loaded byte ≡ None
     → Faultless loaded.room (bytes ++ byte ∷ []) → IsFront at bytes loaded.contents → StandsFor (moved_by at loaded byte) (bytes ++ byte ∷ [])
-moved_stands Ended loaded bytes byte e few found none f = absurd (cc)
-moved_stands (Left n) loaded bytes byte e few found none f =
-    let kept = kept_fault n loaded byte in
-    stands_at (moved_by (Left n) loaded byte) (bytes ++ byte ∷ []) (kept.0 ∙ e)
-    (subst (λ (room : ℕ). Faultless room (bytes ++ byte ∷ [])) (sym kept.1) none) (front_moved n loaded bytes byte f few)
+moved_stands x loaded bytes byte e few found none f = grind (arith, kept_fault, front_moved)
 
 taken_by_stands : (found : Option StreamFault) (loaded : Loaded) (bytes : List ℕ) (byte : ℕ) → loaded.fault ≡ None → byte < 256
     → Faultless loaded.room bytes → IsFront loaded.block bytes loaded.contents → Finds loaded.room bytes byte found
     → fault_by loaded.block loaded byte ≡ found → StandsFor (taken_by found loaded byte) (bytes ++ byte ∷ [])
-taken_by_stands None loaded bytes byte e few none f s is =
-    moved_stands loaded.block loaded bytes byte e few is (faultless_more loaded.room bytes byte none (not_shown loaded.room bytes byte None s refl)) f
-taken_by_stands (Some fault) loaded bytes byte e few none f s is = found_first loaded.room bytes byte fault none s
+taken_by_stands x loaded bytes byte e few none f s is = grind (arith, moved_stands, faultless_more, not_shown, found_first)
 
 taken_after_stands : (fault : Option StreamFault) (loaded : Loaded) (bytes : List ℕ) (byte : ℕ) → loaded.fault ≡ fault → byte < 256
     → IsRead loaded.contents loaded.reading → StandsBy fault loaded bytes → StandsFor (taken_after fault loaded byte) (bytes ++ byte ∷ [])
-taken_after_stands None loaded bytes byte e few r s =
-    taken_by_stands (fault_by loaded.block loaded byte) loaded bytes byte e few s.0 s.1 (finds loaded.block loaded bytes byte s.1 r) refl
-taken_after_stands (Some fault) loaded bytes byte e few r s =
-    subst (λ (o : Option StreamFault). StandsBy o loaded (bytes ++ byte ∷ [])) (sym e) (first_more loaded.room bytes (byte ∷ []) fault s)
+taken_after_stands x loaded bytes byte e few r s = grind (arith, taken_by_stands, finds, first_more)
 
 pub taken_stands : (loaded : Loaded) (bytes : List ℕ) (byte : ℕ) → byte < 256 → IsRead loaded.contents loaded.reading → StandsFor loaded bytes
     → StandsFor (taken loaded byte) (bytes ++ byte ∷ [])
@@ -115,9 +88,7 @@ taken_stands loaded bytes byte few r s = taken_after_stands loaded.fault loaded 
 -- after a fault nothing that follows matters
 pub stands_on : (loaded : Loaded) (bytes more : List ℕ) (fault : StreamFault) → loaded.fault ≡ Some fault → StandsFor loaded bytes
     → StandsFor loaded (bytes ++ more)
-stands_on loaded bytes more fault e s =
-    subst (λ (o : Option StreamFault). StandsBy o loaded (bytes ++ more)) (sym e)
-    (first_more loaded.room bytes more fault (subst (λ (o : Option StreamFault). StandsBy o loaded bytes) e s))
+stands_on loaded bytes more fault e s = grind (arith, first_more)
 
 -- the next byte of a piece
 pub piece_step : (loaded new : Loaded) (bytes piece : List ℕ) (i : ℕ) → i < length piece → get_or piece i 0 < 256
@@ -140,17 +111,14 @@ piece_end new bytes piece i fault e s =
     subst (λ (x : List ℕ). StandsFor new x) regrouped (stands_on new (bytes ++ take i piece) (drop i piece) fault e s)
 
 moved_room : (at : Block) (loaded : Loaded) (byte : ℕ) → (let moved : Loaded = moved_by at loaded byte in moved.room) ≡ loaded.room
-moved_room Ended loaded byte = refl
-moved_room (Left n) loaded byte = (kept_fault n loaded byte).1
+moved_room x loaded byte = grind (arith, kept_fault)
 
 taken_by_room : (found : Option StreamFault) (loaded : Loaded) (byte : ℕ) → (let after : Loaded = taken_by found loaded byte in after.room) ≡ loaded.room
-taken_by_room None loaded byte = moved_room loaded.block loaded byte
-taken_by_room (Some fault) loaded byte = refl
+taken_by_room x loaded byte = grind (arith, moved_room)
 
 taken_after_room : (fault : Option StreamFault) (loaded : Loaded) (byte : ℕ) → (let after : Loaded = taken_after fault loaded byte in after.room)
     ≡ loaded.room
-taken_after_room None loaded byte = taken_by_room (fault_by loaded.block loaded byte) loaded byte
-taken_after_room (Some fault) loaded byte = refl
+taken_after_room x loaded byte = grind (arith, taken_by_room)
 
 pub taken_room : (loaded : Loaded) (byte : ℕ) → (taken loaded byte).room ≡ loaded.room
 unfolding taken
@@ -162,7 +130,4 @@ nothing_shown room front rest byte fault whole shown = let long = ap length whol
 
 pub new_stands : (room : ℕ) (contents : List ℕ) (reading : Reading) → contents ≡ []
     → (let loaded : Loaded = record { room = room; contents = contents; block = Left 0; reading = reading; fault = None } in StandsFor loaded [])
-new_stands room contents reading none = (
-  nothing_shown room,
-  record { blocks = []; rest = []; got = []; each = tt {0}; whole = refl; joined = none; left = (refl, refl) },
-)
+new_stands room contents reading none = grind (arith, nothing_shown)

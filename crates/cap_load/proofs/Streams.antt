@@ -1,5 +1,5 @@
 -- A Load file is one of one list of parts, and no byte of it shows a fault.
-use Rattle.std.proofs.Common.{◌≡◌, ℕ, ◌+◌, ◌<◌, ◌≤◌, true, false, List, [], ◌∷◌, ◌++◌, length, map, IsNone, IsSome, refl, sym}
+use Rattle.std.proofs.Common.{◌≡◌, ℕ, ◌+◌, ◌<◌, true, false, List, [], ◌∷◌, ◌++◌, length, map, IsNone, IsSome, refl, sym}
 use Rattle.std.proofs.Common.{ap, subst, ◌∙◌, arith, length-append, append_assoc}
 use Rattle.std.specs.List.{AllByRecursion, concat}
 use Rattle.cap_components.specs.Parts.{Lent}
@@ -35,10 +35,7 @@ inside : (cs bs : List (List ℕ)) (size byte : ℕ) (got after : List ℕ) → 
     → in_blocks cs ++ 0 ∷ [] ≡ in_blocks bs ++ size ∷ (got ++ byte ∷ after) → (rest : List ℕ)
     × (concat cs ≡ concat bs ++ (got ++ byte ∷ rest))
 inside [] [] size byte got after bc bb l e = let none : 0 ≡ size = cc in absurd (omega arith)
-inside [] (b ∷ bs) size byte got after bc bb l e =
-    let none : 0 ≡ length b = cc in
-    let some : 0 < length b = bb.0.0 in
-    absurd (omega arith)
+inside [] (b ∷ bs) size byte got after bc bb l e = grind (arith)
 inside (c ∷ cs) [] size byte got after bc bb l e =
     let long : length c ≡ size = cc in
     let contents : (c ++ in_blocks cs) ++ 0 ∷ [] ≡ got ++ byte ∷ after = cc in
@@ -71,9 +68,7 @@ record Next (parts before : List Lent) (byte : ℕ) : Type 0 where
   begins : part.part ≡ byte
 
 first_cell : (q : Lent) (x rest : List ℕ) (byte : ℕ) → IsFile q → q.bytes ++ x ≡ byte ∷ rest → q.part ≡ byte
-first_cell q x rest byte f e =
-    let bytes : (q.part ∷ f.high ∷ f.low ∷ (f.info ++ x)) ≡ byte ∷ rest = ap (λ (b : List ℕ). b ++ x) (sym f.bytes) ∙ e in
-    cc
+first_cell q x rest byte f e = grind (arith)
 
 next_part : (parts before : List Lent) (rest : List ℕ) (byte : ℕ) → AllByRecursion IsFile parts → AllByRecursion IsFile before
     → files_of parts ≡ files_of before ++ byte ∷ rest → Next parts before byte
@@ -129,11 +124,7 @@ no_fault room bytes parts s before after byte (Order first second) e shown =
     let not : comes_before first second ≡ false = shown.1 in
     absurd (cc)
 no_fault room bytes parts s before after byte (Full n) e shown =
-    let found = among s.loads.blocks before shown.1.0 after byte s.loads.each shown.1.1 (sym s.loads.whole ∙ e) in
-    let long = ap length (sym s.loads.files.whole ∙ found.1) in
-    let few = s.few in
-    let full : room ≤ length shown.1.0 = shown.1.2 in
-    omega (arith, length-append shown.1.0 (byte ∷ found.0))
+    grind (arith, among s.loads.blocks before shown.1.0 after byte s.loads.each shown.1.1 (sym s.loads.whole ∙ e), length-append)
 no_fault room bytes parts s before after byte AfterEnd e shown =
     let split : in_blocks s.loads.blocks ++ 0 ∷ [] ≡ in_blocks shown.blocks ++ (0 ∷ (shown.more ++ byte ∷ after)) =
     sym s.loads.whole ∙ e ∙ ap (λ (x : List ℕ). x ++ byte ∷ after) shown.whole

@@ -1,10 +1,11 @@
 -- The answers over the graph of calls are those over chains of calls.
-use Rattle.std.proofs.Common.{◌≡◌, ℕ, ◌+◌, ◌<◌, ◌≤◌, List, length, sym, ap, ◌∙◌, subst, arith}
+use Rattle.std.proofs.Common.{◌≡◌, ℕ, ◌+◌, ◌<◌, List, length, ap, arith}
 use Rattle.std.specs.Prelude.{Some, None}
 use Rattle.std.proofs.lemmas.Option.{slice_get_within}
 use Rattle.jc_base.specs.World.{Linked, IsWorld}
 use Rattle.jc_ops.specs.Sound.{OperationsAreSound}
-use Rattle.digraph.specs.Way.{Leads, by_step, by_more, Way, way_ends, way_goes, total, IsGreatest, Recurs, IsLeastRecurring, StandsTwiceInWay}
+use Rattle.digraph.specs.Way.{Leads, by_step, by_more, Way, way_ends, way_goes}
+use Rattle.digraph.specs.Way.{total, IsGreatest, Recurs, IsLeastRecurring, StandsTwiceInWay}
 use Rattle.digraph.specs.Graph.{Edge, weight_of}
 use Rattle.digraph.specs.Settled.{IsSumFrom}
 use Rattle.digraph.proofs.Helping.{greatest-told, recurs-read, recurs-told, recurs-below}
@@ -53,17 +54,10 @@ module _ (w : Linked) (world : IsWorld w) (sound : OperationsAreSound w) (g : Li
       total-alike : (m : ℕ) (ms : List ℕ) → m < length w.methods → Way (Calls w) m ms → total f ms ≡ total h ms
       total-alike m ms l way_ends = ap (λ x. x + 0) (alike m l)
       total-alike m ms l (way_goes {w = n} {vs = ns} calls more) =
-          let rest = total-alike n ns (code-inside w n calls.code) more in
-          let here = alike m l in
-          omega (arith, rest, here)
+          grind (arith, code-inside, total-alike n ns (code-inside w n calls.code) more)
 
       greatest-alike : (most : ℕ) → IsGreatest (Calls w) f entry most → IsGreatest (Calls w) h entry most
-      greatest-alike most great = record {
-        way = great.way;
-        is_way = great.is_way;
-        measures = sym (total-alike entry great.way inside great.is_way) ∙ great.measures;
-        none_more = λ ns way. subst (λ n. n ≤ most) (total-alike entry ns inside way) (great.none_more ns way);
-      }
+      greatest-alike most great = grind (arith, total-alike)
 
     pub greatest-chain : (by : Measure) (weights : List ℕ) (most : ℕ) → AreWeights w by weights → IsSumFrom g weights entry (Some most)
         → IsGreatest (Calls w) (measure w by) entry most

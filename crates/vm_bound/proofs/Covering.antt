@@ -1,5 +1,6 @@
 -- Blocks that cover positions.
-use Rattle.std.proofs.Common.{◌≡◌, ℕ, ◌+◌, ◌-◌, ◌*◌, ◌/◌, ◌%◌, ◌<◌, ◌≤◌, ◌⊎◌, inl, inr, ⊎_elim, List, [], ◌∷◌, ◌++◌, refl, sym, subst, arith}
+use Rattle.std.proofs.Common.{◌≡◌, ℕ, ◌+◌, ◌-◌, ◌*◌, ◌/◌, ◌%◌, ◌<◌, ◌≤◌, ◌⊎◌, inl}
+use Rattle.std.proofs.Common.{inr, ⊎_elim, List, [], ◌∷◌, ◌++◌, refl, sym, subst, arith}
 use Rattle.std.specs.Prelude.{Option, Some, None, Contains}
 use Rattle.std.proofs.lemmas.Bool.{cases_lt, cases_eq, eq-eqb, ne_eqb}
 use Rattle.std.proofs.lemmas.List.Elements.{Contains-append_left, Contains-push, Contains-push_cases}
@@ -18,15 +19,11 @@ pub record IsCovering (count from to by : ℕ) (old new : List Block) (low high 
   pub most : high ≤ count * 2
 
 under-leaf : {count x p : ℕ} → count ≤ x → Under count x p → x ≡ count + p
-under-leaf l (under_one e) = e
-under-leaf l (under_half inside half more) = absurd (omega (arith, l, inside))
+under-leaf l y = grind (arith)
 
 -- half of a number, with what is left
 halved : (x : ℕ) → IsHalf (x / 2) x
-halved x = elim (cases_eq (x % 2) 0) [
-  | inl even ↦ inl (omega (arith, even))
-  | inr odd ↦ inr (omega (arith, odd))
-]
+halved x = grind (arith, cases_eq)
 
 module _ (count from to by : ℕ) (old : List Block) where
   pub covering-begins : from < to → to ≤ count → IsCovering count from to by old old (count + from) (count + to)
@@ -194,13 +191,7 @@ module _ (count : ℕ) (IsBy : ℕ → Option ℕ → Type 0) where
   -- positions at which no class is the one
   pub runs-skip : (from to : ℕ) (blocks : List Block) → ((p : ℕ) → from ≤ p → p < to → IsBy p None) → AreRuns count IsBy from blocks
       → AreRuns count IsBy to blocks
-  runs-skip from to blocks none before = record {
-    only = before.only;
-    all = λ p l. elim (cases_lt p from) [
-      | inl lower ↦ before.all p lower
-      | inr past ↦ inl (none p past l)
-    ];
-  }
+  runs-skip from to blocks none before = grind (arith, cases_lt)
 
   pub runs-more : (from to : ℕ) (o : Option ℕ) (old new : List Block) → ((p : ℕ) → from ≤ p → p < to → IsBy p o)
       → AddsRun count from to o old new → AreRuns count IsBy from old → AreRuns count IsBy to new
@@ -218,9 +209,7 @@ module _ (count : ℕ) (IsBy : ℕ → Option ℕ → Type 0) where
       run : (b : Block) → IsPart count from to by b → IsRun count IsBy b
       run b part = record {
         node = part.node;
-        same = λ p under.
-            let inside = part.inside p under in
-            subst (λ (x : ℕ). IsBy p (Some x)) (sym part.by_is) (is p inside.0 inside.1);
+        same = grind (arith);
       }
 
 -- the same by what else is known of a class that is the one

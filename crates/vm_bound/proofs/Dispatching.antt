@@ -1,7 +1,7 @@
 -- Which classes below a class have the entry that an object runs.
-use Rattle.std.proofs.Common.{◌≡◌, ℕ, ◌-◌, ◌≤◌, Bool, true, false, inl, inr, refl, sym, ap, ◌∙◌, subst, arith}
-use Rattle.std.specs.Prelude.{Some, nat_lt, ◌==◌, slice_get}
-use Rattle.std.proofs.lemmas.Bool.{eq-eqb, eqb-true, false≢true, or_cases, or_left, or_right}
+use Rattle.std.proofs.Common.{◌≡◌, ℕ, ◌-◌, ◌≤◌, Bool, true, false, refl, sym, ap, ◌∙◌, subst, arith}
+use Rattle.std.specs.Prelude.{Some, nat_lt, ◌==◌}
+use Rattle.std.proofs.lemmas.Bool.{eq-eqb, eqb-true, false≢true, or_cases}
 use Rattle.jc_base.specs.Class.{ClassTable, IsClass, AreClasses, IsNextOnChain}
 use Rattle.jc_base.specs.Dispatch.{package_of, entry_at, nearest_of, visible_in, dispatched}
 use Rattle.jc_base.specs.Order.{is_on_chain}
@@ -43,21 +43,8 @@ module _ (t : ClassTable) (are : AreClasses t) where
 
   nearest-by : (home c r p : ℕ) (b : Bool) → (package_of t r == home) ≡ b → package_of t c ≡ home → IsNextOnChain t r p
       → (is_on_chain t c p ≡ true → IsNearest home c p) → is_on_chain t c r ≡ true → IsNearest home c r
-  nearest-by home c r p true here at next before on =
-      let e = eqb-true (package_of t r) home here in
-      record { class = r; found = nearest-here home r e; above = on; below = on_chain-here t r; package_is = e }
-  nearest-by home c r p false off at next before on = elim (on_next t c r p next on) [
-    | inl is ↦ absurd (false≢true (sym off ∙ eq-eqb (package_of t r) home (ap (package_of t) is ∙ at)))
-    | inr up ↦
-        let near = before up in
-        record {
-          class = near.class;
-          found = nearest-next home r p next off ∙ near.found;
-          above = near.above;
-          below = on_above t near.class r p next near.below;
-          package_is = near.package_is;
-        }
-  ]
+  nearest-by home c r p true here at next before on = grind (arith, eqb-true, nearest-here, on_chain-here)
+  nearest-by home c r p false off at next before on = grind (arith, on_next, false≢true, eq-eqb, nearest-next, on_above)
 
   nearest : (home c : ℕ) → package_of t c ≡ home → (r : ℕ) → is_on_chain t c r ≡ true → IsNearest home c r
   nearest home c at = climb t are (λ r. is_on_chain t c r ≡ true → IsNearest home c r)
@@ -67,21 +54,14 @@ module _ (t : ClassTable) (are : AreClasses t) where
       (λ r p link next before on. nearest-by home c r p (package_of t r == home) refl at next before on)
 
   entry-by : (c token r n : ℕ) (b : Bool) → nat_lt token 128 ≡ b → is_on_chain t c r ≡ true → dispatched t c token r ≡ Some n → HasEntry t c token r n
-  entry-by c token r n true few on runs = record {
-    class = r;
-    above = on;
-    below = on_chain-here t r;
-    shared = or_left (nat_lt token 128) (package_of t r == package_of t c) few;
-    entry = public-entry c r token n few runs;
-  }
+  entry-by c token r n true few on runs = grind (arith, on_chain-here, or-left, public-entry)
   entry-by c token r n false far on runs =
       let near = nearest (package_of t c) c refl r on in
       record {
         class = near.class;
         above = near.above;
         below = near.below;
-        shared = or_right (nat_lt token 128) (package_of t near.class == package_of t c)
-            (eq-eqb (package_of t near.class) (package_of t c) near.package_is);
+        shared = grind (arith, or-right, eq-eqb);
         entry = nearest-entry c r token near.class n far near.found runs;
       }
 
@@ -100,28 +80,12 @@ module _ (t : ClassTable) (are : AreClasses t) where
   -- a class between shares too, where packages fall along the chain
   pub shares-between : (c token k p : ℕ) → package_of t c ≤ package_of t p → package_of t p ≤ package_of t k → shares t c token k ≡ true
       → (shares t c token p ≡ true) × (shares t p token k ≡ true)
-  shares-between c token k p low high is = elim (or_cases (nat_lt token 128) (package_of t k == package_of t c) is) [
-    | inl few ↦ (or_left (nat_lt token 128) (package_of t p == package_of t c) few, or_left (nat_lt token 128) (package_of t k == package_of t p) few)
-    | inr alike ↦
-        let e = eqb-true (package_of t k) (package_of t c) alike in
-        let first : package_of t p ≡ package_of t c = omega (arith, e, low, high) in
-        let second : package_of t k ≡ package_of t p = omega (arith, e, low, high) in (
-          or_right (nat_lt token 128) (package_of t p == package_of t c) (eq-eqb (package_of t p) (package_of t c) first),
-          or_right (nat_lt token 128) (package_of t k == package_of t p) (eq-eqb (package_of t k) (package_of t p) second),
-        )
-  ]
+  shares-between c token k p low high is = grind (arith, or_cases, or-left, eqb-true, or-right, eq-eqb)
 
   -- what an object runs for the token of a subclass that shares it, it runs for that of the class
   moved : (c d token r n : ℕ) (b : Bool) → nat_lt token 128 ≡ b → shares t c token d ≡ true → dispatched t d token r ≡ Some n → dispatched t c token r ≡ Some n
   unfolding dispatched
-  moved c d token r n true few shared runs = rw few (rw few at runs)
-  moved c d token r n false far shared runs = elim (or_cases (nat_lt token 128) (package_of t d == package_of t c) shared) [
-    | inl few ↦ absurd (false≢true (sym far ∙ few))
-    | inr alike ↦
-        let e = eqb-true (package_of t d) (package_of t c) alike in
-        let same : slice_get (visible_in t (package_of t d) r) (token - 128) ≡ Some n = rw far at runs in
-        rw far (subst (λ (h : ℕ). slice_get (visible_in t h r) (token - 128) ≡ Some n) e same)
-  ]
+  moved c d token r n w few shared runs = grind (arith, or_cases, false≢true, eqb-true)
 
   pub dispatched-above : (c d token r n : ℕ) → shares t c token d ≡ true → dispatched t d token r ≡ Some n → dispatched t c token r ≡ Some n
   dispatched-above c d token r n shared runs = moved c d token r n (nat_lt token 128) refl shared runs

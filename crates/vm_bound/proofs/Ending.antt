@@ -106,14 +106,7 @@ module _ (t : ClassTable) (order : List ℕ) where
         ⊎_elim
         (λ k. ⊎_elim (λ was. wider u p (walk.apart u p (inl was) less)) (λ e. wider u p (walk.apart u p (inr (sym e)) less)) (Contains-push_cases begun at u k))
         (λ e. after u p e less) among;
-    under = λ q d l here. elim (cases_lt q at) [
-      | inl lower ↦ walk.under q d lower here
-      | inr past ↦
-          let same : at ≡ q = omega (arith, l, past) in
-          let one : c ≡ d = same_Some c d (sym (subst (λ (x : ℕ). slice_get order x ≡ Some c) same class) ∙ here) in
-          subst (λ (x : ℕ). IsUnderParent order ends q (parent_of t x)) one
-          (subst (λ (x : ℕ). IsUnderParent order ends x (parent_of t c)) same is)
-    ];
+    under = grind (arith, cases_lt, same_Some);
   }
     where
       wider : (u p : ℕ) → Contains begun p ⊎ (end_of ends p ≤ u) → Contains (begun ++ at ∷ []) p ⊎ (end_of ends p ≤ u)

@@ -1,6 +1,6 @@
 -- The edges of a graph of calls.
-use Rattle.std.proofs.Common.{◌≡◌, ℕ, ◌-◌, ◌<◌, ◌≤◌, inl, inr, suc, List, [], length, refl, sym, ap, subst, arith}
-use Rattle.std.specs.Prelude.{Option, Some, None, Contains, slice_get}
+use Rattle.std.proofs.Common.{◌≡◌, ℕ, ◌-◌, ◌<◌, ◌≤◌, inl, inr, suc, List, [], length, sym, ap, subst, arith}
+use Rattle.std.specs.Prelude.{Option, Some, None, slice_get}
 use Rattle.std.proofs.lemmas.Bool.{cases_lt}
 use Rattle.std.proofs.lemmas.Option.{slice_get_within}
 use Rattle.std.proofs.lemmas.List.{get_or_past}
@@ -8,14 +8,14 @@ use Rattle.jc_base.specs.Class.{chain}
 use Rattle.jc_base.specs.World.{Linked, IsWorld}
 use Rattle.jc_base.proofs.Chains.{next_on_chain}
 use Rattle.jc_base.proofs.Climbs.{parent_of-class}
-use Rattle.jc_base.proofs.Lists.{IsSomeAnd-some, slice_get-some}
+use Rattle.jc_base.proofs.Lists.{slice_get-some}
 use Rattle.digraph.specs.Graph.{Edge}
 use Rattle.law_chains.specs.Calls.{HasCode}
 use Rattle.jc_decode.proofs.Elements.{nothing-in}
 use Rattle.vm_bound.specs.declared.vertex.Meaning.{Meaning}
 use Rattle.vm_bound.specs.declared.vertex.Meaning.TheVariants.{Described, Entries, Span}
 use Rattle.vm_bound.specs.declared.vertex.Vertex.{Vertex}
-use Rattle.vm_bound.specs.declared.vertex.Vertex.TheVariants.{Method, Means}
+use Rattle.vm_bound.specs.declared.vertex.Vertex.TheVariants.{Means}
 use Rattle.vm_bound.specs.Vertices.{Stands}
 use Rattle.vm_bound.specs.Blocks.{IsHalf, blocks_of}
 use Rattle.vm_bound.specs.Edges.{Leads, LeadsToBlocks, leads_block, leads_below, leads_half}
@@ -23,9 +23,7 @@ use Rattle.vm_bound.specs.Rows.{HasVertex, IsCallGraph}
 
 -- a method with code has a number of the world
 pub code-inside : (w : Linked) (n : ℕ) → HasCode w n → n < length w.methods
-code-inside w n code =
-    let some = IsSomeAnd-some _ (slice_get w.methods n) code in
-    slice_get_within w.methods n some.0 some.1
+code-inside w n code = grind (arith, slice_get_within)
 
 -- how far below class object the class of entries is; and how far down a node
 pub depth : Linked → Meaning → ℕ
@@ -45,17 +43,12 @@ module _ (w : Linked) (world : IsWorld w) (g : List (List ℕ)) (graph : IsCallG
   count = length w.methods
 
   pub edge-inside : (v u : ℕ) → Edge g v u → v < length g
-  edge-inside v u e = elim (cases_lt v (length g)) [
-    | inl inside ↦ inside
-    | inr past ↦ absurd (nothing-in u (subst (λ (row : List ℕ). Contains row u) (get_or_past g v [] past) e))
-  ]
+  edge-inside v u e = grind (arith, cases_lt, nothing-in, get_or_past)
 
   -- the vertex at the end of an edge
   pub edge-from : (v : Vertex) (k u : ℕ) → Stands count graph.meanings v k → Edge g k u
       → HasVertex count graph.meanings (Leads w graph.spread v) u
-  edge-from v k u stands e =
-      let inside = edge-inside k u e in
-      (graph.rows v k inside stands).only u e
+  edge-from v k u stands e = grind (arith, edge-inside k u e)
 
   pub rank : ℕ → ℕ
   rank u = depth_in w (slice_get graph.meanings (u - count))
@@ -71,16 +64,12 @@ module _ (w : Linked) (world : IsWorld w) (g : List (List ℕ)) (graph : IsCallG
     where
       from-blocks : (n : Meaning) → LeadsToBlocks w.classes leads.rec (blocks_of graph.spread leads.rec.class) (Means n) → 0 < depth w n
       from-blocks n (leads_block {b = b} among told) = omega arith
-  deeper (Entries c token) n (leads_below {d = d} link shared) =
-      let e = (next_on_chain w.classes d c world.chains (parent_of-class w.classes d c link) link).chain_is in
-      let same = ap length e in
-      omega (arith, same)
+  deeper (Entries c token) n (leads_below {d = d} link shared) = grind (arith, next_on_chain, parent_of-class)
   deeper (Span x token) n (leads_half {y = y} pos inside half) = let more = half-rises x y pos half in omega (arith, more)
 
   vertex-meaning : (v : Vertex) (k : ℕ) → Stands count graph.meanings v k → count ≤ k
       → (m : Meaning) × ((v ≡ Means m) × (slice_get graph.meanings (k - count) ≡ Some m))
-  vertex-meaning (Method n) k stands far = let l = stands.0 in let e = stands.1 in absurd (omega (arith, l, e, far))
-  vertex-meaning (Means m) k stands far = (m, (refl, stands.1))
+  vertex-meaning x k stands far = grind (arith)
 
   pub rank-rises : (h k : ℕ) → count ≤ h → count ≤ k → Edge g h k → rank h < rank k
   rank-rises h k past far e =

@@ -24,13 +24,7 @@ module _ (t : ClassTable) (classes : AreClasses t) (interface : ℕ) (order ends
       within = (omega arith, ended.own p (slice_get_within order p c here))
 
       go : (o : Option ℕ) → IsByInnermost order ends naming p o → IsNearest t interface c o
-      go None none = absurd (none p among within)
-      go (Some by) has =
-          let most = has.1.last p among within in
-          let least = has.1.within.0 in
-          let same : has.0 ≡ p = omega (arith, most, least) in
-          let one : c ≡ by = same_Some c by (sym here ∙ subst (λ (x : ℕ). slice_get order x ≡ Some by) same has.2) in
-          subst (λ (x : ℕ). IsNearest t interface c (Some x)) one (nearest-itself t interface c names)
+      go x none = grind (arith, within, same_Some, nearest-itself)
 
   -- a class that does not name it is at no naming position
   elsewhere : (p c k : ℕ) → slice_get order p ≡ Some c → is_some (named t interface c) ≡ false → Contains naming k → ¬ (k ≡ p)

@@ -25,8 +25,7 @@ use Rattle.vm_bound.proofs.Subclassing.{added-count, added-here, added-there}
 
 finds : (i : ℕ) (entries : List Iface) (e : Iface) → IsAmong e entries → e.class ≡ i → is_some (find (Is i) entries) ≡ true
 finds i [] e among class = absurd among
-finds i (x ∷ xs) e (inl same) class =
-    ap is_some (find-yes (Is i) x xs (eq-eqb x.class i (ap (λ (y : Iface). y.class) same ∙ class)))
+finds i (x ∷ xs) e (inl same) class = grind (arith, find-yes, eq-eqb)
 finds i (x ∷ xs) e (inr more) class = here (Is i x) refl (finds i xs e more class)
   where
     here : (b : Bool) → Is i x ≡ b → is_some (find (Is i) xs) ≡ true → is_some (find (Is i) (x ∷ xs)) ≡ true

@@ -23,8 +23,7 @@ pub extends-on : (a b c : List Meaning) → Extends a b → Extends b c → Exte
 extends-on a b c first second = λ k m e. second k m (first k m e)
 
 pub stands-on : (methods : ℕ) (old new : List Meaning) (v : Vertex) (u : ℕ) → Extends old new → Stands methods old v u → Stands methods new v u
-stands-on methods old new (Method n) u more stands = stands
-stands-on methods old new (Means m) u more stands = (stands.0, more (u - methods) m stands.1)
+stands-on methods old new u u2 more stands = grind (arith)
 
 -- a vertex with the number of an early meaning was there
 pub stands-before : (methods : ℕ) (old new : List Meaning) (v : Vertex) (u : ℕ) → Extends old new → u < methods + length old
@@ -38,37 +37,26 @@ stands-before methods old new (Means m) u more low stands =
     (l, was.1 ∙ ap Some same)
 
 pub stands-inside : (methods : ℕ) (ms : List Meaning) (v : Vertex) (u : ℕ) → Stands methods ms v u → u < methods + length ms
-stands-inside methods ms (Method n) u stands = let l = stands.0 in let e = stands.1 in omega (arith, l, e)
-stands-inside methods ms (Means m) u stands =
-    let l = stands.0 in
-    let inside = slice_get_within ms (u - methods) m stands.1 in
-    omega (arith, l, inside)
+stands-inside methods ms z u stands = grind (arith, slice_get_within)
 
 pub method-there : (methods : ℕ) (ms : List Meaning) (v : Vertex) (u : ℕ) → Stands methods ms v u → u < methods → v ≡ Method u
-method-there methods ms (Method n) u stands l = ap Method (sym stands.1)
-method-there methods ms (Means m) u stands l = let far = stands.0 in absurd (omega (arith, far, l))
+method-there methods ms z u stands l = grind (arith)
 
 pub meaning-there : (methods : ℕ) (ms : List Meaning) (v : Vertex) (place : ℕ) (m : Meaning) → Stands methods ms v (methods + place)
     → slice_get ms place ≡ Some m → v ≡ Means m
-meaning-there methods ms (Method n) place m stands at = let l = stands.0 in let e = stands.1 in absurd (omega (arith, l, e))
-meaning-there methods ms (Means k) place m stands at =
-    let back : methods + place - methods ≡ place = omega arith in
-    ap Means (same_Some k m (sym stands.1 ∙ (ap (slice_get ms) back ∙ at)))
+meaning-there methods ms z place m stands at = grind (arith, same_Some)
 
 -- ---- a row
 
 has-later : (methods : ℕ) (old new : List Meaning) (IsOne : Vertex → Type 0) (u : ℕ) → Extends old new → HasVertex methods old IsOne u
     → HasVertex methods new IsOne u
-has-later methods old new IsOne u more has =
-    record { vertex = has.vertex; is_one = has.is_one; stands = stands-on methods old new has.vertex u more has.stands }
+has-later methods old new IsOne u more has = grind (arith, stands-on)
 
 pub numbers-later : (methods : ℕ) (old new : List Meaning) (IsOne : Vertex → Type 0) (row : List ℕ) → Extends old new
     → AreNumbers methods old IsOne row → AreNumbers methods new IsOne row
 numbers-later methods old new IsOne row more are = record {
   only = λ u c. has-later methods old new IsOne u more (are.only u c);
-  all = λ v is.
-      let has = are.all v is in
-      record { number = has.number; there = has.there; stands = stands-on methods old new v has.number more has.stands };
+  all = grind (arith, stands-on);
 }
 
 pub numbers-more : (methods : ℕ) (old new : List Meaning) (seen : List Vertex) (row : List ℕ) (v : Vertex) (u : ℕ) → Extends old new
@@ -110,8 +98,7 @@ all-fit w IsTarget vertices xs methods are e same =
 -- the same row, read by other names
 pub numbers-here : (w : Linked) (methods : ℕ) (ms : List Meaning) (vertices xs : List Vertex) (row : List ℕ) → xs ≡ vertices
     → methods ≡ length w.methods → AreNumbers methods ms (Contains xs) row → AreNumbers (length w.methods) ms (Contains vertices) row
-numbers-here w methods ms vertices xs row e same are =
-    subst (λ (m : ℕ). AreNumbers m ms (Contains vertices) row) same (subst (λ (ys : List Vertex). AreNumbers methods ms (Contains ys) row) e are)
+numbers-here w methods ms vertices xs row e same are = grind (arith)
 
 -- ---- all rows
 
@@ -135,17 +122,13 @@ rows-more w s old new rows row many more before here = λ v u l stands. elim (ca
 pub method-row : (w : Linked) (s : Spread) (ms : List Meaning) (m : ℕ) (vertices : List Vertex) (row : List ℕ) → m < length w.methods
     → AreTargets w (Leads w s (Method m)) vertices → AreNumbers (length w.methods) ms (Contains vertices) row
     → (v : Vertex) → Stands (length w.methods) ms v m → AreNumbers (length w.methods) ms (Leads w s v) row
-method-row w s ms m vertices row l targets are v stands =
-    subst (λ (x : Vertex). AreNumbers (length w.methods) ms (Leads w s x) row) (sym (method-there (length w.methods) ms v m stands l))
-    (numbers-of w (length w.methods) ms (Leads w s (Method m)) vertices row targets are)
+method-row w s ms m vertices row l targets are v stands = grind (arith, method-there, numbers-of)
 
 -- and of a meaning
 pub meaning-row : (w : Linked) (s : Spread) (ms : List Meaning) (place : ℕ) (m : Meaning) (vertices : List Vertex) (row : List ℕ)
     → slice_get ms place ≡ Some m → AreTargets w (Leads w s (Means m)) vertices → AreNumbers (length w.methods) ms (Contains vertices) row
     → (v : Vertex) → Stands (length w.methods) ms v (length w.methods + place) → AreNumbers (length w.methods) ms (Leads w s v) row
-meaning-row w s ms place m vertices row at targets are v stands =
-    subst (λ (x : Vertex). AreNumbers (length w.methods) ms (Leads w s x) row) (sym (meaning-there (length w.methods) ms v place m stands at))
-    (numbers-of w (length w.methods) ms (Leads w s (Means m)) vertices row targets are)
+meaning-row w s ms place m vertices row at targets are v stands = grind (arith, meaning-there, numbers-of)
 
 vertex-of : (w : Linked) (ms : List Meaning) (u : ℕ) → u < length w.methods + length ms → (v : Vertex) × Stands (length w.methods) ms v u
 vertex-of w ms u l = elim (cases_lt u (length w.methods)) [

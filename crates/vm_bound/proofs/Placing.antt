@@ -1,6 +1,7 @@
 -- Classes in an order.
-use Rattle.std.proofs.Common.{◌≡◌, ℕ, ◌+◌, ◌<◌, ◌≤◌, ◌⊎◌, inl, inr, ⊎_elim, Bool, true, false, if◌then◌else◌, List, [], ◌∷◌, ◌++◌, length, sym, ap}
-use Rattle.std.proofs.Common.{◌∙◌, subst, arith}
+use Rattle.std.proofs.Common.{◌≡◌, ℕ, ◌+◌, ◌<◌, ◌≤◌, ◌⊎◌, inl, inr, ⊎_elim, Bool}
+use Rattle.std.proofs.Common.{true, false, if◌then◌else◌, List, [], ◌∷◌, ◌++◌, length, sym}
+use Rattle.std.proofs.Common.{subst, arith}
 use Rattle.std.specs.Prelude.{Some, Contains, slice_get, ◌==◌}
 use Rattle.std.specs.List.{list_any}
 use Rattle.std.proofs.lemmas.Bool.{cases_lt, eqb-true}
@@ -68,7 +69,5 @@ contains-at xs p c e = (p, slice_get_within xs p c e, get_or_from_slice_get xs p
 pub placed-order : (t : ClassTable) (many : ℕ) (xs : List ℕ) → ArePlaced t (length t.records) many xs → IsOrder t xs
 placed-order t many xs placed = record {
   only = λ p c e. placed.only c (contains-at xs p c e);
-  all = λ c class.
-      let has = placed.all c class.number class in
-      (has.0, slice_get-get_or xs has.0 _ has.1 ∙ ap Some has.2);
+  all = grind (arith, slice_get-get_or);
 }

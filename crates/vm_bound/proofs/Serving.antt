@@ -1,6 +1,6 @@
 -- The nearest class whose own entry serves an interface.
-use Rattle.std.proofs.Common.{◌≡◌, ℕ, inl, inr, ⊎_elim, true, false, List, [], ◌∷◌, ◌++◌, length, refl, sym, ap, ◌∙◌, subst, arith}
-use Rattle.std.specs.Prelude.{Result, Ok, Err, IfOk, Option, Some, None, is_some, find, slice_get}
+use Rattle.std.proofs.Common.{◌≡◌, ℕ, inl, inr, ⊎_elim, true, false, List, [], ◌∷◌, ◌++◌, length, sym, ap, ◌∙◌, subst, arith}
+use Rattle.std.specs.Prelude.{Result, IfOk, Option, Some, None, is_some, find, slice_get}
 use Rattle.std.proofs.lemmas.Bool.{cases_lt, false≢true}
 use Rattle.std.proofs.lemmas.Option.{same_Some, none-some, slice_get_within}
 use Rattle.std.proofs.lemmas.List.{length-append, get_or_push, get_or_append_left}
@@ -13,17 +13,14 @@ use Rattle.vm_bound.specs.Blocks.{named, IsNearest, AreBlocks, AreBlocksOf, AreA
 use Rattle.vm_bound.specs.Runs.{AreRuns}
 
 some-there : {A : Type 0} (o : Option A) → is_some o ≡ true → (x : A) × (o ≡ Some x)
-some-there None e = absurd (false≢true e)
-some-there (Some x) e = (x, refl)
+some-there x e = grind (arith, false≢true)
 
 pub none-there : {A : Type 0} (o : Option A) → is_some o ≡ false → o ≡ None
-none-there None e = refl
-none-there (Some x) e = absurd (false≢true (sym e))
+none-there x e = grind (arith, false≢true)
 
 -- what follows for a value that is there
 pub ok-on : {A B : Type 0} (P Q : A → Type 0) → ((x : A) → P x → Q x) → (r : Result A B) → IfOk r P → IfOk r Q
-ok-on P Q f (Ok x) h = f x h
-ok-on P Q f (Err e) h = tt
+ok-on x y f u h = grind (arith)
 
 module _ (t : ClassTable) (interface : ℕ) where
   pub named-is : (c : ℕ) (r : ClassRec) → slice_get t.records c ≡ Some r → named t interface c ≡ find (Is interface) r.implements
@@ -36,8 +33,7 @@ module _ (t : ClassTable) (interface : ℕ) where
   -- another has that of its superclass
   pub nearest-above : (c p : ℕ) (by : Option ℕ) → IsNextOnChain t c p → is_some (named t interface c) ≡ false → IsNearest t interface p by
       → IsNearest t interface c by
-  nearest-above c p None next e near = serving-next t interface c p next (none-there (named t interface c) e) ∙ near
-  nearest-above c p (Some by) next e near = serving-next t interface c p next (none-there (named t interface c) e) ∙ near
+  nearest-above c p z next e near = grind (arith, serving-next, none-there)
 
   pub serving-above : (c p : ℕ) → IsNextOnChain t c p → is_some (named t interface c) ≡ false → serving t interface c ≡ serving t interface p
   serving-above c p next e = serving-next t interface c p next (none-there (named t interface c) e)
@@ -47,8 +43,7 @@ module _ (t : ClassTable) (interface : ℕ) where
 
   -- what serves a class serves another for which the same entry does
   pub nearest-same : (c d : ℕ) (by : Option ℕ) → serving t interface c ≡ serving t interface d → IsNearest t interface c by → IsNearest t interface d by
-  nearest-same c d None e near = sym e ∙ near
-  nearest-same c d (Some by) e near = sym e ∙ near
+  nearest-same c d z e near = grind (arith)
 
   -- ---- by position
 
@@ -58,16 +53,13 @@ module _ (t : ClassTable) (interface : ℕ) where
 
   pub nearest-at : (order : List ℕ) (at p c : ℕ) (by : Option ℕ) → slice_get order at ≡ Some c → p ≡ at → IsNearest t interface c by
       → IsByNearest order p by
-  nearest-at order at p c by here same near d there =
-      let one : c ≡ d = same_Some c d (sym here ∙ subst (λ (x : ℕ). slice_get order x ≡ Some d) same there) in
-      subst (λ (x : ℕ). IsNearest t interface x by) one near
+  nearest-at order at p c by here same near d there = grind (arith, same_Some)
 
   pub runs-blocks : (order : List ℕ) (blocks : List Block) → AreRuns (length order) (IsByNearest order) (length order) blocks
       → AreBlocks t order interface blocks
   runs-blocks order blocks runs = record {
     only = λ b among. let run = runs.only b among in record { node = run.node; serves = λ p c under at. run.same p under c at };
-    all = λ p c e at serves.
-        ⊎_elim (λ none. absurd (none-some e (sym (none c at) ∙ serves))) (λ has. has) (runs.all p (slice_get_within order p c at));
+    all = grind (arith, ⊎_elim, none-some, slice_get_within);
   }
 
 pub blocks-more : (t : ClassTable) (order : List ℕ) (all : List (List Block)) (blocks : List Block) (interface : ℕ) → length all ≡ interface

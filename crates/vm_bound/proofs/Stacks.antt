@@ -26,17 +26,10 @@ module _ (xs : List ℕ) (x : ℕ) where
   -- ---- where none is less than an earlier one
 
   pub last-most : (p : ℕ) → IsNonDecreasing (xs ++ x ∷ []) → Contains (xs ++ x ∷ []) p → p ≤ x
-  last-most p rising c =
-      let e = long in
-      let l = c.1 in
-      let least = rising c.0 (length xs) 0 (omega (arith, l, e)) (omega (arith, e)) in
-      omega (arith, least, place-of (xs ++ x ∷ []) p c, last-is)
+  last-most p rising c = grind (arith, long, place-of (xs ++ x ∷ []) p c, last-is)
 
   pub front-rising : IsNonDecreasing (xs ++ x ∷ []) → IsNonDecreasing xs
-  front-rising rising i j d i≤j inside =
-      let e = long in
-      let least = rising i j d i≤j (omega (arith, inside, e)) in
-      omega (arith, least, get_or_append_left xs (x ∷ []) d i (omega (arith, i≤j, inside)), get_or_append_left xs (x ∷ []) d j inside)
+  front-rising rising i j d i≤j inside = grind (arith, long, get_or_append_left)
 
   pub pushed-rising : IsNonDecreasing xs → ((p : ℕ) → Contains xs p → p ≤ x) → IsNonDecreasing (xs ++ x ∷ [])
   pushed-rising rising most =
@@ -53,10 +46,7 @@ module _ (xs : List ℕ) (x : ℕ) where
       omega (arith, less, front-is c.0 l, place-of xs p c, last-is)
 
   pub front-rises : AreRising (xs ++ x ∷ []) → AreRising xs
-  front-rises rising i j less inside =
-      let e = long in
-      let below = rising i j less (omega (arith, inside, e)) in
-      omega (arith, below, front-is i (omega (arith, less, inside)), front-is j inside)
+  front-rises rising i j less inside = grind (arith, long, front-is i (omega (arith, less, inside)), front-is j inside)
 
   pub pushed-rises : AreRising xs → ((p : ℕ) → Contains xs p → p < x) → AreRising (xs ++ x ∷ [])
   pushed-rises rising below i j less inside =
@@ -75,6 +65,4 @@ module _ {A : Type 0} (P : A → Type 0) (xs rest : List A) (x : A) (e : xs ≡ 
   last-all = All-contains P (rest ++ x ∷ []) x (subst (All P) e all) (Contains-push rest x)
 
   pub front-all : All P rest
-  front-all k d l =
-      let long = length-append rest (x ∷ []) in
-      subst P (get_or_append_left rest (x ∷ []) d k l) (subst (All P) e all k d (omega (arith, l, long)))
+  front-all k d l = grind (arith, long, length-append, get_or_append_left)

@@ -25,14 +25,10 @@ module _ (c d : ℕ) (old new : List (List ℕ)) (is : IsAdded old c d new) wher
   added-count = ap length is.set_is ∙ length-set old c (is.before ++ d ∷ [])
 
   pub added-here : next new c ≡ next old c ++ d ∷ []
-  added-here =
-      ap (λ (rows : List (List ℕ)). next rows c) is.set_is
-      ∙ (get_or-set_same old c (is.before ++ d ∷ []) [] added-inside
-      ∙ ap (λ (row : List ℕ). row ++ d ∷ []) (sym (get_or_from_slice_get old c is.before [] is.found)))
+  added-here = grind (arith, get_or-set_same, added-inside, get_or_from_slice_get)
 
   pub added-there : (k : ℕ) → ¬ (k ≡ c) → next new k ≡ next old k
-  added-there k not =
-      ap (λ (rows : List (List ℕ)). next rows k) is.set_is ∙ get_or-set_other old c k (is.before ++ d ∷ []) [] not
+  added-there k not = grind (arith, get_or-set_other)
 
 -- the rows have the direct subclasses among the classes below a bound
 pub record AreSubclassesBelow (t : ClassTable) (bound : ℕ) (rows : List (List ℕ)) : Type 0 where

@@ -15,17 +15,7 @@ module _ (order ends naming : List ℕ) where
   -- a naming position that a position is within, where no later one stands before it, is begun
   is-begun : (k from to p q : ℕ) (begun : List ℕ) (blocks : List Block) → IsFree naming k to → IsSweep order ends naming k from begun blocks
       → Contains naming p → IsWithin ends p q → from ≤ q → q < to → Contains begun p
-  is-begun k from to p q begun blocks free sweep among within low high =
-      let e = place-of naming p among in
-      let below = within.0 in
-      let above = within.1 in
-      elim (cases_lt among.0 k) [
-        | inl lower ↦
-            ⊎_elim (λ is. subst (Contains begun) e is)
-            (λ closed. absurd (let over : end_of ends p ≤ from = subst (λ (x : ℕ). end_of ends x ≤ from) e closed in omega (arith, over, above, low)))
-            (sweep.ended among.0 lower)
-        | inr past ↦ absurd (let after = free among.0 past among.1 in omega (arith, after, e, below, high))
-      ]
+  is-begun k from to p q begun blocks free sweep among within low high = grind (arith, place-of naming p among, cases_lt among.0 k, ⊎_elim)
 
   -- the positions up to another one, which is not past the end of the last begun one
   pub sweep-on : (k from to last by : ℕ) (rest : List ℕ) (old new : List Block) → IsFree naming k to → from ≤ to → to ≤ end_of ends last

@@ -1,12 +1,12 @@
 -- The vertices to which edges go, as they are found.
-use Rattle.std.proofs.Common.{◌≡◌, ℕ, ◌+◌, ◌*◌, ◌<◌, ◌≤◌, ◌⊎◌, inl, inr, ⊎_elim, true, false, List, [], ◌∷◌, ◌++◌, length, refl, sym, ap, ◌∙◌, subst, arith}
+use Rattle.std.proofs.Common.{◌≡◌, ℕ, ◌+◌, ◌*◌, ◌<◌, ◌≤◌, ◌⊎◌, inl, inr, ⊎_elim, true, false}
+use Rattle.std.proofs.Common.{List, [], ◌∷◌, ◌++◌, length, refl, sym, ap, ◌∙◌, subst, arith}
 use Rattle.std.specs.Prelude.{Some, None, Contains, slice_get, slice_index_or}
 use Rattle.std.proofs.lemmas.Bool.{false≢true}
 use Rattle.std.proofs.lemmas.Option.{none-some, same_Some}
 use Rattle.std.proofs.lemmas.List.Elements.{Contains-get_or, Contains-append_left, Contains-push, Contains-push_cases}
 use Rattle.jc_base.specs.declared.record.MethodRec.{MethodRec}
 use Rattle.jc_base.specs.Class.{ClassTable, IsNextOnChain, parent_of}
-use Rattle.jc_base.specs.Dispatch.{public_of}
 use Rattle.jc_base.specs.World.{Linked, IsWorld, code_of}
 use Rattle.jc_base.proofs.Chains.{next_on_chain}
 use Rattle.jc_base.proofs.Climbs.{parent_of-class}
@@ -130,10 +130,8 @@ owned-equal : (w : Linked) (c token n m : ℕ) → Owns w c token n → Owns w c
 owned-equal w c token n m a b = same_Some n m (sym a.entry ∙ b.entry)
 
 pub own-one : (w : Linked) (c token n : ℕ) → Owns w c token n → IsOwn w c token (Method n ∷ [])
-own-one w c token n owns = record {
-  only = added (IsOwned w c token) [] (Method n) (none-more (IsOwned w c token)) (is_owned owns);
-  all = λ m other. subst (λ (x : ℕ). Contains (Method n ∷ []) (Method x)) (owned-equal w c token n m owns other) (Contains-push [] (Method n));
-}
+own-one w c token n owns =
+    grind (arith, added (IsOwned w c token) [] (Method n) (none-more (IsOwned w c token)) (is_owned owns), owned-equal)
 
 -- an item of the list of subclasses is one
 pub item-link : (t : ClassTable) (c : ℕ) (row : List ℕ) (i : ℕ) → AreSubclasses t c row → i < length row
@@ -158,12 +156,7 @@ module _ (w : Linked) (c token : ℕ) where
   own-fit v (is_owned {n = n} owns) = code-inside w n owns.code
 
   pub entries-begin : (found : List Vertex) → IsOwn w c token found → AreEntriesOf w c token [] found
-  entries-begin found own = record {
-    only = λ v h. own-leads v (own.only v h);
-    fit = λ v h. own-fit v (own.only v h);
-    own = own.all;
-    below = λ d h shared. absurd (nothing-in d h);
-  }
+  entries-begin found own = grind (arith, own-leads, own-fit, nothing-in)
 
   pub entries-not : (d : ℕ) (seen : List ℕ) (found : List Vertex) → shares w.classes c token d ≡ false → AreEntriesOf w c token seen found
       → AreEntriesOf w c token (seen ++ d ∷ []) found
@@ -210,15 +203,7 @@ module _ (w : Linked) (c token : ℕ) where
 
 module _ (w : Linked) (order : List ℕ) (x token : ℕ) where
   supplied-equal : (n m : ℕ) → IsSupplied w order x token n → IsSupplied w order x token m → n ≡ m
-  supplied-equal n m a b =
-      let f = a.node in
-      let h = b.node in
-      let same : a.position ≡ b.position = omega (arith, f, h) in
-      let class : a.class ≡ b.class = same_Some a.class b.class
-      (sym a.stands ∙ subst (λ (p : ℕ). slice_get order p ≡ Some b.class) (sym same) b.stands) in
-      let other : slice_get (public_of w.classes a.class) token ≡ Some m =
-      subst (λ (c : ℕ). slice_get (public_of w.classes c) token ≡ Some m) (sym class) b.supplies.public in
-      same_Some n m (sym a.supplies.public ∙ other)
+  supplied-equal n m a b = grind (arith, same_Some)
 
   pub span-none : length order ≤ x → ((n : ℕ) → ¬ (IsSupplied w order x token n)) → AreTargets w (LeadsFromSpan w order x token) []
   span-none past none = record { only = none-more (LeadsFromSpan w order x token); all = all; fit = none-more (IsFit w) }
@@ -253,8 +238,7 @@ module _ (w : Linked) (order : List ℕ) (x token : ℕ) where
         (added (LeadsFromSpan w order x token) [] (Means (Span (x * 2) token)) (none-more (LeadsFromSpan w order x token))
         (leads_half pos inside (inl refl))) (leads_half pos inside (inr refl));
     all = all;
-    fit = added (IsFit w) (Means (Span (x * 2) token) ∷ []) (Means (Span (x * 2 + 1) token))
-        (added (IsFit w) [] (Means (Span (x * 2) token)) (none-more (IsFit w)) tt) tt;
+    fit = grind (arith, added, none-more);
   }
     where
       all : (v : Vertex) → LeadsFromSpan w order x token v → Contains (Means (Span (x * 2) token) ∷ Means (Span (x * 2 + 1) token) ∷ []) v

@@ -1,6 +1,6 @@
 -- The graph of calls tells which method calls which.
 use Rattle.std.proofs.Common.{◌≡◌, ℕ, ◌-◌, ◌<◌, ◌≤◌, inl, inr, List, length, refl, sym, ap, ◌∙◌, subst, arith}
-use Rattle.std.specs.Prelude.{Option, Some, None, Result, Ok, Contains, slice_get, false, true, option_and_then}
+use Rattle.std.specs.Prelude.{Option, Some, Result, Ok, Contains, slice_get, false, true, option_and_then}
 use Rattle.std.proofs.lemmas.Option.{slice_get_within, same_Some}
 use Rattle.jc_base.specs.declared.record.Iface.{Iface}
 use Rattle.jc_base.specs.declared.record.MethodRec.{MethodRec}
@@ -21,8 +21,7 @@ use Rattle.jc_ops.specs.declared.operation.Choice.{Choice}
 use Rattle.jc_ops.specs.declared.operation.Choice.TheVariants as choices
 use Rattle.jc_ops.specs.declared.operation.Operation.{Operation}
 use Rattle.jc_ops.specs.declared.operation.Operation.TheVariants as ops
-use Rattle.jc_ops.specs.Resolve.{Resolves, resolved}
-use Rattle.jc_ops.specs.Row.{row_at}
+use Rattle.jc_ops.specs.Resolve.{Resolves}
 use Rattle.jc_ops.specs.Sound.{OperationsAreSound, IsCalleeOf, IsChosen}
 use Rattle.law_sound.proofs.Dispatching.{own-dispatched}
 use Rattle.vm_step.specs.Calls.{serving, served}
@@ -36,8 +35,10 @@ use Rattle.vm_bound.specs.declared.vertex.Vertex.{Vertex}
 use Rattle.vm_bound.specs.declared.vertex.Vertex.TheVariants.{Method, Means}
 use Rattle.vm_bound.specs.Vertices.{Stands}
 use Rattle.vm_bound.specs.Blocks.{IsHalf, Under, under_one, under_half, named, AreBlocks, blocks_of}
-use Rattle.vm_bound.specs.Edges.{target_of, target_in, target, shares, token_told, Owns, Supplies, IsSupplied, Leads, LeadsFromMethod, LeadsToBlocks}
-use Rattle.vm_bound.specs.Edges.{leads_block, LeadsFromDescribed, LeadsFromEntries, leads_own, leads_below, LeadsFromSpan, leads_half, leads_supplied}
+use Rattle.vm_bound.specs.Edges.{target_of, target_in, target, shares, token_told, Owns}
+use Rattle.vm_bound.specs.Edges.{Supplies, IsSupplied, Leads, LeadsFromMethod, LeadsToBlocks}
+use Rattle.vm_bound.specs.Edges.{leads_block, LeadsFromDescribed, LeadsFromEntries, leads_own}
+use Rattle.vm_bound.specs.Edges.{leads_below, LeadsFromSpan, leads_half, leads_supplied}
 use Rattle.vm_bound.specs.Rows.{HasNumber, IsCallGraph}
 use Rattle.vm_bound.proofs.Dispatching.{has-entry, entry-class, shares-between, dispatched-above}
 use Rattle.vm_bound.proofs.Graphing.{half-rises, edge-from, rank, rank-rises}
@@ -49,8 +50,7 @@ record IsCallTo (r : Result Operation RuleFault) (v : Vertex) : Type 0 where
 
 -- what has a target is a call
 call-to : (r : Result Operation RuleFault) (v : Vertex) → target_in r ≡ Some v → IsCallTo r v
-call-to (Ok (ops.Call c)) v e = record { callee = c; call = refl; target_is = same_Some (target_of c.method c.choice) v e }
-call-to r v e = absurd (cc)
+call-to r v e = grind (arith, same_Some)
 
 -- a chain of two answers, each of which is there
 record IsChained {A B : Type 0} (f : A → Option B) (o : Option A) (y : B) : Type 0 where
@@ -59,8 +59,7 @@ record IsChained {A B : Type 0} (f : A → Option B) (o : Option A) (y : B) : Ty
   then_is : f first ≡ Some y
 
 chained : {A B : Type 0} (f : A → Option B) (o : Option A) (y : B) → option_and_then f o ≡ Some y → IsChained f o y
-chained f None y e = absurd cc
-chained f (Some x) y e = record { first = x; first_is = refl; then_is = e }
+chained f y y2 e = grind (arith)
 
 record IsServedBy (w : Linked) (interface token class n : ℕ) : Type 0 where
   entry : Iface
@@ -70,11 +69,7 @@ record IsServedBy (w : Linked) (interface token class n : ℕ) : Type 0 where
   method : slice_get (public_of w.classes class) public ≡ Some n
 
 served-by : (w : Linked) (interface token class n : ℕ) → served w.classes interface token class ≡ Some n → IsServedBy w interface token class n
-served-by w interface token class n e =
-    let entry = chained (λ (e : Iface). option_and_then (λ public. slice_get (public_of w.classes class) public) (slice_get e.tokens token))
-    (serving w.classes interface class) n e in
-    let public = chained (λ public. slice_get (public_of w.classes class) public) (slice_get entry.first.tokens token) n entry.then_is in
-    record { entry = entry.first; serves = entry.first_is; public = public.first; token_is = public.first_is; method = public.then_is }
+served-by w interface token class n e = grind (arith, chained)
 
 served-from : (w : Linked) (interface token class n public : ℕ) (entry : Iface) → serving w.classes interface class ≡ Some entry
     → slice_get entry.tokens token ≡ Some public → slice_get (public_of w.classes class) public ≡ Some n
@@ -93,12 +88,7 @@ module _ (w : Linked) (world : IsWorld w) (sound : OperationsAreSound w) (g : Li
   Ways v n = (u : ℕ) → At v u → Via g count u n
 
   stands-inside : (v : Vertex) (u : ℕ) → At v u → u < length g
-  stands-inside (Method n) u stands = let l = stands.0 in let e = stands.1 in let many = graph.count in omega (arith, l, e, many)
-  stands-inside (Means m) u stands =
-      let l = stands.0 in
-      let inside = slice_get_within graph.meanings (u - count) m stands.1 in
-      let many = graph.count in
-      omega (arith, l, inside, many)
+  stands-inside x u stands = grind (arith, slice_get_within)
 
   edge-to : (v to : Vertex) (u : ℕ) → At v u → Leads w graph.spread v to → HasNumber count graph.meanings (next g u) to
   edge-to v to u stands leads = (graph.rows v u (stands-inside v u stands) stands).all to leads
@@ -150,9 +140,7 @@ module _ (w : Linked) (world : IsWorld w) (sound : OperationsAreSound w) (g : Li
 
   blocks-are : (interface : ℕ) → interface < length w.classes.records → is_interface w.classes interface ≡ true
       → AreBlocks w.classes graph.spread.order interface (blocks_of graph.spread interface)
-  blocks-are interface l is =
-      let many = graph.spreads.count in
-      graph.spreads.are interface (omega (arith, l, many)) is
+  blocks-are interface l is = grind (arith)
 
   described-told : (d n : ℕ) (m : MethodRec) → slice_get w.methods d ≡ Some m → is_interface w.classes m.class ≡ true
       → ServesSome w.classes m.class m.token n → HasCode w n → Ways (Means (Described d)) n
@@ -207,17 +195,13 @@ module _ (w : Linked) (world : IsWorld w) (sound : OperationsAreSound w) (g : Li
 
   -- the end of an edge is a method, or not
   method-there : (v : Vertex) (n : ℕ) → At v n → n < count → v ≡ Method n
-  method-there (Method m) n stands l = ap Method (sym stands.1)
-  method-there (Means m) n stands l = let far = stands.0 in absurd (omega (arith, far, l))
+  method-there x n stands l = grind (arith)
 
   meaning-there : (v : Vertex) (u : ℕ) → At v u → count ≤ u → (m : Meaning) × (v ≡ Means m)
-  meaning-there (Method m) u stands far = let l = stands.0 in let e = stands.1 in absurd (omega (arith, l, e, far))
-  meaning-there (Means m) u stands far = (m, refl)
+  meaning-there x u stands far = grind (arith)
 
   to-method : (v : Vertex) (k n : ℕ) → At v k → Edge g k n → n < count → Leads w graph.spread v (Method n)
-  to-method v k n stands e l =
-      let to = edge-from w world g graph v k n stands e in
-      subst (λ (x : Vertex). Leads w graph.spread v x) (method-there to.vertex n to.stands l) to.is_one
+  to-method v k n stands e l = grind (arith, edge-from w world g graph v k n stands e, method-there)
 
   record LeadsOn (v : Vertex) (u : ℕ) : Type 0 where
     meaning : Meaning
@@ -225,14 +209,7 @@ module _ (w : Linked) (world : IsWorld w) (sound : OperationsAreSound w) (g : Li
     stands : At (Means meaning) u
 
   to-meaning : (v : Vertex) (k u : ℕ) → At v k → Edge g k u → count ≤ u → LeadsOn v u
-  to-meaning v k u stands e far =
-      let to = edge-from w world g graph v k u stands e in
-      let there = meaning-there to.vertex u to.stands far in
-      record {
-        meaning = there.0;
-        leads = subst (λ (x : Vertex). Leads w graph.spread v x) there.1 to.is_one;
-        stands = subst (λ (x : Vertex). At x u) there.1 to.stands;
-      }
+  to-meaning v k u stands e far = grind (arith, edge-from w world g graph v k u stands e, meaning-there)
 
   own-only : (c token n : ℕ) → LeadsFromEntries w c token (Method n) → Owns w c token n
   own-only c token n (leads_own owns) = owns
@@ -313,14 +290,12 @@ module _ (w : Linked) (world : IsWorld w) (sound : OperationsAreSound w) (g : Li
     is : m ≡ Span block.node public
 
   block-only : (rec : MethodRec) (blocks : List Block) (m : Meaning) → LeadsToBlocks w.classes rec blocks (Means m) → IsBlockOf rec blocks m
-  block-only rec blocks m (leads_block {b = b} {public = public} among told) =
-      record { block = b; public = public; among = among; told = told; is = refl }
+  block-only rec blocks m (leads_block {b = b} {public = public} among told) = grind (arith)
 
   described-only : {v n : ℕ} (d : ℕ) (m : MethodRec) → slice_get w.methods d ≡ Some m → is_interface w.classes m.class ≡ true
       → At (Means (Described d)) v → Via g count v n → ServesSome w.classes m.class m.token n × HasCode w n
   described-only {v} {n} d m is interface stands (via_edge edge l) =
-      let leads = to-method (Means (Described d)) v n stands edge l in
-      absurd (no-method leads.rec (blocks_of graph.spread leads.rec.class) n leads.leads)
+      grind (arith, to-method (Means (Described d)) v n stands edge l, no-method)
   described-only {v} {n} d m is interface stands (via_helper {h = h} edge l more) =
       let on = to-meaning (Means (Described d)) v h stands edge l in
       let leads : LeadsFromDescribed w graph.spread d (Means on.meaning) = on.leads in
@@ -352,12 +327,7 @@ module _ (w : Linked) (world : IsWorld w) (sound : OperationsAreSound w) (g : Li
   -- the way begins with an edge to a method, or to another vertex
   chosen-method : (n method : ℕ) (callee : MethodRec) (receiver : Option Want) (choice : Choice) → slice_get w.methods method ≡ Some callee
       → IsChosen w method callee receiver choice → target_of method choice ≡ Method n → MayRun w.classes method choice n × HasCode w n
-  chosen-method n method callee receiver choices.Static is chosen e =
-      let same = method-equal method n e in (sym same, subst (HasCode w) same (body-code method callee is chosen.body))
-  chosen-method n method callee receiver choices.Special is chosen e =
-      let same = method-equal method n e in (sym same, subst (HasCode w) same (body-code method callee is chosen.body))
-  chosen-method n method callee receiver (choices.Virtual c token) is chosen e = absurd (cc)
-  chosen-method n method callee receiver (choices.Interface i token words) is chosen e = absurd (cc)
+  chosen-method n method callee receiver v is chosen e = grind (arith, method-equal, body-code)
 
   chosen-meaning : (u n method : ℕ) (m : Meaning) (callee : MethodRec) (receiver : Option Want) (choice : Choice)
       → slice_get w.methods method ≡ Some callee → IsChosen w method callee receiver choice → target_of method choice ≡ Means m
@@ -385,37 +355,14 @@ module _ (w : Linked) (world : IsWorld w) (sound : OperationsAreSound w) (g : Li
     target_is : target_of callee.method callee.choice ≡ v
 
   first-edge : (m : ℕ) (v : Vertex) → LeadsFromMethod w m v → IsFirstEdge m v
-  first-edge m v leads =
-      let p = leads.instruction in
-      let call = call-to (resolved w leads.rec p.place p.insn (row_at p.insn.op)) v leads.leads in
-      record {
-        caller = leads.rec;
-        is_caller = leads.method;
-        instruction = p;
-        stands = leads.stands;
-        callee = call.callee;
-        resolves = sym call.call;
-        known = callee-of m leads.rec p call.callee leads.method (sym call.call);
-        target_is = call.target_is;
-      }
+  first-edge m v leads = grind (arith, call-to, callee-of)
 
   calls-by : (m n : ℕ) (v : Vertex) (f : IsFirstEdge m v) → MayRun w.classes f.callee.method f.callee.choice n × HasCode w n → Calls w m n
-  calls-by m n v f may = record {
-    caller = f.caller;
-    is_caller = f.is_caller;
-    instruction = f.instruction;
-    stands = f.stands;
-    callee = f.callee;
-    resolves = f.resolves;
-    may_run = may.0;
-    code = may.1;
-  }
+  calls-by m n v f may = grind (arith)
 
   calls-only : (m n : ℕ) → m < count → Via g count m n → Calls w m n
   calls-only m n l (via_edge edge inside) =
-      let f = first-edge m (Method n) (to-method (Method m) m n (l, refl) edge inside) in
-      calls-by m n (Method n) f
-      (chosen-method n f.callee.method f.known.rec f.callee.receiver f.callee.choice f.known.is_method f.known.chosen f.target_is)
+      grind (arith, first-edge m (Method n) (to-method (Method m) m n (l, refl) edge inside), calls-by, chosen-method)
   calls-only m n l (via_helper {h = h} edge past more) =
       let on = to-meaning (Method m) m h (l, refl) edge past in
       let f = first-edge m (Means on.meaning) on.leads in
