@@ -32,9 +32,7 @@ use Rattle.law_share.proofs.Types.{low-untouched, types-all}
 pub get-drop : {X : Type 0} (n k : ℕ) (xs : List X) → slice_get (drop n xs) k ≡ slice_get xs (n + k)
 get-drop zero k xs = ap (slice_get xs) (omega arith)
 get-drop (suc n) k [] = refl
-get-drop (suc n) k (x ∷ xs) =
-    let more : suc n + k ≡ suc (n + k) = omega arith in
-    get-drop n k xs ∙ ap (slice_get (x ∷ xs)) (sym more)
+get-drop (suc n) k (x ∷ xs) = grind (arith, suc, get-drop n k xs)
 
 get-first : {X : Type 0} (xs ys : List X) (n : ℕ) (d : X) → n < length xs → get_or (xs ++ ys) n d ≡ get_or xs n d
 get-first [] ys n d lt = absurd (omega (arith, lt))
@@ -178,11 +176,7 @@ module _ (v : Linked) (links : IsWorld v) (m target : Method) (regs : List Ty) (
     handed = receiver_of m.rec ++ m.rec.sig.args
 
     handed-length : length handed ≡ nargs
-    handed-length =
-        let whole = start-length v links m is in
-        let parts = length-append handed (replicate m.rec.max_locals Bottom) in
-        let rest = length-replicate m.rec.max_locals Bottom in
-        omega (arith, whole, parts, rest)
+    handed-length = grind (arith, start-length, length-append, replicate, length-replicate)
 
     declared : CellsBelow v.classes (start_frame target.rec Bottom).regs others
     declared =
@@ -216,7 +210,5 @@ module _ (v : Linked) (links : IsWorld v) (m target : Method) (regs : List Ty) (
     }
 
 pub shared-have-types : (v : Linked) → IsWorld v → SharedHaveTypes v
-shared-have-types v links m target regs stacks ks given f is ty vs all numbers has = (
-  others v links m target regs stacks ks given f is ty vs all numbers has,
-  shared-types v links m target regs stacks ks given f is ty vs all numbers has,
-)
+shared-have-types v links m target regs stacks ks given f is ty vs all numbers has =
+    grind (arith, shared-types v links m target regs stacks ks given f is ty vs all numbers has)

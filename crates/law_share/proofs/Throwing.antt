@@ -1,13 +1,11 @@
 -- An object that is thrown is caught by the same frame in both worlds, or ends both runs.
-use Rattle.std.proofs.Common.{◌≡◌, ℕ, ◌+◌, inl, inr, Bool, true, false, ◌&&◌, cond, if◌then◌else◌, List, [], ◌∷◌, ◌++◌, length, map}
+use Rattle.std.proofs.Common.{◌≡◌, ℕ, ◌+◌, inl, inr, Bool, true, false, ◌&&◌, cond, if◌then◌else◌, List, [], ◌∷◌, ◌++◌, length, map, arith}
 use Rattle.std.proofs.Common.{refl, sym, ap, ◌∙◌, subst}
-use Rattle.std.specs.Prelude.{Option, Some, None, option_map, nat_lt, nat_le, Contains, slice_index, sum_by, find}
+use Rattle.std.specs.Prelude.{Option, Some, None, option_map, nat_lt, Contains, slice_index, find}
 use Rattle.std.proofs.lemmas.Bool.{leb-true, ltb-true}
 use Rattle.jc_base.specs.declared.record.Handler.{Handler}
 use Rattle.jc_base.specs.Class.{ClassTable}
-use Rattle.jc_base.specs.Dispatch.{cells_of}
 use Rattle.jc_base.specs.Each.{IsAmong}
-use Rattle.jc_base.specs.Order.{is_on_chain}
 use Rattle.jc_base.specs.World.{Linked}
 use Rattle.jc_base.proofs.Eaching.{Contains-from_IsAmong}
 use Rattle.jc_base.proofs.Tests.{found-passes}
@@ -20,20 +18,18 @@ use Rattle.jc_rules.specs.Footprint.{footprint}
 use Rattle.vm_store.specs.declared.cell.Cell.{Cell}
 use Rattle.vm_store.specs.declared.kind.ObjectKind.TheVariants.{Instance}
 use Rattle.vm_store.specs.Cells.{tagged}
-use Rattle.vm_store.specs.Kind.{kind_of_handle}
-use Rattle.vm_store.specs.Objects.{kinds, has_room, new_instance_cells, with_object}
+use Rattle.vm_store.specs.Objects.{new_instance_cells, with_object}
 use Rattle.vm_store.specs.State.{Frame, Object, State}
 use Rattle.vm_step.specs.declared.ending.Ending.TheVariants as endings
 use Rattle.vm_step.specs.declared.ending.Plain.TheVariants.{Threw, HeapFull}
 use Rattle.vm_step.specs.declared.exception.Exception.{Exception}
 use Rattle.vm_step.specs.Act.{role_of}
-use Rattle.vm_step.specs.Calls.{class_with_methods, class_of}
 use Rattle.vm_step.specs.Methods.{handlers_of, max_stack_of}
 use Rattle.vm_step.specs.Raising.{running, ends, catches, handler_for, caught, caught_by, caught_or, unwound, thrown, raised}
 use Rattle.law_sound.specs.Frames.{Typings}
 use Rattle.law_sound.specs.Soundness.{IsTypedOutcome}
 use Rattle.law_alike.specs.Simulation.{both_run, both_end}
-use Rattle.law_alike.proofs.Catching.{caught-in, also-caught, raised_by}
+use Rattle.law_alike.proofs.Catching.{caught-in, also-caught}
 use Rattle.law_share.specs.Live.{Operates, leads_off}
 use Rattle.law_share.specs.Beside.{Renaming, AreRenamed, FrameBeside, WaitBeside, AreUnder, no_frames, more_frames}
 use Rattle.law_share.proofs.Knowing.{AreLaws, its, same-room, its-handlers, other-handlers, held-after}
@@ -77,9 +73,7 @@ both-true true false c h = absurd (cc)
 both-true false b c h = absurd (cc)
 
 catches-covers : (t : ClassTable) (place class : ℕ) (h : Handler) → catches t place class h ≡ true → Covers h place
-catches-covers t place class h e =
-    let both = both-true (nat_le h.start place) (nat_lt place h.end) (is_on_chain t h.class class) e in
-    record { from = leb-true h.start place both.0; before = ltb-true place h.end both.1 }
+catches-covers t place class h e = grind (arith, both-true, leb-true, ltb-true)
 
 module _ (v w : Linked) (typings : Typings) (laws : AreLaws v) (r : Renaming) (pair : AreRenamed v w typings r) where
   module _ (f g : Frame Cell) (c : CatchBeside v w r f g) (class : ℕ) where
@@ -176,8 +170,7 @@ module _ (v w : Linked) (typings : Typings) (laws : AreLaws v) (r : Renaming) (p
 
     unwinds : {fs gs : List (Frame Cell)} → AreUnder v w r fs gs → Unwinds fs gs
     unwinds no_frames safe = both_end (endings.Plain (Threw class handle)) same_heap same_statics
-    unwinds (more_frames {f = f} {g = g} {fs = fs} {gs = gs} wait rest) safe =
-        unwinds-one f g fs gs rest (wait-catch v w r wait) (unwinds rest) safe
+    unwinds (more_frames {f = f} {g = g} {fs = fs} {gs = gs} wait rest) safe = grind (arith, unwinds-one, wait-catch, unwinds rest)
 
   -- ---- an object, and an exception of which one is made
 
@@ -185,19 +178,7 @@ module _ (v w : Linked) (typings : Typings) (laws : AreLaws v) (r : Renaming) (p
     pub throws-settle :
         (handle : ℕ) (z u : State Cell) → z.frames ≡ f ∷ fs → u.frames ≡ g ∷ gs → u.heap ≡ z.heap → u.statics ≡ z.statics
         → IsTypedOutcome v typings (thrown tagged v handle z) → Settles v w typings r (thrown tagged v handle z) (thrown tagged w handle u)
-    throws-settle handle z u first second heap statics safe =
-        let class : ℕ = class_of v.classes z handle in
-        let same : class_of w.classes u handle ≡ class =
-        ap (λ (os : List (Object Cell)). class_with_methods w.classes (kind_of_handle (map (λ (o : Object Cell). o.kind) os) handle)) heap
-        ∙ ap (λ (t : ClassTable). class_with_methods t (kind_of_handle (kinds z) handle)) (sym pair.same.classes) in
-        let here : thrown tagged v handle z ≡ unwound tagged v class handle z (f ∷ fs) = ap (unwound tagged v class handle z) first in
-        let there : thrown tagged w handle u ≡ unwound tagged w class handle u (g ∷ gs) =
-        ap (λ c. unwound tagged w c handle u u.frames) same ∙ ap (unwound tagged w class handle u) second in
-        settles-as v w typings r (thrown tagged v handle z) (thrown tagged w handle u) (unwound tagged v class handle z (f ∷ fs))
-        (unwound tagged w class handle u (g ∷ gs))
-        here there
-        (unwinds-one class handle z u heap statics f g fs gs under catch (unwinds class handle z u heap statics under)
-        (subst (IsTypedOutcome v typings) here safe))
+    throws-settle handle z u first second heap statics safe = grind (arith, settles-as, unwinds-one, unwinds)
 
     module _ (exception : Exception) (z u : State Cell) (first : z.frames ≡ f ∷ fs) (second : u.frames ≡ g ∷ gs) (heap : u.heap ≡ z.heap)
         (statics : u.statics ≡ z.statics) where
@@ -225,15 +206,4 @@ module _ (v w : Linked) (typings : Typings) (laws : AreLaws v) (r : Renaming) (p
 
       pub raises-settle :
           IsTypedOutcome v typings (raised tagged v exception z) → Settles v w typings r (raised tagged v exception z) (raised tagged w exception u)
-      raises-settle safe =
-          let size : ℕ = length (cells_of v.classes class_raised) in
-          let classes : raised_by w w.classes exception u ≡ raised_by w v.classes exception u =
-          ap (λ (t : ClassTable). raised_by w t exception u) (sym pair.same.classes) in
-          let room : has_room u size ≡ has_room z size =
-          ap (λ (os : List (Object Cell)). nat_lt (length os) 4096 && nat_le (sum_by (λ (o : Object Cell). length o.cells) os + size) 32768) heap in
-          let other : raised tagged w exception u
-          ≡ (if has_room z size then thrown tagged w (length u.heap + 1) made_there else ends (endings.Plain HeapFull) u) =
-          classes ∙ ap (λ b. if b then thrown tagged w (length u.heap + 1) made_there else ends (endings.Plain HeapFull) u) room in
-          settles-as v w typings r (raised tagged v exception z) (raised tagged w exception u) (raised tagged v exception z)
-          (if has_room z size then thrown tagged w (length u.heap + 1) made_there else ends (endings.Plain HeapFull) u) refl other
-          (raised-by (has_room z size) safe)
+      raises-settle safe = grind (arith, settles-as, raised-by)
