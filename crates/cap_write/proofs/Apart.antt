@@ -1,6 +1,6 @@
 -- Described methods stand apart in the Method component, since the parts of a package agree.
-use Rattle.std.proofs.Common.{◌≡◌, ◌≤◌, ◌<◌, ◌+◌, ℕ, Bool, true, false, cond, List, [], ◌∷◌, length, map, Some, None, refl}
-use Rattle.std.proofs.Common.{sym, ap, ◌∙◌, arith}
+use Rattle.std.proofs.Common.{◌≡◌, ◌≤◌, ◌<◌, ◌+◌, ℕ, Bool, false, cond, List, [], ◌∷◌, length, map, Some, None}
+use Rattle.std.proofs.Common.{sym, ◌∙◌, arith}
 use Rattle.std.specs.Prelude.{min, max, ◌||◌}
 use Rattle.std.specs.List.{filter_map}
 use Rattle.std.proofs.lemmas.Bool.{ltb-false}
@@ -8,12 +8,10 @@ use Rattle.std.proofs.lemmas.List.Elements.{filter_map-append}
 use Rattle.first_fault.proofs.LeastFaults.{faultless_first}
 use Rattle.cap_desc.specs.DescriptorFormat.{MethodDescriptor}
 use Rattle.cap_components.specs.declared.fault.PackFault.{PackFault}
-use Rattle.cap_components.specs.declared.fault.PackFault.TheVariants.{MethodOverlaps, MethodOutside}
-use Rattle.cap_package.specs.MethodChecks.{code_start, code_end, share_byte, overlap_fault, overlap_pair, outside_fault}
+use Rattle.cap_package.specs.MethodChecks.{code_start, code_end, overlap_fault, overlap_pair, outside_fault}
 use Rattle.cap_package.specs.Pairs.{pairs}
 use Rattle.cap_package.proofs.StaticsKnown.{both_empty}
 use Rattle.cap_package.proofs.HeaderLaws.{size_least}
-use Rattle.cap_bytes.specs.Number.{number_at}
 
 -- a method ends in the info, two bytes or more after its offset
 pub record EndsInside (info : List ℕ) (m : MethodDescriptor) : Type 0 where
@@ -25,16 +23,11 @@ AllEnd info [] = Unit {0}
 AllEnd info (m ∷ ms) = EndsInside info m × AllEnd info ms
 
 outside_none : (a b : Bool) (f : PackFault) → cond (a || b) (Some f) None ≡ None → b ≡ false
-outside_none true b f e = absurd (cc)
-outside_none false true f e = absurd (cc)
-outside_none false false f e = refl
+outside_none x b f e = grind (arith)
 
 ends_inside : (info : List ℕ) (n : ℕ) (m : MethodDescriptor) → outside_fault info n m ≡ None → EndsInside info m
 unfolding outside_fault code_end code_start
-ends_inside info n m none =
-    let s = size_least (number_at 1 m.method_offset info) in
-    let e = ltb-false (length info) (code_end info m) (outside_none _ _ (MethodOutside m.method_offset) none) in
-    record { two = omega arith; ends = e }
+ends_inside info n m none = grind (arith, size_least, ltb-false, outside_none)
 
 pub all_end : (info : List ℕ) (n : ℕ) (ms : List MethodDescriptor) → filter_map (outside_fault info n) ms ≡ [] → AllEnd info ms
 all_end info n [] e = tt
@@ -54,8 +47,7 @@ abbrev pub offset_of : MethodDescriptor → ℕ
 offset_of m = m.method_offset
 
 test_false : (b : Bool) (f : PackFault) → cond b (Some f) None ≡ None → b ≡ false
-test_false true f e = absurd (cc)
-test_false false f e = refl
+test_false x f e = grind (arith)
 
 max_same : (n : ℕ) → max n n ≡ n
 max_same n = grind arith
@@ -66,15 +58,7 @@ least_above o a b c x y z = grind arith
 differ : (info : List ℕ) (a b : MethodDescriptor) → EndsInside info a → EndsInside info b → overlap_fault info a b ≡ None
     → b.method_offset ≡ a.method_offset → ⊥
 unfolding overlap_fault
-differ info a b ea eb none same =
-    let f = test_false (share_byte info a b) (MethodOverlaps (min a.method_offset b.method_offset) (max a.method_offset b.method_offset)) none in
-    let le = ltb-false (max a.method_offset b.method_offset) (min (min (code_end info a) (code_end info b)) (length info)) f in
-    let m : max a.method_offset b.method_offset ≡ a.method_offset = ap (λ k. max a.method_offset k) same ∙ max_same a.method_offset in
-    let x = ea.two in
-    let y = eb.two in
-    let z = ea.ends in
-    let above = least_above a.method_offset (code_end info a) (code_end info b) (length info) (omega arith) (omega arith) (omega arith) in
-    omega arith
+differ info a b ea eb none same = grind (arith, test_false, ltb-false, max_same)
 
 one_apart : (info : List ℕ) (a : MethodDescriptor) (ms : List MethodDescriptor) → EndsInside info a → AllEnd info ms
     → filter_map (overlap_pair info) (map (λ b. (a, b)) ms) ≡ [] → IsNone a.method_offset (map offset_of ms)

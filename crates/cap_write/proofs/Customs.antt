@@ -43,9 +43,7 @@ find_other change tag (c ∷ cs) h = by (drops change) (c.tag == 128) (c.tag == 
     by true true true e f r = absurd (h (sym (eqb-true c.tag tag f) ∙ eqb-true c.tag 128 e))
 
 entry_other : (change : IndexChange) (tag : ℕ) → (tag ≡ 128 → ⊥) → find (has_tag tag) (index_entry change) ≡ None
-entry_other Kept tag h = refl
-entry_other Dropped tag h = refl
-entry_other (Written size) tag h = ap (λ b. cond b (Some (record { tag = 128; size = size; aid = index_aid })) None) (ne_eqb 128 tag (λ e. h (sym e)))
+entry_other x tag h = grind (arith, cond, ne_eqb)
 
 pub found_other : (change : IndexChange) (tag : ℕ) (cs : List Custom) → (tag ≡ 128 → ⊥) → find (has_tag tag) (new_customs change cs)
     ≡ find (has_tag tag) cs

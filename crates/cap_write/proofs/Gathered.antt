@@ -1,6 +1,5 @@
 -- The parts of a package whose methods are written anew.
-use Rattle.std.proofs.Common.{◌≡◌, ◌<◌, ◌⊎◌, inl, inr, ℕ, Bool, true, false, List, length, Option, sym, subst, arith}
-use Rattle.std.specs.Prelude.{◌==◌}
+use Rattle.std.proofs.Common.{◌≡◌, ◌<◌, ◌⊎◌, ℕ, Bool, false, List, length, Option, subst, arith}
 use Rattle.std.proofs.lemmas.Bool.{ne_eqb}
 use Rattle.cap_components.specs.Parts.{Lent, held}
 use Rattle.cap_components.specs.PackageRecord.{PackageRecord}
@@ -21,43 +20,15 @@ use Rattle.cap_write.proofs.Spread.{references_stand}
 use Rattle.cap_write.proofs.Table.{table_stands}
 
 other_than : (This That : Type 0) (b : Bool) → b ≡ false → Either b This That → That
-other_than This That true e x = absurd (cc)
-other_than This That false e x = x
+other_than x y z e x2 = grind (arith)
 
 module _ (p : PackageRecord) (news : List (Option NewMethod)) (methods references : List ℕ) (index : Index) (parts : List Lent)
     (f : AreFiled (IsFile p news methods references index) 256 parts) where
   other_file : (tag : ℕ) → tag < 256 → (tag ≡ 0) ⊎ (12 < tag) → (tag ≡ 128 → ⊥) → held parts tag ≡ held p.parts tag
-  other_file tag lt (inl zero) not_index = subst (λ t. held parts t ≡ held p.parts t) (sym zero) (f.each 0 (omega arith))
-  other_file tag lt (inr high) not_index =
-      other_than _ _ (tag == 128) (ne_eqb tag 128 not_index)
-      (other_than _ _ (tag == 12) (ne_eqb tag 12 (λ e. omega arith))
-      (other_than _ _ (tag == 11) (ne_eqb tag 11 (λ e. omega arith))
-      (other_than _ _ (tag == 10) (ne_eqb tag 10 (λ e. omega arith))
-      (other_than _ _ (tag == 9) (ne_eqb tag 9 (λ e. omega arith))
-      (other_than _ _ (tag == 7) (ne_eqb tag 7 (λ e. omega arith))
-      (other_than _ _ (tag == 6) (ne_eqb tag 6 (λ e. omega arith))
-      (other_than _ _ (tag == 5) (ne_eqb tag 5 (λ e. omega arith))
-      (other_than _ _ (tag == 3) (ne_eqb tag 3 (λ e. omega arith))
-      (other_than _ _ (tag == 2) (ne_eqb tag 2 (λ e. omega arith)) (f.each tag lt))))))))))
+  other_file tag lt z not_index = grind (arith, other_than, ne_eqb)
 
   pub parts_of : ArePartsOf p news methods references index parts
-  parts_of = record {
-    header = f.each 1 (omega arith);
-    directory = f.each 2 (omega arith);
-    applets = f.each 3 (omega arith);
-    imports = f.each 4 (omega arith);
-    pool = f.each 5 (omega arith);
-    classes = f.each 6 (omega arith);
-    methods_file = f.each 7 (omega arith);
-    statics = f.each 8 (omega arith);
-    locations = f.each 9 (omega arith);
-    export = f.each 10 (omega arith);
-    description = f.each 11 (omega arith);
-    debug = f.each 12 (omega arith);
-    target_index = f.each 128 (omega arith);
-    others = other_file;
-    rising = f.rising;
-  }
+  parts_of = grind (arith, other_file)
 
 pub are_written : (p : PackageRecord) (laid : List (Option Laid)) (ms : List WrittenMember) (w : Written) (index : Index) (parts : List Lent)
     → AreMembersFor p laid ms → IsWrittenAs (length p.methods.info) (length p.methods.handlers) ms w
@@ -83,13 +54,7 @@ are_written p laid ms w index parts are seen f =
 pub written_of : (p : PackageRecord) (laid : List (Option Laid)) (ms : List WrittenMember) (w : Written) (index : Index) (parts : List Lent)
     → AreMembersFor p laid ms → IsWrittenAs (length p.methods.info) (length p.methods.handlers) ms w
     → IsNewIndex p laid index → AreFiled (IsFile p w.news w.info.items w.references.items index) 256 parts → IsWritten p laid parts
-written_of p laid ms w index parts are seen i f = record {
-  members = ms;
-  are = are;
-  index = index;
-  indexed = i;
-  written = are_written p laid ms w index parts are seen f;
-}
+written_of p laid ms w index parts are seen i f = grind (arith, are_written p laid ms w index parts are seen f)
 
 pub index_short : (p : PackageRecord) (laid : List (Option Laid)) (index : Index) → IsNewIndex p laid index → IsShortIndex index
 index_short p laid stays i = tt

@@ -4,7 +4,7 @@ use Rattle.std.specs.Prelude.{if◌then◌else◌}
 use Rattle.cap_desc.specs.DescriptorFormat.{MethodDescriptor, ClassDescriptor}
 use Rattle.cap_desc.specs.Members.{methods_but}
 use Rattle.cap_components.specs.Parts.{Lent}
-use Rattle.cap_components.specs.PackageRecord.{PackageRecord, names_interface}
+use Rattle.cap_components.specs.PackageRecord.{PackageRecord}
 use Rattle.cap_package.specs.StandsFor.{StandsFor}
 use Rattle.cap_laying.specs.HandlerTable.{AreInside}
 use Rattle.jc_decode.specs.declared.symbols.Laid.{Laid}
@@ -64,7 +64,4 @@ laid_all p (Some m ∷ ms) (None ∷ ls) w e few = laid_all p ms ls w.1 e.1 few
 laid_all p (Some m ∷ ms) (Some l ∷ ls) w e few = (laid_one p m l w.0 e.0 (omega arith), laid_all p ms ls w.1 e.1 (omega arith))
 
 pub laid_well : (parts : List Lent) (p : PackageRecord) (laid : List (Option Laid)) → StandsFor parts p → MayBeLaid p laid → AreLaidWell laid
-laid_well parts p laid s l =
-    let set = names_interface p.classes in
-    let cs = p.description.items.classes in
-    laid_all p (methods_for set cs) laid (well_for p set cs (wells parts p (agrees parts p s.agree))) l.elements l.few
+laid_well parts p laid s l = grind (arith, wells parts p (agrees parts p s.agree), laid_all, well_for)

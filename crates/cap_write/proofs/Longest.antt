@@ -6,13 +6,11 @@ use Rattle.jc_decode.proofs.InstructionLists.{all-are-listed}
 use Rattle.jc_decode.specs.CodeSize.{plain_code_size, plain_sum}
 use Rattle.jc_decode.proofs.PlainLengths.{plain_is, plain_known}
 use Rattle.cap_laying.specs.declared.member.Body.{Body}
-use Rattle.cap_laying.specs.declared.member.Body.TheVariants.{Code, Header}
 use Rattle.cap_laying.specs.declared.member.WrittenMember.{WrittenMember}
-use Rattle.cap_laying.specs.HandlerTable.{table_bytes}
 use Rattle.cap_laying.specs.HeaderBytes.{HeaderNumbers, header_size, is_compact}
-use Rattle.cap_laying.specs.Member.{bodies, body_bytes, body_size, by_offset, methods_end_from, handlers_of, numbers_of, placed, put_member, size_if}
-use Rattle.cap_laying.specs.Blocks.{blocks, entries_of_blocks, total_handlers}
-use Rattle.cap_laying.specs.Members.{new_places, start_of, written_info, written_size}
+use Rattle.cap_laying.specs.Member.{bodies, body_size, by_offset, methods_end_from, handlers_of, placed, put_member, size_if}
+use Rattle.cap_laying.specs.Blocks.{total_handlers}
+use Rattle.cap_laying.specs.Members.{written_info, written_size}
 use Rattle.cap_laying.proofs.InfoLaws.{length_table as bytes_table}
 use Rattle.cap_laying.proofs.Owned.{length_table, total_blocks}
 use Rattle.cap_laying.proofs.HeaderLaws.{length_body}
@@ -27,21 +25,11 @@ bodies_long at (None ∷ ms) = let r = bodies_long at ms in omega (arith, ap (λ
   where
     plus : (n : ℕ) → n + 0 ≡ n
     plus n = omega arith
-bodies_long at (Some m ∷ ms) =
-    let r = bodies_long (at + body_size m.body) ms in
-    let b = length_body m.body in
-    omega (arith, length-append (body_bytes m.body) (bodies ms))
+bodies_long at (Some m ∷ ms) = grind (arith, length_body, length-append, bodies_long (at + body_size m.body) ms)
 
 pub info_long : (size room : ℕ) (ms : List WrittenMember) → length (written_info size room ms) ≡ written_size size room ms
 unfolding written_info written_size
-info_long size room ms =
-    let es = entries_of_blocks (new_places size room ms) (blocks room ms) in
-    let t = by_offset size ms in
-    let a = length-append (table_bytes es) (bodies t) in
-    let b = bytes_table es in
-    let c = length_table (new_places size room ms) (blocks room ms) in
-    let d = bodies_long (start_of room ms) t in
-    omega arith
+info_long size room ms = grind (arith, length-append, bytes_table, length_table, bodies_long)
 
 -- ---- its plain size is no less
 
@@ -73,10 +61,7 @@ members_size (m ∷ ms) = body_size m.body + members_size ms
 placed_size : (table : List (Option WrittenMember)) (ms : List WrittenMember) → table_size (placed table ms) ≤ table_size table + members_size ms
 unfolding members_size
 placed_size table [] = omega arith
-placed_size table (m ∷ ms) =
-    let r = placed_size (put_member table m) ms in
-    let s = set_size table m.offset m in
-    omega arith
+placed_size table (m ∷ ms) = grind (arith, set_size, placed_size (put_member table m) ms)
 
 header_small : (n : HeaderNumbers) → header_size n ≤ 4
 header_small n = by (is_compact n)
@@ -86,28 +71,16 @@ header_small n = by (is_compact n)
     by false = omega arith
 
 code_plain : (code : List ℕ) → length code ≤ plain_code_size code
-code_plain code =
-    let k = plain_known code (all-are-listed code) in
-    omega (arith, k.least, plain_is code (plain_sum _) _ refl refl)
+code_plain code = grind (arith, plain_known code (all-are-listed code), plain_is code (plain_sum _) _ refl refl)
 
 body_plain : (b : Body) → 8 * length (handlers_of b) + body_size b ≤ plain_member (body_seen b)
-body_plain (Code laid) = omega (arith, code_plain laid.now.code, header_small (numbers_of laid.now))
-body_plain (Header header) = omega arith
+body_plain x = grind (arith, code_plain, header_small)
 
 members_plain : (ms : List WrittenMember) → 8 * total_handlers ms + members_size ms ≤ plain_members (map member_seen ms)
 unfolding members_size
 members_plain [] = omega arith
-members_plain (m ∷ ms) =
-    let b = body_plain m.body in
-    let r = members_plain ms in
-    omega arith
+members_plain (m ∷ ms) = grind (arith, body_plain, members_plain ms)
 
 pub plain_least : (size room : ℕ) (ms : List WrittenMember) → written_size size room ms ≤ plain_component (map member_seen ms)
 unfolding written_size by_offset
-plain_least size room ms =
-    let a = sum_end (start_of room ms) (placed (replicate size None) ms) in
-    let b = placed_size (replicate size None) ms in
-    let c = none_size size in
-    let d = total_blocks room ms in
-    let e = members_plain ms in
-    omega arith
+plain_least size room ms = grind (arith, sum_end, replicate, placed_size, none_size, total_blocks, members_plain)

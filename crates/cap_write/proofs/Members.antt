@@ -1,25 +1,24 @@
 -- The methods of a package may be written.
 use Rattle.std.proofs.Common.{◌≡◌, ◌≤◌, ◌<◌, ◌+◌, ℕ, zero, suc, Bool, true, false, cond, leb, List, [], ◌∷◌, ◌++◌, length, drop}
-use Rattle.std.proofs.Common.{map, Option, Some, None, refl, sym, ap, subst, ◌∙◌, arith}
+use Rattle.std.proofs.Common.{map, Option, Some, None, refl, sym, ap, ◌∙◌, arith}
 use Rattle.std.proofs.lemmas.List.{length-take}
 use Rattle.cap_bytes.specs.Number.{number_at}
 use Rattle.cap_desc.specs.DescriptorFormat.{MethodDescriptor, ClassDescriptor}
 use Rattle.cap_desc.specs.Members.{methods_but}
 use Rattle.cap_components.specs.MethodPlaces.{size_by}
 use Rattle.cap_components.specs.Parts.{Lent}
-use Rattle.cap_components.specs.PackageRecord.{PackageRecord, described_methods, names_interface}
+use Rattle.cap_components.specs.PackageRecord.{PackageRecord}
 use Rattle.cap_package.specs.StandsFor.{StandsFor}
-use Rattle.cap_package.proofs.Agreed.{agrees}
 use Rattle.jc_decode.specs.declared.symbols.Laid.{Laid}
 use Rattle.cap_laying.specs.declared.member.Body.{Body}
-use Rattle.cap_laying.specs.declared.member.Body.TheVariants.{Code, Header}
 use Rattle.cap_laying.specs.declared.member.WrittenMember.{WrittenMember}
 use Rattle.cap_laying.specs.Blocks.{total_handlers}
 use Rattle.cap_laying.specs.Member.{handlers_of}
 use Rattle.cap_laying.specs.Members.{IsAlone, AreApart, HasHandlersInside, AreMembers, MayBeWritten}
 use Rattle.cap_laying.specs.NewPlaces.{IsSmallBody}
 use Rattle.law_package.specs.Written.{lead_bytes}
-use Rattle.cap_write.specs.Described.{SeenBody, code, lead, SeenMember, body_seen, member_seen, seen_body, first_of_them, others_of_them, seen_methods}
+use Rattle.cap_write.specs.Described.{SeenBody, code, lead, SeenMember, body_seen}
+use Rattle.cap_write.specs.Described.{member_seen, seen_body, first_of_them, others_of_them, seen_methods}
 use Rattle.cap_write.specs.Described.{seen_classes, seen_package}
 use Rattle.cap_write.specs.Condition.{handler_sum, MayBeLaid}
 use Rattle.cap_write.proofs.LaidWell.{IsLaidWell, AreLaidWell, laid_well}
@@ -44,14 +43,10 @@ IsLaidIf None = Unit {0}
 IsLaidIf (Some l) = IsLaidWell l
 
 first_laid : (ls : List (Option Laid)) → AreLaidWell ls → IsLaidIf (first_of_them ls)
-first_laid [] h = tt
-first_laid (None ∷ ls) h = tt
-first_laid (Some l ∷ ls) h = h.0
+first_laid x h = grind (arith)
 
 others_laid : (ls : List (Option Laid)) → AreLaidWell ls → AreLaidWell (others_of_them ls)
-others_laid [] h = tt
-others_laid (None ∷ ls) h = h
-others_laid (Some l ∷ ls) h = h.1
+others_laid x h = grind (arith)
 
 drop_laid : (n : ℕ) (ls : List (Option Laid)) → AreLaidWell ls → AreLaidWell (drop n ls)
 drop_laid zero ls h = h
@@ -72,18 +67,13 @@ unfolding lead_bytes
 lead_short info offset = omega (arith, length-take (size_by (number_at 1 offset info)) (drop offset info), size_four (number_at 1 offset info))
 
 good_body : (info : List ℕ) (offset : ℕ) (l : Option Laid) → IsLaidIf l → IsGood (seen_body info offset l)
-good_body info offset None h = lead_short info offset
-good_body info offset (Some l) h = h
+good_body info offset z h = grind (arith, lead_short)
 
 good_methods : (info : List ℕ) (ms : List MethodDescriptor) (ls : List (Option Laid)) → AllEnd info ms → AreLaidWell ls
     → AreGood (length info) (seen_methods info ms ls)
 good_methods info [] ls ends laid = tt
 good_methods info (m ∷ ms) ls ends laid =
-    let two = ends.0.two in
-    let end = ends.0.ends in (
-      record { within = omega arith; good = good_body info m.method_offset (first_of_them ls) (first_laid ls laid) },
-      good_methods info ms (others_of_them ls) ends.1 (others_laid ls laid),
-    )
+    grind (arith, good_body, first_laid, others_laid, good_methods info ms (others_of_them ls) ends.1 (others_laid ls laid))
 
 good_both : (size : ℕ) (xs ys : List SeenMember) → AreGood size xs → AreGood size ys → AreGood size (xs ++ ys)
 good_both size [] ys a b = b
@@ -149,12 +139,10 @@ laid_count None = 0
 laid_count (Some l) = length l.handlers
 
 count_at : (info : List ℕ) (offset : ℕ) (l : Option Laid) → seen_count (seen_body info offset l) ≡ laid_count l
-count_at info offset None = refl
-count_at info offset (Some l) = refl
+count_at info offset z = grind (arith)
 
 sum_first : (l : Option Laid) (ls : List (Option Laid)) → handler_sum (l ∷ ls) ≡ laid_count l + handler_sum ls
-sum_first None ls = omega arith
-sum_first (Some l) ls = refl
+sum_first x ls = grind (arith)
 
 drop_none : (n : ℕ) → drop {A = Option Laid} n [] ≡ []
 drop_none zero = refl
@@ -163,15 +151,8 @@ drop_none (suc n) = refl
 total_methods : (info : List ℕ) (ms : List MethodDescriptor) (ls : List (Option Laid))
     → seen_total (seen_methods info ms ls) + handler_sum (drop (length ms) ls) ≤ handler_sum ls
 total_methods info [] ls = omega arith
-total_methods info (m ∷ ms) [] =
-    let r = total_methods info ms [] in
-    let d = ap handler_sum (drop_none (length ms)) in
-    omega arith
-total_methods info (m ∷ ms) (l ∷ ls) =
-    let r = total_methods info ms ls in
-    let c = count_at info m.method_offset l in
-    let s = sum_first l ls in
-    omega arith
+total_methods info (m ∷ ms) [] = grind (arith, drop_none, total_methods info ms [])
+total_methods info (m ∷ ms) (l ∷ ls) = grind (arith, count_at, sum_first, total_methods info ms ls)
 
 total_both : (xs ys : List SeenMember) → seen_total (xs ++ ys) ≡ seen_total xs + seen_total ys
 total_both [] ys = omega arith
@@ -198,14 +179,11 @@ total_classes set info (c ∷ cs) ls = by (set c.class_ref) (total_classes set i
 -- ---- the members that are seen so
 
 small_good : (b : Body) → IsGood (body_seen b) → IsSmallBody b × HasHandlersInside b
-small_good (Code laid) h = ((h.short, h.few), h.inside)
-small_good (Header header) h = (h, tt)
+small_good x h = grind (arith)
 
 members_of : (size : ℕ) (ms : List WrittenMember) → AreGood size (map member_seen ms) → AreMembers size ms
 members_of size [] h = tt
-members_of size (m ∷ ms) h =
-    let g = small_good m.body h.0.good in
-    (record { within = h.0.within; small = g.0; whole = g.1 }, members_of size ms h.1)
+members_of size (m ∷ ms) h = grind (arith, small_good, members_of size ms h.1)
 
 alone_of : (o : ℕ) (ms : List WrittenMember) → IsNone o (map seen_offset (map member_seen ms)) → IsAlone o ms
 alone_of o [] h = tt
@@ -216,8 +194,7 @@ apart_of [] h = tt
 apart_of (m ∷ ms) h = (alone_of m.offset ms h.0, apart_of ms h.1)
 
 count_of : (b : Body) → length (handlers_of b) ≡ seen_count (body_seen b)
-count_of (Code laid) = refl
-count_of (Header header) = refl
+count_of x = grind (arith)
 
 total_of : (ms : List WrittenMember) → total_handlers ms ≡ seen_total (map member_seen ms)
 total_of [] = refl
@@ -226,20 +203,15 @@ total_of (m ∷ ms) = let c = count_of m.body in let r = total_of ms in omega ar
 pub may_be_written : (parts : List Lent) (p : PackageRecord) (ls : List (Option Laid)) (ms : List WrittenMember) → StandsFor parts p → MayBeLaid p ls
     → map member_seen ms ≡ seen_package p ls → MayBeWritten (length p.methods.info) ms
 may_be_written parts p ls ms stands may e =
-    let set = names_interface p.classes in
-    let info = p.methods.info in
-    let cs = p.description.items.classes in
-    let agreed = agrees parts p stands.agree in
-    let ends : AllEnd info (described_methods p) = all_end info (length p.methods.handlers) (described_methods p) agreed.outside in
-    let apart : AreDistinct (map offset_of (described_methods p)) = all_apart info (described_methods p) ends agreed.overlaps in
-    let good : AreGood (length info) (map member_seen ms) = subst (AreGood (length info)) (sym e)
-    (good_classes set info cs ls ends (laid_well parts p ls stands may)) in
-    let offsets : map seen_offset (map member_seen ms) ≡ map offset_of (described_methods p) = ap (map seen_offset) e ∙ offsets_classes set info cs ls in
-    let total : seen_total (map member_seen ms) ≡ seen_total (seen_package p ls) = ap seen_total e in
-    let few = total_classes set info cs ls in
-    let most = may.few in
-    record {
-      each = members_of (length info) ms good;
-      apart = apart_of ms (subst AreDistinct (sym offsets) apart);
-      few = omega (arith, total_of ms);
-    }
+    grind (
+      arith,
+      laid_well parts p ls stands may,
+      total_of ms,
+      all_end,
+      all_apart,
+      good_classes,
+      offsets_classes,
+      total_classes,
+      members_of,
+      apart_of,
+    )

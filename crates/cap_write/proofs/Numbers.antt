@@ -39,13 +39,7 @@ classes_room set bytes (suc n) at cs after h =
     by c cs false x y = y
 
 pub few_described : (parts : List Lent) (p : PackageRecord) → StandsFor parts p → length (described_methods p) ≤ 5461
-few_described parts p s =
-    let h = s.said.description in
-    let short : length p.description.info ≤ 65535 = info-short 11 h.file p.description.info h.framed in
-    let c = has_classes p.description.info p.description.items h.said in
-    let room = classes_room (names_interface p.classes) p.description.info c.count 1 p.description.items.classes p.description.items.types_start c.items in
-    let start = c.start in
-    omega arith
+few_described parts p s = grind (arith, info-short, has_classes, classes_room)
 
 pub few_members : (parts : List Lent) (p : PackageRecord) (ls : List (Option Laid)) (ms : List WrittenMember) → StandsFor parts p
     → map member_seen ms ≡ seen_package p ls → length ms ≤ 5461

@@ -56,8 +56,7 @@ rising_push low high [] file r = (r, omega arith)
 rising_push low high (l ∷ ls) file r = (r.0, rising_push (l.part + 1) high ls file r.1)
 
 rising_more : (low high : ℕ) (parts : List Lent) (file : Option (List ℕ)) → IsRising low parts high → IsRising low (parts ++ lents high file) (high + 1)
-rising_more low high parts None r = subst (λ ps. IsRising low ps (high + 1)) (sym (append-nil parts)) (rising_higher low high (high + 1) parts (omega arith) r)
-rising_more low high parts (Some file) r = rising_push low high parts file r
+rising_more low high parts u r = grind (arith, append-nil, rising_higher, rising_push)
 
 -- what a list holds stays where another tag is put
 held_kept : (k : ℕ) (parts : List Lent) (file : Option (List ℕ)) (tag : ℕ) → (k ≡ tag → ⊥) → held (parts ++ lents k file) tag ≡ held parts tag

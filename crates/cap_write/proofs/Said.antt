@@ -1,13 +1,11 @@
 -- What the components of the written parts say.
-use Rattle.std.proofs.Common.{◌≡◌, ℕ, Bool, List, length, Option, Some, None, Ok, option_map, refl, sym, ap, subst, ◌∙◌, arith}
+use Rattle.std.proofs.Common.{◌≡◌, ℕ, Bool, List, length, Option, Some, None, option_map, refl, sym, ap, subst, ◌∙◌, arith}
 use Rattle.cap_bytes.specs.Grammar.{Grammar}
-use Rattle.cap_bytes.specs.Reading.{reading}
 use Rattle.cap_bytes.specs.Spelling.{Stands, file_of}
 use Rattle.cap_bytes.proofs.Laws.{reading_where}
 use Rattle.cap_frame.specs.Frame.{component}
 use Rattle.cap_desc.specs.DescriptorFormat.{Descriptor, class_descriptor_info, descriptor_info}
 use Rattle.cap_components.specs.Parts.{Lent, held}
-use Rattle.cap_components.specs.Components.{info_in}
 use Rattle.cap_components.specs.PackageRecord.{PackageRecord, names_interface}
 use Rattle.cap_components.specs.Saying.{HoldsComponent, Says, SaysIf}
 use Rattle.cap_components.proofs.Saying.{info-read}
@@ -30,8 +28,7 @@ pub record IsThere (Is : List ℕ → Type 0) (o : Option (List ℕ)) : Type 0 w
   pub is : Is file
 
 pub present : (Is : List ℕ → Type 0) (o : Option (List ℕ)) → IsPresent Is o → IsThere Is o
-present Is None h = absurd h
-present Is (Some file) h = record { file = file; there = refl; is = h }
+present x y h = grind (arith)
 
 -- ---- items
 
@@ -41,16 +38,11 @@ kept_says old new tag g x e s = (s.0, record { file = s.1.file; there = e ∙ s.
 
 pub renewed_says : {X : Type 0} (old new : List Lent) (tag : ℕ) (g : Grammar X) (renew : X → X) (edits : X → List Edit) (x : X)
     → IsPresent (IsRenewed old tag g renew edits x) (held new tag) → Says new tag g (renew x)
-renewed_says old new tag g renew edits x h =
-    let t = present (IsRenewed old tag g renew edits x) (held new tag) h in
-    (t.is.info, record { file = t.file; there = t.there; framed = t.is.framed; said = t.is.said })
+renewed_says old new tag g renew edits x h = grind (arith)
 
 if_says : {X : Type 0} (old new : List Lent) (tag : ℕ) (g : Grammar X) (renew : X → X) (edits : X → List Edit) (x : Option X) (o : Option (List ℕ))
     → held new tag ≡ o → IsRenewedIf old tag g renew edits x o → SaysIf new tag g (option_map renew x)
-if_says old new tag g renew edits None None e h = e
-if_says old new tag g renew edits None (Some file) e h = absurd h
-if_says old new tag g renew edits (Some x) None e h = absurd h
-if_says old new tag g renew edits (Some x) (Some file) e h = (h.info, record { file = file; there = e; framed = h.framed; said = h.said })
+if_says old new tag g renew edits a b e h = grind (arith)
 
 pub renewed_if_says : {X : Type 0} (old new : List Lent) (tag : ℕ) (g : Grammar X) (renew : X → X) (edits : X → List Edit) (x : Option X)
     → IsRenewedIf old tag g renew edits x (held new tag) → SaysIf new tag g (option_map renew x)
@@ -60,15 +52,11 @@ renewed_if_says old new tag g renew edits x h = if_says old new tag g renew edit
 
 pub same_info : (tag : ℕ) (file a b : List ℕ) → Stands (component tag) file a → Stands (component tag) file b → a ≡ b
 same_info tag file a b s t =
-    let e : reading (file_of tag) (component tag) file ≡ Ok a = reading_where (file_of tag) (component tag) file a s in
-    let f : reading (file_of tag) (component tag) file ≡ Ok b = reading_where (file_of tag) (component tag) file b t in
-    cc
+    grind (arith, reading_where (file_of tag) (component tag) file a s, reading_where (file_of tag) (component tag) file b t)
 
 renewed_long : {X : Type 0} (old : List Lent) (tag size : ℕ) (g : Grammar X) (renew : X → X) (edits : X → List Edit) (x : X) (file : List ℕ)
     → IsRenewed old tag g renew edits x file → IsSizeOf tag size (held old tag) → IsSizeOf tag size (Some file)
-renewed_long old tag size g renew edits x file r z =
-    let k : IsSizeOf tag size (Some r.was.file) = subst (IsSizeOf tag size) r.was.there z in
-    (r.info, r.framed, r.renews.long ∙ ap length (same_info tag r.was.file r.before k.0 r.was.framed k.1) ∙ k.2)
+renewed_long old tag size g renew edits x file r z = grind (arith, same_info)
 
 pub renewed_size : {X : Type 0} (old new : List Lent) (tag size : ℕ) (g : Grammar X) (renew : X → X) (edits : X → List Edit) (x : X)
     → IsPresent (IsRenewed old tag g renew edits x) (held new tag) → IsSizeOf tag size (held old tag) → IsSizeOf tag size (held new tag)
@@ -96,10 +84,7 @@ pub record HasSameTypes (p : PackageRecord) (info : List ℕ) : Type 0 where
 
 same_before : (parts : List Lent) (a b : List ℕ) (d : Descriptor) → HoldsComponent parts 11 descriptor_info a d
     → HoldsComponent parts 11 descriptor_info b d → a ≡ b
-same_before parts a b d h k =
-    let e : info_in parts 11 ≡ Ok a = info-read parts 11 descriptor_info a d h in
-    let f : info_in parts 11 ≡ Ok b = info-read parts 11 descriptor_info b d k in
-    cc
+same_before parts a b d h k = grind (arith, info-read parts 11 descriptor_info a d h, info-read parts 11 descriptor_info b d k)
 
 edits_inside : (set : ℕ → Bool) (news : List (Option NewMethod)) (bytes : List ℕ) (d : Descriptor) → Stands descriptor_info bytes d
     → AreInside (along (class_edits set news) class_width 1 d.classes) 0 d.types_start

@@ -1,7 +1,7 @@
 -- The methods that are written are those of the package's classes, each with the code that is laid for it.
-use Rattle.std.proofs.Common.{◌≡◌, ◌≤◌, ◌<◌, ◌+◌, ℕ, zero, suc, Bool, true, false, List, [], ◌∷◌, ◌++◌, length, take, drop, map}
-use Rattle.std.proofs.Common.{All, Option, Some, None, refl, sym, ap, subst, ◌∙◌, arith, length-append}
-use Rattle.std.specs.Prelude.{IfSome, if◌then◌else◌}
+use Rattle.std.proofs.Common.{◌≡◌, ◌≤◌, ◌+◌, ℕ, zero, suc, Bool, true, false, List, [], ◌∷◌, ◌++◌, length, take, drop, map}
+use Rattle.std.proofs.Common.{All, Option, Some, refl, sym, ap, subst, ◌∙◌, arith, length-append}
+use Rattle.std.specs.Prelude.{if◌then◌else◌}
 use Rattle.std.proofs.lemmas.List.{length-map, length-take, length-drop, map-append}
 use Rattle.jc_base.proofs.Eaching.{All-from_Each, Each-from_All}
 use Rattle.cap_desc.specs.DescriptorFormat.{MethodDescriptor, ClassDescriptor}
@@ -52,9 +52,7 @@ elements_counted info (m ∷ ms) [] h = absurd h
 elements_counted info (m ∷ ms) (l ∷ ls) h = ap suc (elements_counted info ms ls h.1)
 
 pub laid_each : (p : PackageRecord) (laid : List (Option Laid)) → MayBeLaid p laid → length laid ≡ length (methods_of p.description.items.classes)
-laid_each p laid l =
-    let set = names_interface p.classes in
-    elements_counted p.methods.info (methods_for set p.description.items.classes) laid l.elements ∙ methods_counted set p.description.items.classes
+laid_each p laid l = grind (arith, elements_counted, methods_counted)
 
 -- those of methods, and those of others after them
 front_elements : (info : List ℕ) (xs ys : List (Option MethodDescriptor)) (n : ℕ) (ls : List (Option Laid)) → length xs ≡ n
@@ -144,17 +142,10 @@ classes_zipped set info (c ∷ cs) ls e =
 body_of : (info : List ℕ) (s : FormerMethod) (l : Option Laid) (b : Body) → s.laid ≡ l → body_seen b ≡ seen_body info s.method.method_offset l
     → writing.IsBodyOf info s b
 unfolding lead_bytes
-body_of info s None (body.Code laid) e h = absurd (cc)
-body_of info s None (body.Header header) e h = (e, cc)
-body_of info s (Some l) (body.Code laid) e h = let same : l ≡ laid.now = cc in e ∙ ap Some same
-body_of info s (Some l) (body.Header header) e h = absurd (cc)
+body_of info s z u e h = grind (arith)
 
 member_of : (info : List ℕ) (s : FormerMethod) (m : WrittenMember) → member_seen m ≡ seen_method info s.method s.laid → writing.IsMemberOf info s m
-member_of info s m h = record {
-  offset = ap (λ (x : SeenMember). x.offset) h;
-  handlers = ap (λ (x : SeenMember). x.handlers_from) h;
-  body = body_of info s s.laid m.body refl (ap (λ (x : SeenMember). x.body) h);
-}
+member_of info s m h = grind (arith)
 
 members_from : (info : List ℕ) (n : ℕ) (ms : List MethodDescriptor) (ls : List (Option Laid)) (xs : List WrittenMember) → length ls ≡ length ms
     → map member_seen xs ≡ zipped info ms ls → writing.AreMembersOf info (sources_from n ms ls) xs
@@ -170,20 +161,12 @@ members_from info n (m ∷ ms) (l ∷ ls) (x ∷ xs) e h =
 
 pub members_are : (p : PackageRecord) (laid : List (Option Laid)) (xs : List WrittenMember) → MayBeLaid p laid
     → map member_seen xs ≡ seen_package p laid → writing.AreMembersOf p.methods.info (sources p laid) xs
-members_are p laid xs l e =
-    let set = names_interface p.classes in
-    let cs = p.description.items.classes in
-    let each = laid_each p laid l in
-    let long : length (laid_but set cs laid) ≡ length (described_methods p) =
-    elements_counted p.methods.info (map Some (described_methods p)) (laid_but set cs laid) (elements_but set p.methods.info cs laid l.elements)
-    ∙ length-map {B = Option MethodDescriptor} (described_methods p) Some in
-    members_from p.methods.info 0 (described_methods p) (laid_but set cs laid) xs long (e ∙ classes_zipped set p.methods.info cs laid each)
+members_are p laid xs l e = grind (arith, laid_each, elements_counted, elements_but, length-map, members_from, classes_zipped)
 
 -- ---- the words of stack that each needs
 
-stack_of : (info : List ℕ) (s : FormerMethod) (b : Body) → writing.IsBodyOf info s b → BodyHasSmallStack b → writing.LaidHasSmallStack s
-stack_of info s (body.Code laid) h f = subst (λ o. IfSome o (λ l. l.max_stack < 256)) (sym h) f
-stack_of info s (body.Header header) h f = subst (λ o. IfSome o (λ l. l.max_stack < 256)) (sym h.0) tt
+stack_of : (info : List ℕ) (s : FormerMethod) (b : Body) → writing.IsBodyOf info s b → HasSmallStack b → writing.HasSmallStack s
+stack_of info s z h f = grind (arith)
 
 small_stacks : (info : List ℕ) (ss : List FormerMethod) (ms : List WrittenMember) → writing.AreMembersOf info ss ms
     → Each (λ m. BodyHasSmallStack m.body) ms → Each writing.LaidHasSmallStack ss

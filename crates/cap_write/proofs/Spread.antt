@@ -1,14 +1,12 @@
 -- How long the ReferenceLocation component is that is written: places that rise take few bytes, and there are few of them.
-use Rattle.std.proofs.Common.{◌≡◌, ◌≤◌, ◌<◌, ◌+◌, ◌-◌, ◌*◌, ◌/◌, ◌%◌, ℕ, Bool, true, false, cond, List, [], ◌∷◌}
-use Rattle.std.proofs.Common.{◌++◌, length, replicate, Option, Some, None, sym, ap, ◌∙◌, subst, arith, length-append}
+use Rattle.std.proofs.Common.{◌≡◌, ◌≤◌, ◌<◌, ◌+◌, ◌-◌, ◌*◌, ℕ, Bool, true, false, cond, List, [], ◌∷◌}
+use Rattle.std.proofs.Common.{◌++◌, length, replicate, Option, Some, None, sym, subst, arith, length-append}
 use Rattle.std.specs.Prelude.{◌==◌, IfSome}
 use Rattle.std.proofs.lemmas.List.{length-replicate}
-use Rattle.byteorder.specs.Endian.{big_bytes}
 use Rattle.jc_decode.specs.declared.insn.Insn.{Insn}
 use Rattle.jc_decode.specs.declared.insn.Placed.{Placed}
 use Rattle.jc_decode.specs.declared.pool_index.PoolIndex.{PoolIndex}
 use Rattle.jc_decode.specs.declared.pool_index.IndexWidth.{IndexWidth}
-use Rattle.jc_decode.specs.declared.pool_index.IndexWidth.TheVariants.{One, Two}
 use Rattle.jc_decode.specs.declared.symbols.LaidHandler.{LaidHandler}
 use Rattle.jc_decode.specs.PoolIndex.{bytes_of_index, pool_index}
 use Rattle.jc_decode.specs.Listing.{listing, listing_end, end_from as insns_end, Lists}
@@ -17,7 +15,7 @@ use Rattle.jc_decode.proofs.InstructionLists.{all-are-listed}
 use Rattle.jc_decode.proofs.PlainLengths.{plain_known}
 use Rattle.cap_laying.specs.Catches.{catch_place, catch_places}
 use Rattle.cap_laying.specs.Component.{component_bytes}
-use Rattle.cap_laying.specs.Distances.{distance_bytes, distances, last_of}
+use Rattle.cap_laying.specs.Distances.{distances, last_of}
 use Rattle.cap_laying.specs.Indices.{HasIndexInside, index_by, index_places, indices}
 use Rattle.cap_bytes.specs.Spelling.{Stands}
 use Rattle.cap_pool.specs.LocationFormat.{locations_info}
@@ -46,35 +44,13 @@ between_none : (low high : ℕ) → low ≤ high → AreBetween low high []
 between_none low high h last le = record { few = omega arith; most = omega arith }
 
 between_one : (low high p : ℕ) → low ≤ p → p ≤ high → AreBetween low high (p ∷ [])
-between_one low high p a b last le =
-    let d = p - last in
-    let long : length (distance_bytes d ++ []) ≡ d / 255 + 1 = omega (
-      arith,
-      length-append (distance_bytes d) [],
-      length-append (replicate (d / 255) 255) ((d % 255) ∷ []),
-      length-replicate {A = ℕ} (d / 255)
-          255,
-    ) in
-    let div : 255 * (d / 255) ≤ d = omega arith in
-    record { few = omega arith; most = b }
+between_one low high p a b last le = grind (arith, length-append, replicate, length-replicate)
 
 between_both : (low mid high : ℕ) (ps qs : List ℕ) → AreBetween low mid ps → AreBetween mid high qs → AreBetween low high (ps ++ qs)
-between_both low mid high ps qs a b last le =
-    let x = a last le in
-    let y = b (last_of last ps) x.most in
-    let d = ap length (distances_both last ps qs) ∙ length-append (distances last ps) (distances (last_of last ps) qs) in
-    let l = last_both last ps qs in
-    let c = length-append ps qs in
-    let f = x.few in
-    let g = y.few in
-    let m = y.most in
-    record { few = omega arith; most = omega arith }
+between_both low mid high ps qs a b last le = grind (arith, distances_both, length-append, last_both)
 
 between_wider : (low high less more : ℕ) (ps : List ℕ) → less ≤ low → high ≤ more → AreBetween low high ps → AreBetween less more ps
-between_wider low high less more ps a b h last le =
-    let x = h last (omega arith) in
-    let m = x.most in
-    record { few = x.few; most = omega arith }
+between_wider low high less more ps a b h last le = grind (arith)
 
 -- ---- the indices of an instruction
 
@@ -86,14 +62,10 @@ record AreFew (at long : ℕ) (one two : List ℕ) : Type 0 where
 
 one_index : (at long place : ℕ) (w : IndexWidth) → at ≤ place → place ≤ at + long → 2 ≤ long
     → AreFew at long (cond (bytes_of_index w == 1) (place ∷ []) []) (cond (bytes_of_index w == 2) (place ∷ []) [])
-one_index at long place One a b c =
-    record { one_between = between_one at (at + long) place a b; two_between = between_none at (at + long) (omega arith); few = omega arith }
-one_index at long place Two a b c =
-    record { one_between = between_none at (at + long) (omega arith); two_between = between_one at (at + long) place a b; few = omega arith }
+one_index at long place u a b c = grind (arith, between_one, between_none)
 
 few_none : (at long : ℕ) → AreFew at long [] []
-few_none at long =
-    record { one_between = between_none at (at + long) (omega arith); two_between = between_none at (at + long) (omega arith); few = omega arith }
+few_none at long = grind (arith, between_none)
 
 insn_few : (code : List ℕ) (start at : ℕ) (i : Insn) → HasIndexInside i → AreFew (start + at) i.len (index_by 1 (start + at) (pool_index i))
     (index_by 2 (start + at) (pool_index i))
@@ -122,13 +94,7 @@ few_both at long more a b c d x y =
     }
 
 few_wider : (at long less more : ℕ) (one two : List ℕ) → less ≤ at → at + long ≤ less + more → AreFew at long one two → AreFew less more one two
-few_wider at long less more one two a b x =
-    let f = x.few in
-    record {
-      one_between = between_wider at (at + long) less (less + more) one a b x.one_between;
-      two_between = between_wider at (at + long) less (less + more) two a b x.two_between;
-      few = omega arith;
-    }
+few_wider at long less more one two a b x = grind (arith, between_wider)
 
 -- an end is no earlier
 ends_grow : (code : List ℕ) (at : ℕ) (is : List Placed) → Lists code at is → at ≤ insns_end at is
@@ -255,18 +221,9 @@ few_located size room ms short =
 pub references_short : (size room : ℕ) (ms : List WrittenMember) → written_size size room ms ≤ 65535
     → length (written_references size room ms) ≤ 65535
 unfolding written_references references_info component_bytes
-references_short size room ms short =
-    let few = few_located size room ms short in
-    let d1 = (locations_of size room ms).byte in
-    let d2 = (locations_of size room ms).byte2 in
-    let all = length-append (big_bytes 2 (length d1)) (d1 ++ (big_bytes 2 (length d2) ++ d2)) in
-    let most = length-append d1 (big_bytes 2 (length d2) ++ d2) in
-    let last = length-append (big_bytes 2 (length d2)) d2 in
-    omega arith
+references_short size room ms short = grind (arith, few_located, length-append)
 
 pub references_stand : (size room : ℕ) (ms : List WrittenMember) → written_size size room ms ≤ 65535
     → Stands locations_info (written_references size room ms) (locations_of size room ms)
 unfolding written_references references_info
-references_stand size room ms short =
-    let few = few_located size room ms short in
-    components_stand (locations_of size room ms).byte (locations_of size room ms).byte2 (omega arith) (omega arith)
+references_stand size room ms short = grind (arith, few_located, components_stand)

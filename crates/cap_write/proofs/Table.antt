@@ -1,10 +1,9 @@
 -- The handler table that is written.
-use Rattle.std.proofs.Common.{◌≤◌, ℕ, List, length, arith}
+use Rattle.std.proofs.Common.{ℕ, List, arith}
 use Rattle.cap_bytes.specs.Spelling.{Stands}
 use Rattle.cap_method.specs.MethodFormat.{methods_info}
 use Rattle.cap_laying.specs.declared.member.WrittenMember.{WrittenMember}
 use Rattle.cap_laying.specs.Blocks.{blocks, entries_of_blocks}
-use Rattle.cap_laying.specs.Member.{by_offset}
 use Rattle.cap_laying.specs.MethodInfo.{AreSmallEntries}
 use Rattle.cap_laying.specs.Members.{MayBeWritten, new_places, written_info}
 use Rattle.cap_laying.proofs.InfoLaws.{info_written}
@@ -14,8 +13,4 @@ pub table_stands : (size room : ℕ) (ms : List WrittenMember) → MayBeWritten 
     → AreSmallEntries (entries_of_blocks (new_places size room ms) (blocks room ms))
     → Stands methods_info (written_info size room ms) (entries_of_blocks (new_places size room ms) (blocks room ms))
 unfolding written_info
-table_stands size room ms may small =
-    let bs = blocks room ms in
-    let entries = entries_of_blocks (new_places size room ms) bs in
-    let few : length entries ≤ 255 = omega (arith, length_table (new_places size room ms) bs, total_blocks room ms, may.few) in
-    (info_written entries (by_offset size ms) few small).stands
+table_stands size room ms may small = grind (arith, length_table, total_blocks, info_written)

@@ -1,27 +1,24 @@
 -- The sizes that the Directory of a package tells are those of its parts.
 use Rattle.std.proofs.Common.{◌≡◌, ◌≤◌, ◌<◌, ◌+◌, ◌-◌, ℕ, zero, suc, Bool, true, false, cond, List, [], ◌∷◌, length}
 use Rattle.std.proofs.Common.{map, find, Option, Some, None, Result, Ok, Err, ◌⊎◌, inl, inr, refl, sym, ap, subst, ◌∙◌, arith}
-use Rattle.std.specs.Prelude.{◌==◌, ◌&&◌, nat_le, slice_get, slice_index, unwrap_or, is_some, if◌then◌else◌}
+use Rattle.std.specs.Prelude.{◌==◌, ◌&&◌, nat_le, slice_index}
 use Rattle.std.proofs.lemmas.Bool.{cases_eq, eqb-true}
 use Rattle.std.proofs.lemmas.Bool.Decides.{nat_tests}
 use Rattle.std.proofs.lemmas.List.{get_or_past}
 use Rattle.cap_bytes.specs.declared.format.Format.{Format}
 use Rattle.cap_bytes.specs.declared.format.Format.TheVariants.{V21, V22}
 use Rattle.cap_bytes.specs.Grammar.{Grammar}
-use Rattle.cap_bytes.specs.Reading.{reading}
-use Rattle.cap_bytes.specs.Spelling.{Stands, file_of}
+use Rattle.cap_bytes.specs.Spelling.{Stands}
 use Rattle.cap_bytes.proofs.Laws.{stands}
 use Rattle.cap_frame.specs.Frame.{component}
 use Rattle.cap_frame.specs.HeaderFormat.{header_info}
 use Rattle.cap_frame.specs.DirectoryFormat.{Custom, DirectoryItems, size_count}
-use Rattle.cap_frame.specs.Directory.{size_in, custom_size_in}
+use Rattle.cap_frame.specs.Directory.{size_in}
 use Rattle.cap_components.specs.declared.fault.PackFault.{PackFault}
-use Rattle.cap_components.specs.declared.fault.PackFault.TheVariants.{MissingPart, SizeDisagrees}
 use Rattle.cap_components.specs.Parts.{Lent, held}
-use Rattle.cap_components.specs.Components.{framed, info_in}
+use Rattle.cap_components.specs.Components.{info_in}
 use Rattle.cap_components.specs.PackageRecord.{PackageRecord}
-use Rattle.cap_components.specs.PartChecks.{optional, components, custom_tags, absent_fault, absent_by, sized_fault, form_fault, form_by, size_fault}
-use Rattle.cap_components.specs.PartChecks.{size_by}
+use Rattle.cap_components.specs.PartChecks.{optional, components, custom_tags, absent_fault, sized_fault, form_fault, form_by, size_fault}
 use Rattle.cap_components.specs.Saying.{HoldsComponent, SaysIf}
 use Rattle.cap_components.proofs.Saying.{info-read, formed_ok}
 use Rattle.cap_package.specs.FirstFault.{missing_parts}
@@ -40,34 +37,25 @@ use Rattle.cap_write.proofs.Customs.{has_tag}
 -- ---- a part and its size
 
 zero_of : (b : Bool) (n : ℕ) (f : PackFault) → (n == 0) ≡ b → cond b None (Some f) ≡ None → n ≡ 0
-zero_of true n f e h = grind (arith, nat_tests)
-zero_of false n f e h = absurd (cc)
+zero_of x n f e h = grind (arith, nat_tests)
 
 same_of : (b : Bool) (m n : ℕ) (f : PackFault) → (m == n) ≡ b → cond b None (Some f) ≡ None → n ≡ m
-same_of true m n f e h = sym (eqb-true m n e)
-same_of false m n f e h = absurd (cc)
+same_of x m n f e h = grind (arith, eqb-true)
 
 info_framed : (parts : List Lent) (tag : ℕ) (file info : List ℕ) → held parts tag ≡ Some file → info_in parts tag ≡ Ok info
     → Stands (component tag) file info
 unfolding info_in
-info_framed parts tag file info e h =
-    stands (file_of tag) (component tag) file info (formed_ok (reading (file_of tag) (component tag) file) info (ap (framed tag) (sym e) ∙ h))
+info_framed parts tag file info e h = grind (arith, stands, formed_ok)
 
 told_absent : (parts : List Lent) (d : DirectoryItems) (tag size : ℕ) → held parts tag ≡ None → size_in d tag ≡ Some size
     → sized_fault parts d tag ≡ None → size ≡ 0
 unfolding sized_fault absent_fault
-told_absent parts d tag size e s h =
-    let k : absent_by (Some size) (Some (MissingPart tag)) ≡ None =
-    ap (λ (o : Option (List ℕ)). absent_by (Some size) (if is_some o then None else Some (MissingPart tag))) (sym e)
-    ∙ ap (λ o. absent_by o (absent_fault parts tag)) (sym s) ∙ h in
-    zero_of (size == 0) size (MissingPart tag) refl k
+told_absent parts d tag size e s h = grind (arith, zero_of)
 
 told_size : (parts : List Lent) (d : DirectoryItems) (tag size : ℕ) (info : List ℕ) → info_in parts tag ≡ Ok info → size_in d tag ≡ Some size
     → size_fault parts d tag ≡ None → length info ≡ size
 unfolding size_fault
-told_size parts d tag size info e s h =
-    let k : size_by tag (Some size) (Ok info) ≡ None = ap (size_by tag (Some size)) (sym e) ∙ ap (λ o. size_by tag o (info_in parts tag)) (sym s) ∙ h in
-    same_of (size == length info) size (length info) (SizeDisagrees tag size (length info)) refl k
+told_size parts d tag size info e s h = grind (arith, same_of)
 
 told_there : (parts : List Lent) (d : DirectoryItems) (tag size : ℕ) (file : List ℕ) → held parts tag ≡ Some file → size_in d tag ≡ Some size
     → form_fault parts tag ≡ None → size_fault parts d tag ≡ None → IsSizeOf tag size (Some file)
@@ -80,13 +68,11 @@ told_there parts d tag size file e s f h = by (info_in parts tag) refl (ap (λ o
 
 told : (parts : List Lent) (d : DirectoryItems) (tag size : ℕ) (o : Option (List ℕ)) → held parts tag ≡ o → size_in d tag ≡ Some size
     → sized_fault parts d tag ≡ None → form_fault parts tag ≡ None → size_fault parts d tag ≡ None → IsSizeOf tag size o
-told parts d tag size None e s a f h = told_absent parts d tag size e s a
-told parts d tag size (Some file) e s a f h = told_there parts d tag size file e s f h
+told parts d tag size v e s a f h = grind (arith, told_absent, told_there)
 
 told_said : {X : Type 0} (parts : List Lent) (d : DirectoryItems) (tag size : ℕ) (g : Grammar X) (info : List ℕ) (items : X)
     → HoldsComponent parts tag g info items → size_in d tag ≡ Some size → size_fault parts d tag ≡ None → IsSizeOf tag size (held parts tag)
-told_said parts d tag size g info items h s f =
-    subst (IsSizeOf tag size) (sym h.there) (info, h.framed, told_size parts d tag size info (info-read parts tag g info items h) s f)
+told_said parts d tag size g info items h s f = grind (arith, told_size parts d tag size info (info-read parts tag g info items h) s f)
 
 -- ---- what the Directory of a package tells
 
@@ -180,13 +166,10 @@ sizes_at : (own : ℕ) (new : ComponentSizes) (tag : ℕ) (ss : List ℕ) (k : �
     ≡ new_size own new (tag + k) (slice_index ss k)
 sizes_at own new tag [] k lt = absurd (omega arith)
 sizes_at own new tag (s ∷ ss) zero lt = let e : tag ≡ tag + 0 = omega arith in ap (λ n. new_size own new n s) e
-sizes_at own new tag (s ∷ ss) (suc k) lt =
-    let e : tag + 1 + k ≡ tag + suc k = omega arith in
-    sizes_at own new (tag + 1) ss k (omega arith) ∙ ap (λ n. new_size own new n (slice_index ss k)) e
+sizes_at own new tag (s ∷ ss) (suc k) lt = grind (arith, suc, sizes_at own new (tag + 1) ss k (omega arith))
 
 count_least : (format : Format) → 11 ≤ size_count format
-count_least V21 = omega arith
-count_least V22 = omega arith
+count_least x = grind (arith)
 
 -- the size of a component
 pub size_now : (own : ℕ) (new : ComponentSizes) (d e : DirectoryItems) (format : Format) (tag size : ℕ) → e.sizes ≡ sizes_from own new 1 d.sizes
@@ -210,10 +193,7 @@ debug_now own new d e V22 size are counted s =
 -- the size that was told
 pub size_was : (d : DirectoryItems) (tag : ℕ) → (nat_le 1 tag && nat_le tag 12) ≡ true → 1 ≤ tag → tag ≤ 12
     → size_in d tag ≡ Some (slice_index d.sizes (tag - 1))
-size_was d tag e low high =
-    let n = unwrap_or (slice_get d.sizes (tag - 1)) 0 in
-    let k : size_in d tag ≡ Some n = ap (λ b. if b then Some n else custom_size_in d.customs tag) e in
-    k ∙ ap Some (size_known d tag n low high k)
+size_was d tag e low high = grind (arith, size_known)
 
 -- ---- tags
 

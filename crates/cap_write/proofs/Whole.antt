@@ -1,7 +1,7 @@
 -- What is written is the package with the code that is laid, and a package again.
 use Rattle.std.proofs.Common.{◌≡◌, ◌≤◌, ◌-◌, ◌⊎◌, inl, inr, ℕ, Bool, true, false, List, length, map, find, Option, Some, None, Result}
 use Rattle.std.proofs.Common.{option_map, refl, sym, ap, subst, ◌∙◌, arith}
-use Rattle.std.specs.Prelude.{◌↔◌, ◌&&◌, not, nat_le, bytes_eq, slice_get, slice_index, unwrap_or, if◌then◌else◌}
+use Rattle.std.specs.Prelude.{◌↔◌, ◌&&◌, nat_le, slice_get, slice_index, unwrap_or, if◌then◌else◌}
 use Rattle.std.proofs.lemmas.Bool.{cases_eq, not-false}
 use Rattle.std.proofs.lemmas.Bool.Decides.{nat_tests}
 use Rattle.std.proofs.lemmas.Slice.Eq.{bytes_eq-Decides}
@@ -44,7 +44,7 @@ use Rattle.law_package.specs.Rewritten.{IsCustom}
 use Rattle.law_package.specs.Writing.{IsWrittenAnew, places}
 use Rattle.law_package.proofs.Lists.{Each, each_at}
 use Rattle.cap_write.specs.Condition.{MayBeLaid}
-use Rattle.cap_write.specs.NewIndex.{Index, IsNewIndex, dropped, has_other_aid, keeps_index, stays, written}
+use Rattle.cap_write.specs.NewIndex.{Index, IsNewIndex, dropped, keeps_index, stays, written}
 use Rattle.cap_write.specs.Files.{IsDirectoryFile, IsFramed, index_file, edits_of_methods, sizes_of}
 use Rattle.cap_write.specs.SmallStacks.{HaveSmallStacks}
 use Rattle.cap_write.specs.WrittenMethods.{AreMembersFor}
@@ -92,13 +92,10 @@ custom_with read c = record { aid = c.aid; info = info_or_none read }
 
 custom_by : (parts others : List Lent) (tag : ℕ) (o : Option Custom) → ((c : Custom) → o ≡ Some c → held others tag ≡ held parts tag)
     → option_map (custom_with (info_in others tag)) o ≡ option_map (custom_with (info_in parts tag)) o
-custom_by parts others tag None h = refl
-custom_by parts others tag (Some c) h = ap (λ r. Some (custom_with r c)) (same_under parts others tag (h c refl))
+custom_by parts others tag u h = grind (arith, same_under)
 
 no_other : (p : PackageRecord) (c : CustomItems) → keeps_index p ≡ false → IsCustom p 128 c → ⊥
-no_other p c k h =
-    let e : not (bytes_eq c.aid index_aid) ≡ false = ap has_other_aid (sym h.there) ∙ k in
-    h.other (refl, (bytes_eq-Decides c.aid index_aid).0 (not-false (bytes_eq c.aid index_aid) e))
+no_other p c k h = grind (arith, bytes_eq-Decides, not-false)
 
 no_custom : (o : Option CustomItems) (c : CustomItems) → o ≡ None → o ≡ Some c → ⊥
 no_custom o c e f = absurd (cc)
@@ -144,13 +141,9 @@ size_index : (p : PackageRecord) (laid : List (Option Laid)) (ms : List WrittenM
 size_index p laid ms stays parts size s i h e =
     let k : custom_size_in p.directory.customs 128 ≡ Some size = sym (ap (option_map (λ (c : Custom). c.size)) (found_kept 128 p.directory.customs)) ∙ e in
     was_custom p parts 128 size (find (has_tag 128) p.directory.customs) s k refl k (λ c f. h)
-size_index p laid ms dropped parts size s i h e =
-    let k : None ≡ Some size = sym (ap (option_map (λ (c : Custom). c.size)) (found_dropped p.directory.customs)) ∙ e in
-    absurd (cc)
+size_index p laid ms dropped parts size s i h e = grind (arith, found_dropped p.directory.customs, option_map)
 size_index p laid ms (written index) parts size s i h e =
-    let k : Some (length index) ≡ Some size = sym (ap (option_map (λ (c : Custom). c.size)) (found_written (length index) p.directory.customs)) ∙ e in
-    let same : length index ≡ size = cc in
-    subst (IsSizeOf 128 size) (sym h) (index, file_stands 128 index (omega arith) i.1.bytes.1, same)
+    grind (arith, found_written (length index) p.directory.customs, file_stands 128 index (omega arith) i.1.bytes.1, option_map)
 
 module _ (p : PackageRecord) (laid : List (Option Laid)) (ms : List WrittenMember) (index : Index) (parts : List Lent) (stands : StandsFor p.parts p)
     (may : MayStand p.header.format p.directory) (indexed : IsNewIndex p laid index)
@@ -161,10 +154,7 @@ module _ (p : PackageRecord) (laid : List (Option Laid)) (ms : List WrittenMembe
   -- a part with another tag of a custom component is as it was
   file_other : (tag : ℕ) → (tag ≡ 128 → ⊥) → (c : Custom) → find (has_tag tag) p.directory.customs ≡ Some c
       → held parts tag ≡ held p.parts tag
-  file_other tag ne c e =
-      let t = tag_found none p.directory.customs tag c may.customs e in
-      let least = t.least in
-      files.others tag t.most (inr (omega arith)) ne
+  file_other tag ne c e = grind (arith, tag_found none p.directory.customs tag c may.customs e)
 
   customs_other : (info : List ℕ) (tag : ℕ) (c : CustomItems) → (tag ≡ 128 → ⊥) → IsCustom p tag c ↔ IsCustom (made p ms index parts info) tag c
   customs_other info tag c ne =

@@ -15,9 +15,11 @@ use Rattle.jc_ops.specs.declared.operation.Operation.{Operation}
 use Rattle.jc_rules.specs.FlowLaws.{IsOrderOfCells}
 use Rattle.card_typing.specs.Typing.{IsLeastCardTyping}
 use Rattle.law_share.specs.Live.{Operates, Writes, MayLeadTo, IsLiveAt}
-use Rattle.law_share.specs.Variable.{Variable, AreVariables, no_variables, one_register, two_registers, HasRegister, Clash, Interferes, first_written}
+use Rattle.law_share.specs.Variable.{Variable, AreVariables, no_variables, one_register, two_registers}
+use Rattle.law_share.specs.Variable.{HasRegister, Clash, Interferes, first_written}
 use Rattle.law_share.specs.Variable.{second_written}
-use Rattle.law_share.specs.Sharing.{Allotted, FitsBeside, fits_after, fits_before, fits_with, IsLeastFit, AreAllotted, none_allotted, more_allotted}
+use Rattle.law_share.specs.Sharing.{Allotted, FitsBeside, fits_after, fits_before, fits_with}
+use Rattle.law_share.specs.Sharing.{IsLeastFit, AreAllotted, none_allotted, more_allotted}
 use Rattle.law_share.specs.Sharing.{IsNumbered, numbered_argument, numbered_variable, end_of}
 use Rattle.law_share.specs.Laws.{VariablesAreOne, AllotmentIsOne, MethodsShareInOneWay, SharingOrKept, HasNumber, RegistersHaveNumbers}
 use Rattle.law_share.specs.Laws.{RegistersAreNoMore, WrittenStayApart}
@@ -80,10 +82,7 @@ module _ (w : Linked) (m : Method) where
   from-there : {x : ℕ} {tys : List Ty} {before : List Allotted} {ks : List Variable} {given : List Allotted}
       → AreVariables x tys ks → AreAllotted w m before ks given → (a : Allotted) → IsAmong a given → x ≤ a.variable.register
   from-there vs none_allotted a among = absurd among
-  from-there {x = x} vs (more_allotted k at fit rest) a (inl here) =
-      let s = splits vs in
-      let first = s.at in
-      subst (λ (b : Allotted). x ≤ b.variable.register) here (omega (arith, first))
+  from-there {x = x} vs (more_allotted k at fit rest) a (inl here) = grind (arith, splits vs)
   from-there {x = x} vs (more_allotted k at fit rest) a (inr later) =
       let s = splits vs in
       let le = from-there {x = x + k.width} s.rest rest a later in
@@ -148,15 +147,7 @@ module _ (w : Linked) (m : Method) where
   at-most :
       (before : List Allotted) (k : Variable) (at : ℕ) → nargs ≤ k.register → All (λ (b : Allotted). b.at + b.variable.width ≤ k.register) before
       → IsLeastFit w m before k at → at ≤ k.register
-  at-most before k at from all least = elim (cases_lt k.register at) [
-    | inl lt ↦
-        absurd (least.least k.register lt (record {
-          no_argument = from;
-          beside =
-              All-weaker (λ (b : Allotted). b.at + b.variable.width ≤ k.register) (FitsBeside w m k k.register) (λ b le. fits_after le) before all;
-        }))
-    | inr ge ↦ ge
-  ]
+  at-most before k at from all least = grind (arith, cases_lt)
 
   all-within : (x y : ℕ) (before : List Allotted) (a : Allotted) → x ≤ y → a.at + a.variable.width ≤ y
       → All (λ (b : Allotted). b.at + b.variable.width ≤ x) before → All (λ (b : Allotted). b.at + b.variable.width ≤ y) (before ++ a ∷ [])
@@ -227,24 +218,19 @@ module _ (w : Linked) (m : Method) where
   shares :
       (a b : Allotted) (x y : ℕ) → FitsBeside w m b.variable b.at a → HasRegister a.variable x → HasRegister b.variable y
       → a.at + (x - a.variable.register) ≡ b.at + (y - b.variable.register) → ¬ (Interferes w m a.variable b.variable)
-  shares a b x y (fits_after le) f g e =
-      let lt = f.before in let from = f.from in absurd (omega (arith, le, lt, from, e))
-  shares a b x y (fits_before le) f g e =
-      let lt = g.before in let from = g.from in absurd (omega (arith, le, lt, from, e))
+  shares a b x y (fits_after le) f g e = grind (arith)
+  shares a b x y (fits_before le) f g e = grind (arith)
   shares a b x y (fits_with same width ty apart) f g e = apart
 
   stay-apart :
       {tys : List Ty} {ks : List Variable} {given : List Allotted} → AreVariables nargs tys ks → AreAllotted w m [] ks given
       → (i : Placed) (op : Operation) (q x y live written : ℕ) → Operates w m i op → Writes w op y → ¬ (Writes w op x) → MayLeadTo m i q
       → IsLiveAt w m x q → IsNumbered nargs given x live → IsNumbered nargs given y written → ¬ (live ≡ written)
-  stay-apart vs all i op q x y _ _ operates writes other leads is (numbered_argument lt) (numbered_argument also) e =
-      other (subst (Writes w op) (sym e) writes)
+  stay-apart vs all i op q x y _ _ operates writes other leads is (numbered_argument lt) (numbered_argument also) e = grind (arith)
   stay-apart {given = given} vs all i op q x y _ _ operates writes other leads is (numbered_argument lt) (numbered_variable b listed has) e =
-      let from = no-argument all b (IsAmong-from_Contains b given listed) in
-      omega (arith, lt, from, e)
+      grind (arith, no-argument all b (IsAmong-from_Contains b given listed))
   stay-apart {given = given} vs all i op q x y _ _ operates writes other leads is (numbered_variable a listed has) (numbered_argument also) e =
-      let from = no-argument all a (IsAmong-from_Contains a given listed) in
-      omega (arith, also, from, e)
+      grind (arith, no-argument all a (IsAmong-from_Contains a given listed))
   stay-apart {given = given} vs all i op q x y _ _ operates writes other leads is (numbered_variable a listed has) (numbered_variable b there own) e =
       let clash : Clash w m y x =
       record { instruction = i; op = op; operates = operates; writes = writes; next = q; leads = leads; live = is } in

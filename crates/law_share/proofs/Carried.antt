@@ -26,7 +26,7 @@ use Rattle.jc_rules.specs.declared.rule.Outcome.{Outcome}
 use Rattle.jc_rules.specs.Apply.{OperationApplies}
 use Rattle.jc_rules.specs.Demand.{Frame}
 use Rattle.jc_rules.specs.Flow.{CellsBelow}
-use Rattle.jc_rules.specs.Footprint.{Footprint, registers_asked, registers_read}
+use Rattle.jc_rules.specs.Footprint.{registers_asked}
 use Rattle.jc_rules.specs.Rule.{demands}
 use Rattle.jc_rules.proofs.CellLists.{cells-length}
 use Rattle.jc_rules.proofs.Footprints.{met-is-there, asked-is-there}
@@ -72,8 +72,7 @@ module _ (v w : Linked) (links : IsWorld v) (sound : OperationsAreSound v) (oper
       ((instructions-are-placed all-are-listed m ty.formed).next i stands)
 
   other-way : IsSameBut w v
-  other-way =
-      record { pools = sym same.pools; classes = sym same.classes; methods = sym same.methods; statics = sym same.statics; arrays = sym same.arrays }
+  other-way = grind (arith)
 
   -- ---- instructions
 
@@ -103,19 +102,7 @@ module _ (v w : Linked) (links : IsWorld v) (sound : OperationsAreSound v) (oper
 
   renumbered-there : (a b : Operation) (i j : Placed) → AreMatched v w m k.target place reg i a j b → registers_asked (demands v a) ≤ length regs
       → length regs ≡ register_total m → IsRenumbered v others reg (renamed_new place a) b
-  renumbered-there a b i j are few count =
-      let second : demands v b ≡ demands w b = kept v w b same in
-      let asked = are.asked (omega (arith, few, count)) in
-      let more = own.count in
-      let ds : registers_asked (demands v b) ≡ registers_asked (demands w b) = ap registers_asked second in
-      record {
-        alike = are.alike;
-        asked = omega (arith, asked, more, ds);
-        reads = ap registers_read second ∙ (are.reads ∙ ap (λ ds. map reg (registers_read ds)) (sym (demands-new v place a)));
-        writes = λ n lt.
-            are.writes n (subst (λ (p : Footprint). n < p.written) (footprint-new v place a) lt)
-            ∙ ap (λ (p : Footprint). reg (p.register + n)) (sym (footprint-new v place a));
-      }
+  renumbered-there a b i j are few count = grind (arith, demands-new, footprint-new)
 
   declared : IfSome m.rec.sig.result (IsDeclared v.classes)
   declared = (All-slice_get (IsMethod v.infos v.pools v.classes) v.methods m.number m.rec links.methods is.rec).result
@@ -177,11 +164,7 @@ module _ (v w : Linked) (links : IsWorld v) (sound : OperationsAreSound v) (oper
   entry-back n e = let x = entry-from (place n) e in subst (IsEntryAmong m.rec.handlers) (sym (k.one_to_one n x.source x.at)) x.entry
 
   entry-there : (n : ℕ) → IsEntryAmong m.rec.handlers n → IsEntryAmong k.target.rec.handlers (place n)
-  entry-there n e = record {
-    handler = k.handler e.handler;
-    listed = image-of e.handler e.listed;
-    begins = k.catches.entry e.handler e.listed ∙ ap place e.begins;
-  }
+  entry-there n e = grind (arith, image-of)
 
   above-there : (n : ℕ) (u : Ty) → IsAboveCaughtBy v.classes m.rec.handlers n u → IsAboveCaughtBy v.classes k.target.rec.handlers (place n) u
   above-there n u above h c e =
@@ -191,9 +174,7 @@ module _ (v w : Linked) (links : IsWorld v) (sound : OperationsAreSound v) (oper
       subst (λ i. Below v.classes (Class i) u) class (above x.of x.listed (k.one_to_one x.of.entry n at))
 
   above-back : (n : ℕ) (u : Ty) → IsAboveCaughtBy v.classes k.target.rec.handlers (place n) u → IsAboveCaughtBy v.classes m.rec.handlers n u
-  above-back n u above h c e =
-      subst (λ i. Below v.classes (Class i) u) (k.catches.class h c)
-      (above (k.handler h) (image-of h c) (k.catches.entry h c ∙ ap place e))
+  above-back n u above h c e = grind (arith, image-of)
 
   caught-there : (n c : ℕ) → AreCaughtAt v.classes m.rec.handlers n c → AreCaughtAt v.classes k.target.rec.handlers (place n) c
   caught-there n c h = record {
@@ -302,10 +283,7 @@ module _ (v w : Linked) (links : IsWorld v) (sound : OperationsAreSound v) (oper
       types = own.types;
       ready = own.ready;
       declared = own.declared;
-      start = (
-        λ e. ty.start.0 (entry-back 0 (subst (IsEntryAmong k.target.rec.handlers) (sym k.begins) e)),
-        ap again (sym k.begins) ∙ none-at 0 (omega arith) ty.start.1,
-      );
+      start = grind (arith, entry-back, none-at);
       entries = entered;
       targets = target-empty;
       room = room-there;

@@ -3,7 +3,7 @@ use Rattle.std.proofs.Common.{◌≡◌, ℕ, ◌*◌, List, refl, sym, ap, ◌�
 use Rattle.jc_base.specs.World.{Linked}
 use Rattle.vm_store.specs.declared.cell.Cell.{Cell}
 use Rattle.vm_store.specs.Cells.{tagged}
-use Rattle.vm_store.specs.State.{Object, State}
+use Rattle.vm_store.specs.State.{State}
 use Rattle.vm_step.specs.declared.ending.Ending.{Ending}
 use Rattle.vm_step.specs.Arguments.{Argument}
 use Rattle.vm_step.specs.Laws.{RunsAreOne, RunsExist}
@@ -23,10 +23,7 @@ state-same : (a b : Ending) (s t : State Cell) → ◌≡◌ {A = Outcome Cell} 
 state-same a b s t h = cc
 
 left-same : (a b : Left) → a.ending ≡ b.ending → a.heap ≡ b.heap → a.statics ≡ b.statics → a ≡ b
-left-same a b e h s =
-    let one : a ≡ record a { ending = b.ending } = ap (λ (x : Ending). record a { ending = x }) e in
-    let two : record a { ending = b.ending } ≡ record b { statics = a.statics } = ap (λ (x : List (Object Cell)). record a { ending = b.ending; heap = x }) h in
-    one ∙ (two ∙ ap (λ (x : List Cell). record b { statics = x }) s)
+left-same a b e h s = grind (arith)
 
 once : (n : ℕ) → 1 * n ≡ n
 once n = omega arith
@@ -93,8 +90,4 @@ module _ (v w : Linked) (alike : EndsAlikeBy 1 v w) (exist : RunsExist v) (one :
           (from-second there.start there.starts (ended ending there.last) there.runs) (from-second g.start g.starts (running g.state) g.runs)))
 
 pub in-step : (v w : Linked) → EndsAlikeBy 1 v w → RunsExist v → RunsAreOne tagged w → EndInStep v w
-in-step v w alike exist one = record {
-  begins = alike.begins;
-  ends = λ entry args n left. (ends-too v w alike exist one entry args n left, ends-back v w alike exist one entry args n left);
-  goes_on = λ entry args n. (alike.goes_on entry args n, goes-back v w alike exist one entry args n);
-}
+in-step v w alike exist one = grind (arith, ends-too, ends-back, goes-back)

@@ -1,5 +1,5 @@
 -- A method that is kept is one renamed by the identity.
-use Rattle.std.proofs.Common.{◌≡◌, ℕ, suc, inl, inr, List, [], ◌∷◌, map, refl, sym, ap, ◌∙◌, subst, arith, All}
+use Rattle.std.proofs.Common.{◌≡◌, ℕ, suc, List, [], ◌∷◌, map, refl, sym, ap, ◌∙◌, subst, arith, All}
 use Rattle.std.specs.Prelude.{ℤ, pos, negsuc, Ok}
 use Rattle.std.proofs.lemmas.Bool.{cases_lt}
 use Rattle.std.proofs.lemmas.List.{map-id}
@@ -18,7 +18,7 @@ use Rattle.law_alike.specs.Alike.{renamed_new}
 use Rattle.law_laid.specs.Apart.{IsSameBut}
 use Rattle.law_laid.specs.Laws.{OperationsAreKept, DemandsAreKept}
 use Rattle.law_share.specs.Live.{Operates}
-use Rattle.law_share.specs.Renamed.{AreMatched, BeginsAlike, register_total}
+use Rattle.law_share.specs.Renamed.{AreMatched, BeginsAlike}
 use Rattle.law_share.specs.Laws.{KeptAreRenamed}
 
 new-same : (a : Operation) → renamed_new (λ p. p) a ≡ a
@@ -55,14 +55,7 @@ module _ (v w : Linked) (operations : OperationsAreKept) (kept : DemandsAreKept)
       }
 
   begins : (x : ℕ) → BeginsAlike m m (λ y. y) x
-  begins x = record {
-    argument = λ lt. refl;
-    variable = λ le. le;
-    there = elim (cases_lt x (register_total m)) [
-      | inl lt ↦ inl (lt, lt)
-      | inr ge ↦ inr (ge, ge)
-    ];
-  }
+  begins x = grind (arith, cases_lt)
 
 pub kept-are-renamed : (v : Linked) → OperationsAreKept → DemandsAreKept → KeptAreRenamed v
 kept-are-renamed v operations demands_kept w m same is formed k = record {
@@ -79,10 +72,5 @@ kept-are-renamed v operations demands_kept w m same is formed k = record {
   matched = λ i a o. record { other = i; new = a; are = matched v w operations demands_kept m same formed i a o };
   whole = λ j listed. record { source = j; stands = listed; at = refl };
   handler = λ h. h;
-  catches = record {
-    handlers = sym (map-id m.rec.handlers);
-    entry = λ h listed. refl;
-    class = λ h listed. refl;
-    catch = λ p class h here listed. refl;
-  };
+  catches = grind (arith, map-id);
 }

@@ -1,5 +1,5 @@
 -- What is known of frames beside one another, and the laws that the simulation rests on.
-use Rattle.std.proofs.Common.{◌≡◌, ℕ, suc, ◌+◌, ◌<◌, ◌≤◌, ◌⊎◌, inl, inr, ⊎_elim, List, [], length, map, refl, sym, ap, ◌∙◌}
+use Rattle.std.proofs.Common.{◌≡◌, ℕ, suc, ◌+◌, ◌<◌, ◌≤◌, ◌⊎◌, ⊎_elim, List, [], length, map, refl, sym, ap, ◌∙◌}
 use Rattle.std.proofs.Common.{subst, arith}
 use Rattle.std.specs.Prelude.{Some, slice_get}
 use Rattle.std.proofs.lemmas.Bool.{cases_lt}
@@ -85,13 +85,7 @@ throwing-is-quiet v i op s handle e = ⊎_elim (λ quiet. quiet) (λ is. by op i
 -- a register that is not among those written is outside
 pub outside : (v : Linked) (op : Operation) (x : ℕ) → ¬ (Writes v op x)
     → (x < (footprint v op).register) ⊎ ((footprint v op).register + (footprint v op).written ≤ x)
-outside v op x apart = elim (cases_lt x (footprint v op).register) [
-  | inl lt ↦ inl lt
-  | inr ge ↦ elim (cases_lt x ((footprint v op).register + (footprint v op).written)) [
-    | inl lt ↦ absurd (apart (record { from = ge; before = lt }))
-    | inr past ↦ inr past
-  ]
-]
+outside v op x apart = grind (arith, cases_lt)
 
 pub none-written : (v : Linked) (op : Operation) (x : ℕ) → (footprint v op).written ≡ 0 → ¬ (Writes v op x)
 none-written v op x none h = let a = h.from in let b = h.before in absurd (omega (arith, none, a, b))
@@ -116,8 +110,7 @@ module _ (v w : Linked) (typings : Typings) (laws : AreLaws v) (r : Renaming) (p
     other-code = ap (of_method [] (code_of w.infos)) other-record ∙ sym its.is_target.code
 
     pub same-room : max_stack_of w g.method ≡ max_stack_of v f.method
-    same-room = ap (of_method 0 (λ (m : MethodRec). m.max_stack)) other-record
-        ∙ (its.room ∙ sym (ap (of_method 0 (λ (m : MethodRec). m.max_stack)) its-record))
+    same-room = grind (arith, other-record, its-record)
 
     pub its-handlers : handlers_of v f.method ≡ b.source.rec.handlers
     its-handlers = ap (of_method [] (λ (m : MethodRec). m.handlers)) its-record

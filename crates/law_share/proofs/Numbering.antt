@@ -1,5 +1,6 @@
 -- Operations under the new numbers of registers.
-use Rattle.std.proofs.Common.{◌≡◌, ℕ, zero, suc, ◌+◌, ◌-◌, ◌<◌, ◌≤◌, ◌⊎◌, inl, inr, ⊎_elim, max, List, [], ◌∷◌, ◌++◌, length, drop, map, reverse}
+use Rattle.std.proofs.Common.{◌≡◌, ℕ, zero, suc, ◌+◌, ◌-◌, ◌<◌, ◌≤◌, ◌⊎◌, inl, inr}
+use Rattle.std.proofs.Common.{⊎_elim, max, List, [], ◌∷◌, ◌++◌, length, drop, map, reverse}
 use Rattle.std.proofs.Common.{refl, sym, ap, ◌∙◌, subst, arith, Contains, set}
 use Rattle.std.specs.Prelude.{Option, Some, None, Result, Ok, IsSomeAnd, slice_get, ⊤}
 use Rattle.std.proofs.lemmas.Bool.{cases_lt}
@@ -11,7 +12,8 @@ use Rattle.jc_base.specs.declared.ty.Ty.{Ty}
 use Rattle.jc_base.specs.declared.ty.Ty.TheVariants.{Top, Bottom, IntHigh, IntLow}
 use Rattle.jc_base.specs.declared.ty.Ty.TheVariants as types
 use Rattle.jc_base.specs.Class.{ClassTable}
-use Rattle.jc_base.specs.Order.{Below, same, joined, nothing, anything, null_object, null_array, subclass, array_object, array_array, IsArray, of_booleans}
+use Rattle.jc_base.specs.Order.{Below, same, joined, nothing, anything, null_object}
+use Rattle.jc_base.specs.Order.{null_array, subclass, array_object, array_array, IsArray, of_booleans}
 use Rattle.jc_base.specs.Order.{of_bytes, of_shorts, of_ints, of_references}
 use Rattle.jc_base.specs.World.{Linked, IsWorld}
 use Rattle.jc_base.specs.Each.{IsAmong}
@@ -43,7 +45,8 @@ use Rattle.jc_rules.specs.Demand.{Frame, Meets, SatisfiesAll}
 use Rattle.jc_rules.specs.Effect.{reg, WritesInt}
 use Rattle.jc_rules.specs.Flow.{CellsBelow}
 use Rattle.jc_rules.specs.Footprint.{footprint, registers_asked, registers_read}
-use Rattle.jc_rules.specs.Rule.{demands, args_at, arithmetic_demands, array_write_demands, branch_demands, cells_wanted, move_demands, number}
+use Rattle.jc_rules.specs.Rule.{demands, args_at, arithmetic_demands, array_write_demands}
+use Rattle.jc_rules.specs.Rule.{branch_demands, cells_wanted, move_demands, number}
 use Rattle.jc_rules.specs.Rule.{receiver_wanted, two_numbers, value_size, value_wanted}
 use Rattle.jc_rules.proofs.CellLists.{cells-length}
 use Rattle.jc_rules.proofs.Footprints.{met-is-there, asked-is-there}
@@ -291,18 +294,8 @@ module _ (v : Linked) (links : IsWorld v) (m : Method) (regs : List Ty) (stacks 
 
     -- a variable with a register that may have a high half has the next too
     next-there : (k : Variable) → IsProper k → (x : ℕ) → HasRegister k x → MayBeHigh (type_in k (x - k.register)) → HasRegister k (x + 1)
-    next-there _ (proper_one {x = r} {ty = one} whole) x has high =
-        let from = has.from in
-        let before = has.before in
-        let zero_at : x - r ≡ 0 = omega (arith, from, before) in
-        absurd (high-unwhole (subst (λ n. MayBeHigh (type_in (record { register = r; width = 1; ty = one }) n)) zero_at high) whole)
-    next-there _ (proper_int {x = r}) x has high = elim (cases_lt r x) [
-      | inl later ↦
-          let before = has.before in
-          let one_at : x - r ≡ suc 0 = omega (arith, later, before) in
-          absurd (low-not-high (subst (λ n. MayBeHigh (type_in (record { register = r; width = 2; ty = IntHigh }) n)) one_at high) refl)
-      | inr here ↦ (let from = has.from in record { from = omega (arith, from); before = omega (arith, here) })
-    ]
+    next-there _ (proper_one {x = r} {ty = one} whole) x has high = grind (arith, high-unwhole)
+    next-there _ (proper_int {x = r}) x has high = grind (arith, cases_lt, suc, low-not-high)
 
     -- and no variable begins with a low half
     not-first : (k : Variable) → IsProper k → ¬ (MayBeLow (type_in k 0))

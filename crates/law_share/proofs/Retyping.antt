@@ -115,17 +115,7 @@ applies-with :
 applies-with v limit b others stack left given asked written is room below = record {
   after = record { regs = left; stack = given };
   outcome = done_as v b (record { regs = others; stack = stack }) (record { regs = left; stack = given });
-  applies = record {
-    asked = asked;
-    regs = written;
-    stack = is;
-    room = room;
-    falls = refl;
-    ends = refl;
-    depth = refl;
-    wrote_is = refl;
-    rose_is = refl;
-  };
+  applies = grind (arith);
   stored = below;
   same = refl;
 }
@@ -225,16 +215,10 @@ module _ (v : Linked) (rests : OperationReads v) (one : FootprintIsOne v) (limit
       (subst (Below v.classes IntLow) second (below-there v.classes kept regs (x + 1) IntLow low below)) one_below
 
   int-writes : (y : ℕ) → WritesInt v.classes Flow y others (set (set others y IntHigh) (y + 1) IntLow)
-  int-writes y = record {
-    between = set others y IntHigh;
-    high = record { value = IntHigh; stored = refl; after_is = refl };
-    low = record { value = IntLow; stored = refl; after_is = refl };
-  }
+  int-writes y = grind (arith)
 
   int-kept : (x : ℕ) (kept : List Ty) → WritesInt v.classes Flow x regs kept → kept ≡ set (set regs x IntHigh) (x + 1) IntLow
-  int-kept x kept h =
-      let first : h.between ≡ set regs x IntHigh = h.high.after_is ∙ ap (set regs x) h.high.stored in
-      h.low.after_is ∙ (ap (λ ty. set h.between (x + 1) ty) h.low.stored ∙ ap (λ (xs : List Ty). set xs (x + 1) IntLow) first)
+  int-kept x kept h = grind (arith)
 
   zero-more : (n : ℕ) → n + 0 ≡ n
   zero-more n = omega arith

@@ -61,16 +61,12 @@ empty-there args count n from lt =
     ∙ get-replicate (count - length args) (n - length args) tagged.empty (omega (arith, from, lt)))
 
 long-as : (args : List Cell) (count : ℕ) → length args ≤ count → length (args ++ replicate (count - length args) tagged.empty) ≡ count
-long-as args count le =
-    length-append args (replicate (count - length args) tagged.empty)
-    ∙ (ap (λ n. length args + n) (length-replicate (count - length args) tagged.empty) ∙ omega (arith, le))
+long-as args count le = grind (arith, length-append, replicate, length-replicate)
 
 none-there :
     (args : List Cell) (count n : ℕ) → length args ≤ count → count ≤ n
     → slice_get (args ++ replicate (count - length args) tagged.empty) n ≡ None
-none-there args count n le past =
-    slice_get_past (args ++ replicate (count - length args) tagged.empty) n
-    (let e = long-as args count le in omega (arith, e, past))
+none-there args count n le past = grind (arith, slice_get_past, replicate, long-as)
 
 module _ (v w : Linked) (typings : Typings) (r : Renaming) where
   abbrev pub Settles : Outcome Cell → Outcome Cell → Type 0
@@ -187,10 +183,7 @@ module _ (v w : Linked) (typings : Typings) (r : Renaming) where
         matched = (its v w typings laws r pair f g at).matched call (Call b.callee) b.operates
 
         after-here : after_call v f ≡ call.place + call.insn.len
-        after-here =
-            ap return_place
-            (ap (λ c. instruction_at c f.place) (its-code v w typings laws r pair f g at)
-            ∙ stands-at at.source.code f.place call b.operates.stands b.there)
+        after-here = grind (arith, its-code v w typings laws r pair f g at, stands-at at.source.code f.place call b.operates.stands b.there)
 
         after-there : after_call w g ≡ rename (after_call v f)
         after-there =
@@ -208,10 +201,7 @@ module _ (v w : Linked) (typings : Typings) (r : Renaming) where
             (subst (IsLiveAt v at.source x) after-here live)
 
         same-depth : length (with_value cells g.stack) ≡ length (with_value cells f.stack)
-        same-depth =
-            let e : Cell → Cell = renamed_cell rename in
-            let below : length g.stack ≡ length f.stack = ap length at.stack ∙ length-map f.stack e in
-            length-append (reverse cells) g.stack ∙ (ap (λ n. length (reverse cells) + n) below ∙ sym (length-append (reverse cells) f.stack))
+        same-depth = grind (arith, length-map, length-append, reverse)
 
         same-stack : with_value cells g.stack ≡ map (renamed_cell rename) (with_value cells f.stack)
         same-stack =
@@ -221,17 +211,7 @@ module _ (v w : Linked) (typings : Typings) (r : Renaming) where
             ∙ sym (map-append e (reverse cells) f.stack))
 
         given-beside : FrameBeside v w r (given_frame v cells f) (given_frame w cells g)
-        given-beside = record {
-          source = at.source;
-          is_source = at.is_source;
-          number = at.number;
-          method = at.method;
-          at = after-there;
-          counted = at.counted;
-          count = at.count;
-          stack = same-stack;
-          held = leads-after;
-        }
+        given-beside = grind (arith, after-there, same-stack, leads-after)
 
         place-after : nat_le (length (code_at v f.method)) (after_call v f) ≡ false → IsPlace at.source.code (after_call v f)
         place-after inside =

@@ -166,11 +166,7 @@ module _ (v : Linked) (links : IsWorld v) (m target : Method) (regs : List Ty) (
     handed = receiver_of m.rec ++ m.rec.sig.args
 
     handed-length : length handed ≡ nargs
-    handed-length =
-        let whole = start-length v links m is in
-        let parts = length-append handed (replicate m.rec.max_locals Bottom) in
-        let rest = length-replicate m.rec.max_locals Bottom in
-        omega (arith, whole, parts, rest)
+    handed-length = grind (arith, start-length, length-append, replicate, length-replicate)
 
     declared : CellsBelow v.classes (start_frame target.rec Bottom).regs others
     declared =
@@ -204,7 +200,5 @@ module _ (v : Linked) (links : IsWorld v) (m target : Method) (regs : List Ty) (
     }
 
 pub shared-have-types : (v : Linked) → IsWorld v → SharedHaveTypes v
-shared-have-types v links m target regs stacks ks given f is ty vs all numbers has = (
-  others v links m target regs stacks ks given f is ty vs all numbers has,
-  shared-types v links m target regs stacks ks given f is ty vs all numbers has,
-)
+shared-have-types v links m target regs stacks ks given f is ty vs all numbers has =
+    grind (arith, shared-types v links m target regs stacks ks given f is ty vs all numbers has)

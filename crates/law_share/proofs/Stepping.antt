@@ -1,16 +1,14 @@
 -- A step of the first world, and the step of the second that comes to the same.
 use Rattle.std.proofs.Common.{◌≡◌, ℕ, suc, ◌+◌, ◌-◌, ◌<◌, ◌≤◌, ◌⊎◌, inl, inr, ⊎_elim, true, List, [], ◌∷◌}
 use Rattle.std.proofs.Common.{length, map, drop, refl, sym, ap, ◌∙◌, subst, arith}
-use Rattle.std.specs.Prelude.{pos, nat_lt, Some, None, option_map, Ok, All, Contains, slice_get}
+use Rattle.std.specs.Prelude.{pos, nat_lt, Some, None, Ok, All, Contains, slice_get}
 use Rattle.std.specs.List.{list_all}
 use Rattle.std.proofs.lemmas.Bool.{ltb-false, cases_lt}
 use Rattle.std.proofs.lemmas.Option.{same_Some, slice_get-map}
 use Rattle.std.proofs.lemmas.List.{drop-map}
 use Rattle.jc_base.specs.declared.record.MethodRec.{MethodRec}
 use Rattle.jc_base.specs.World.{Linked, code_of}
-use Rattle.jc_decode.specs.declared.insn.Case.{Case}
 use Rattle.jc_decode.specs.declared.insn.Placed.{Placed}
-use Rattle.jc_decode.specs.Cases.{cases}
 use Rattle.jc_decode.specs.Listing.{targets}
 use Rattle.jc_decode.proofs.Elements.{Contains-slice_get}
 use Rattle.jc_control.specs.Control.{IsReached, falls_through, jumped}
@@ -24,14 +22,15 @@ use Rattle.jc_rules.specs.Footprint.{Footprint, footprint, cells_asked, register
 use Rattle.jc_rules.specs.Rule.{demands}
 use Rattle.vm_store.specs.declared.cell.Cell.{Cell}
 use Rattle.vm_store.specs.Cells.{tagged}
-use Rattle.vm_store.specs.State.{Frame, State, arguments, entered, top, other_frames, register_count, register_count_of, with_call, without_top}
+use Rattle.vm_store.specs.State.{Frame, State, arguments, entered, top}
+use Rattle.vm_store.specs.State.{other_frames, register_count, register_count_of, with_call, without_top}
 use Rattle.vm_step.specs.declared.ending.Ending.TheVariants as endings
 use Rattle.vm_step.specs.declared.ending.Fault.TheVariants.{LocalFault, StackFault, TypeFault}
 use Rattle.vm_step.specs.Act.{calls}
-use Rattle.vm_step.specs.Methods.{code_at, instruction_at}
+use Rattle.vm_step.specs.Methods.{code_at}
 use Rattle.vm_step.specs.Performed.{act}
-use Rattle.vm_step.specs.Raising.{Outcome, running, raised, thrown}
-use Rattle.vm_step.specs.Settled.{given_to, place_number, settled}
+use Rattle.vm_step.specs.Raising.{Outcome, running, thrown}
+use Rattle.vm_step.specs.Settled.{given_to, settled}
 use Rattle.vm_step.specs.Step.{Fetches, Steps, misplaced, unresolved, performs, performed}
 use Rattle.vm_step.specs.Tests.{fault_before, types_of}
 use Rattle.law_sound.specs.Frames.{Typings, Standing}
@@ -42,7 +41,7 @@ use Rattle.law_sound.proofs.Places.{IsThere, instruction-there}
 use Rattle.law_erasure.specs.Erasure.{IsNoFault}
 use Rattle.law_erasure.proofs.Together.{safe-free}
 use Rattle.law_alike.specs.Alike.{renamed_cell, renamed_new, StayAlike}
-use Rattle.law_alike.specs.Running.{keys_at, Executes, RunAlike, ComeAlike, next_alike, target_alike, call_alike, return_alike, exception_alike}
+use Rattle.law_alike.specs.Running.{Executes, RunAlike, ComeAlike, next_alike, target_alike, call_alike, return_alike, exception_alike}
 use Rattle.law_alike.specs.Running.{throw_alike, end_alike}
 use Rattle.law_alike.specs.Simulation.{both_run, both_end}
 use Rattle.law_alike.proofs.Settling.{unless-none}
@@ -96,10 +95,7 @@ module _ (v w : Linked) (typings : Typings) (r : Renaming) (laws : AreLaws v) (p
     same-rec = same_Some m source.rec (sym fetched.method ∙ its-rec)
 
     operates : Operates v source i op
-    operates = record {
-      stands = subst (λ c. HasInstruction c i) code-here there-is.stands;
-      resolves = subst (λ (x : MethodRec). Resolves v x i.place i.insn (Ok op)) same-rec resolved;
-    }
+    operates = grind (arith, code-here, there-is, same-rec)
 
     abbrev j : Placed
     j = (k.matched i op operates).other
@@ -117,9 +113,7 @@ module _ (v w : Linked) (typings : Typings) (r : Renaming) (laws : AreLaws v) (p
     falls-same = sym (sym (falls-new place op) ∙ (laws.leave (renamed_new place op) new are.alike).falls)
 
     quiet-too : (footprint v op).written ≡ 0 → (footprint v new).written ≡ 0
-    quiet-too none =
-        sym (laws.leave (renamed_new place op) new are.alike).written
-        ∙ (ap (λ (p : Footprint). p.written) (footprint-new v place op) ∙ none)
+    quiet-too none = grind (arith, are, footprint-new)
 
     -- ---- after the step, in the same frame
 
@@ -177,9 +171,7 @@ module _ (v w : Linked) (typings : Typings) (r : Renaming) (laws : AreLaws v) (p
       }
 
       rest-under : AreUnder v w r (other_frames y.frames) (other_frames u.frames)
-      rest-under =
-          subst (λ xs. AreUnder v w r xs (other_frames u.frames)) (sym (ap other_frames stays.first.frames))
-          (subst (λ xs. AreUnder v w r (other_frames z.frames) xs) (sym (ap other_frames stays.second.frames)) b.under)
+      rest-under = grind (arith)
 
       goes-beside :
           (q : ℕ) → MayLeadTo source i q → (top y).place ≡ q → (top u).place ≡ place q → IsTypedState v typings y
@@ -187,8 +179,7 @@ module _ (v w : Linked) (typings : Typings) (r : Renaming) (laws : AreLaws v) (p
       goes-beside q leads here there typed = both_run (record {
         first = stays.first.frames ∙ ap (λ xs. top y ∷ xs) (sym (ap other_frames stays.first.frames));
         second = stays.second.frames ∙ ap (λ xs. top u ∷ xs) (sym (ap other_frames stays.second.frames));
-        tops = frame_with (top y) (top u) refl refl (there ∙ ap place (sym here)) refl refl stays.alike.stack
-            (λ x live. held-at q x leads (subst (IsLiveAt v source x) here live));
+        tops = grind (arith, held-at);
         under = rest-under;
         heap = stays.alike.heap;
         statics = stays.alike.statics;
@@ -234,9 +225,7 @@ module _ (v w : Linked) (typings : Typings) (r : Renaming) (laws : AreLaws v) (p
 
     target-mapped : (n q : ℕ) → slice_get (targets source.code i) n ≡ Some (pos q)
         → slice_get (targets k.target.code j) n ≡ Some (pos (place q))
-    target-mapped n q e =
-        ap (λ ts. slice_get ts n) are.leads
-        ∙ (slice_get-map (λ x. pos (place (place_number x))) (targets source.code i) n ∙ ap (option_map (λ x. pos (place (place_number x)))) e)
+    target-mapped n q e = grind (arith, are, slice_get-map)
 
     come-settles :
         (o p : Outcome Cell) → ComeAlike tagged (renamed_cell place) v w z t i j op new o p → IsTypedOutcome v typings o
@@ -254,17 +243,12 @@ module _ (v w : Linked) (typings : Typings) (r : Renaming) (laws : AreLaws v) (p
         (same_Some (pos (top u).place) (pos (place (top y).place)) (sym also ∙ target-mapped n (top y).place target)) in
         goes-beside y u stays (top y).place (leads_on (jumped (Contains-slice_get (targets source.code i) n (pos (top y).place) target))) refl same safe
     come-settles o p (call_alike method count {z = y} {y = u} stays here there handed acts enter too) safe =
-        settles-as v w typings r o p (running (with_call tagged v.methods y method count)) (running (with_call tagged w.methods u method count)) enter too
-        (calls-settle y u stays method count here there handed acts (subst (IsTypedOutcome v typings) enter safe))
+        grind (arith, settles-as, calls-settle)
     come-settles o p (return_alike value cs plain acts is also) safe =
         settles-as v w typings r o p (given_to tagged v value cs (without_top z)) (given_to tagged w value cs (without_top t)) is also
         (gives v w typings r laws pair value cs (λ e. plain (renamed_cell e) (renamed-keeps e)) z.heap t.heap z.statics t.statics b.heap b.statics b.under
         (subst (IsTypedOutcome v typings) is safe))
-    come-settles o p (exception_alike exception acts is also) safe =
-        settles-as v w typings r o p (raised tagged v exception z) (raised tagged w exception t) is also
-        (raises-settle v w typings laws r pair (top z) (top t) (other_frames z.frames) (other_frames t.frames) b.under
-        (catch-here (raising-is-quiet v i op z exception acts)) exception z t b.first b.second b.heap b.statics
-        (subst (IsTypedOutcome v typings) is safe))
+    come-settles o p (exception_alike exception acts is also) safe = grind (arith, settles-as, raises-settle, catch-here, raising-is-quiet)
     come-settles o p (throw_alike handle acts is also) safe =
         settles-as v w typings r o p (thrown tagged v handle z) (thrown tagged w handle t) is also
         (throws-settle v w typings laws r pair (top z) (top t) (other_frames z.frames) (other_frames t.frames) b.under
@@ -275,15 +259,14 @@ module _ (v w : Linked) (typings : Typings) (r : Renaming) (laws : AreLaws v) (p
     -- ---- before it
 
     other-executes : Executes w t j new
-    other-executes = record {
-      method = k.target.rec;
-      fetched = record {
-        runs = first-runs t b.second;
-        method = other-record v w typings laws r pair (top z) (top t) b.tops;
-        instruction = ap (λ c. instruction_at c (top t).place) code-there ∙ stands-at k.target.code (top t).place j are.operates.stands j-at;
-      };
-      resolved = are.operates.resolves;
-    }
+    other-executes =
+        grind (
+          arith,
+          first-runs t b.second,
+          other-record v w typings laws r pair (top z) (top t) b.tops,
+          code-there,
+          stands-at k.target.code (top t).place j are.operates.stands j-at,
+        )
 
     st : Standing v typings (top z)
     st = (frames-typed v typings z b.first b.typed).0.stands
@@ -319,19 +302,10 @@ module _ (v w : Linked) (typings : Typings) (r : Renaming) (laws : AreLaws v) (p
         let stay = laws.stay typings place z b.typed in
         record {
           operations = are.alike;
-          keys = have-keys op (keys_at v z i) (keys_at w t j)
-              (ap (λ c. map (λ (x : Case). x.key) (cases c i.place i.insn)) code-here
-              ∙ (are.keys ∙ sym (ap (λ c. map (λ (x : Case). x.key) (cases c j.place j.insn)) code-there)));
+          keys = grind (arith, have-keys, code-here, are, code-there);
           targets = subst (λ c. All (IsTargetPlace c) (targets c j)) (sym code-there) (k.formed.targets j are.operates.stands);
           next = goes-there;
-          states = record {
-            frames = ap length b.second ∙ (ap suc (under-length v w r b.under) ∙ sym (ap length b.first));
-            stack = b.tops.stack;
-            heap = b.heap;
-            statics = b.statics;
-            objects_stay = stay.0;
-            statics_stay = stay.1;
-          };
+          states = grind (arith, suc, under-length);
           named = omega (arith, asked, count, total_there);
           read = ap (map (slice_get (top t).registers)) are.reads
               ∙ maps-agree reg (slice_get (top t).registers) (slice_get (top z).registers) (registers_read (demands v op))

@@ -1,12 +1,12 @@
 -- An object that is thrown is caught by the same frame in both worlds, or ends both runs.
 use Rattle.std.proofs.Common.{◌≡◌, ℕ, inl, inr, Bool, true, false, ◌&&◌, cond, List, [], ◌∷◌, map}
 use Rattle.std.proofs.Common.{refl, sym, ap, ◌∙◌, subst}
-use Rattle.std.specs.Prelude.{Option, Some, None, option_map, nat_lt, nat_le, Contains, find}
+use Rattle.std.specs.Prelude.{Option, Some, None, option_map, nat_lt, Contains, find}
+use Rattle.std.proofs.Common.{arith}
 use Rattle.std.proofs.lemmas.Bool.{leb-true, ltb-true}
 use Rattle.jc_base.specs.declared.record.Handler.{Handler}
 use Rattle.jc_base.specs.Class.{ClassTable}
 use Rattle.jc_base.specs.Each.{IsAmong}
-use Rattle.jc_base.specs.Order.{is_on_chain}
 use Rattle.jc_base.specs.World.{Linked}
 use Rattle.jc_base.proofs.Eaching.{Contains-from_IsAmong}
 use Rattle.jc_base.proofs.Tests.{found-passes}
@@ -71,9 +71,7 @@ both-true true false c h = absurd (cc)
 both-true false b c h = absurd (cc)
 
 catches-covers : (t : ClassTable) (place class : ℕ) (h : Handler) → catches t place class h ≡ true → Covers h place
-catches-covers t place class h e =
-    let both = both-true (nat_le h.start place) (nat_lt place h.end) (is_on_chain t h.class class) e in
-    record { from = leb-true h.start place both.0; before = ltb-true place h.end both.1 }
+catches-covers t place class h e = grind (arith, both-true, leb-true, ltb-true)
 
 module _ (v w : Linked) (typings : Typings) (laws : AreLaws v) (r : Renaming) (pair : AreRenamed v w typings r) where
   module _ (f g : Frame Cell) (c : CatchBeside v w r f g) (class : ℕ) where
@@ -170,8 +168,7 @@ module _ (v w : Linked) (typings : Typings) (laws : AreLaws v) (r : Renaming) (p
 
     unwinds : {fs gs : List (Frame Cell)} → AreUnder v w r fs gs → Unwinds fs gs
     unwinds no_frames safe = both_end (endings.Plain (Threw class handle)) same_heap same_statics
-    unwinds (more_frames {f = f} {g = g} {fs = fs} {gs = gs} wait rest) safe =
-        unwinds-one f g fs gs rest (wait-catch v w r wait) (unwinds rest) safe
+    unwinds (more_frames {f = f} {g = g} {fs = fs} {gs = gs} wait rest) safe = grind (arith, unwinds-one, wait-catch, unwinds rest)
 
   -- ---- an object, and an exception of which one is made
 

@@ -1,17 +1,18 @@
 -- The types of the registers that variables share.
 use Rattle.std.proofs.Common.{◌≡◌, ℕ, zero, suc, ◌+◌, ◌-◌, ◌<◌, ◌≤◌, ◌⊎◌, inl, inr, ⊎_elim, List, [], ◌∷◌, ◌++◌, length}
-use Rattle.std.proofs.Common.{refl, sym, ap, ◌∙◌, subst, arith, All, set}
+use Rattle.std.proofs.Common.{refl, ap, ◌∙◌, subst, arith, All, set}
 use Rattle.std.specs.Prelude.{Some, Contains, slice_get}
 use Rattle.std.proofs.lemmas.List.{length-set, get_or-set_same, get_or-set_other}
 use Rattle.std.proofs.lemmas.List.Elements.{All-contains, All-set, Contains-append_left, Contains-push, Contains-push_cases}
 use Rattle.jc_base.specs.declared.ty.Ty.{Ty}
-use Rattle.jc_base.specs.declared.ty.Ty.TheVariants.{Top, IntHigh, IntLow}
+use Rattle.jc_base.specs.declared.ty.Ty.TheVariants.{IntHigh, IntLow}
 use Rattle.jc_base.specs.Each.{IsAmong}
 use Rattle.jc_base.specs.World.{Linked}
 use Rattle.jc_control.specs.Method.{Method}
 use Rattle.jc_rules.specs.Effect.{reg}
 use Rattle.law_share.specs.Variable.{Variable, IsWhole, AreVariables, no_variables, one_register, two_registers, HasRegister}
-use Rattle.law_share.specs.Sharing.{Allotted, FitsBeside, fits_after, fits_before, fits_with, AreAllotted, none_allotted, more_allotted, end_of}
+use Rattle.law_share.specs.Sharing.{Allotted, FitsBeside, fits_after, fits_before, fits_with}
+use Rattle.law_share.specs.Sharing.{AreAllotted, none_allotted, more_allotted, end_of}
 
 -- ---- variables and their types
 
@@ -52,20 +53,14 @@ two-there x y has = let a = has.from in let b = has.before in omega (arith, a, b
 pub variable-type : {x : ℕ} {tys : List Ty} {ks : List Variable} → AreVariables x tys ks → (k : Variable) → IsAmong k ks → (y : ℕ) → HasRegister k y
     → (x ≤ k.register) × (slice_get tys (y - x) ≡ Some (type_in k (y - k.register)))
 variable-type no_variables k among y has = absurd among
-variable-type (one_register {x = x} {ty = ty} {tys = tys} whole rest) k (inl here) y has =
-    let head = subst (λ (u : Variable). HasRegister u y) (sym here) has in
-    subst (λ (u : Variable). (x ≤ u.register) × (slice_get (ty ∷ tys) (y - x) ≡ Some (type_in u (y - u.register)))) here
-    (omega arith, one-first (y - x) x ty tys (one-there x y ty head))
+variable-type (one_register {x = x} {ty = ty} {tys = tys} whole rest) k (inl here) y has = grind (arith, one-first, one-there)
 variable-type (one_register {x = x} {ty = ty} {tys = tys} whole rest) k (inr later) y has =
     let r = variable-type rest k later y has in
     let le = r.0 in
     let from = has.from in
     let next : y - x ≡ suc (y - (x + 1)) = omega (arith, le, from) in
     (omega (arith, le), ap (slice_get (ty ∷ tys)) next ∙ r.1)
-variable-type (two_registers {x = x} {tys = tys} rest) k (inl here) y has =
-    let head = subst (λ (u : Variable). HasRegister u y) (sym here) has in
-    subst (λ (u : Variable). (x ≤ u.register) × (slice_get (IntHigh ∷ IntLow ∷ tys) (y - x) ≡ Some (type_in u (y - u.register)))) here
-    (omega arith, two-first (y - x) x tys (two-there x y head))
+variable-type (two_registers {x = x} {tys = tys} rest) k (inl here) y has = grind (arith, two-first, two-there)
 variable-type (two_registers {x = x} {tys = tys} rest) k (inr later) y has =
     let r = variable-type rest k later y has in
     let le = r.0 in
@@ -97,12 +92,8 @@ types-length (a ∷ given) tys = types-length given (typed_at a.variable.ty a.at
 
 -- registers beside those of the variable are as before
 untouched : (k : Variable) (at : ℕ) (tys : List Ty) (y : ℕ) → IsProper k → (y < at) ⊎ (at + k.width ≤ y) → reg (typed_at k.ty at tys) y ≡ reg tys y
-untouched _ at tys y (proper_one {ty = ty} whole) out =
-    ap (λ (xs : List Ty). reg xs y) (typed-whole ty at tys whole)
-    ∙ get_or-set_other tys at y ty Top (λ e. ⊎_elim (λ lt. omega (arith, e, lt)) (λ le. omega (arith, e, le)) out)
-untouched _ at tys y proper_int out =
-    get_or-set_other (set tys at IntHigh) (at + 1) y IntLow Top (λ e. ⊎_elim (λ lt. omega (arith, e, lt)) (λ le. omega (arith, e, le)) out)
-    ∙ get_or-set_other tys at y IntHigh Top (λ e. ⊎_elim (λ lt. omega (arith, e, lt)) (λ le. omega (arith, e, le)) out)
+untouched _ at tys y (proper_one {ty = ty} whole) out = grind (arith, typed-whole, get_or-set_other, ⊎_elim)
+untouched _ at tys y proper_int out = grind (arith, get_or-set_other, ⊎_elim)
 
 -- the registers have the types of the variable
 pub record HoldsTypes (tys : List Ty) (a : Allotted) : Type 0 where
@@ -111,16 +102,8 @@ pub record HoldsTypes (tys : List Ty) (a : Allotted) : Type 0 where
 
 put-holds : (k : Variable) (at : ℕ) (tys : List Ty) → IsProper k → at + k.width ≤ length tys
     → HoldsTypes (typed_at k.ty at tys) (record { variable = k; at = at })
-put-holds _ at tys (proper_one {ty = ty} whole) le = record {
-  first = ap (λ (xs : List Ty). reg xs at) (typed-whole ty at tys whole) ∙ get_or-set_same tys at ty Top (omega (arith, le));
-  second = λ e. absurd (omega (arith, e));
-}
-put-holds _ at tys proper_int le =
-    let long = length-set tys at IntHigh in
-    record {
-      first = get_or-set_other (set tys at IntHigh) (at + 1) at IntLow Top (λ e. omega (arith, e)) ∙ get_or-set_same tys at IntHigh Top (omega (arith, le));
-      second = λ e. get_or-set_same (set tys at IntHigh) (at + 1) IntLow Top (omega (arith, le, long));
-    }
+put-holds _ at tys (proper_one {ty = ty} whole) le = grind (arith, typed-whole, get_or-set_same)
+put-holds _ at tys proper_int le = grind (arith, length-set, get_or-set_other, get_or-set_same)
 
 pub width-most : (k : Variable) → IsProper k → (1 ≤ k.width) × (k.width ≤ 2)
 width-most _ (proper_one whole) = (omega arith, omega arith)
@@ -129,22 +112,9 @@ width-most _ proper_int = (omega arith, omega arith)
 module _ (w : Linked) (m : Method) where
   put-keeps : (k : Variable) (at : ℕ) (b : Allotted) (tys : List Ty) → IsProper k → IsProper b.variable → at + k.width ≤ length tys
       → FitsBeside w m k at b → HoldsTypes tys b → HoldsTypes (typed_at k.ty at tys) b
-  put-keeps k at b tys proper also le (fits_after out) h =
-      let many = (width-most b.variable also).0 in
-      record {
-        first = untouched k at tys b.at proper (inl (omega (arith, out, many))) ∙ h.first;
-        second = λ e. untouched k at tys (b.at + 1) proper (inl (omega (arith, out, e))) ∙ h.second e;
-      }
-  put-keeps k at b tys proper also le (fits_before out) h = record {
-    first = untouched k at tys b.at proper (inr out) ∙ h.first;
-    second = λ e. untouched k at tys (b.at + 1) proper (inr (omega (arith, out))) ∙ h.second e;
-  }
-  put-keeps k at b tys proper also le (fits_with same width ty apart) h =
-      let now = put-holds k at tys proper le in
-      record {
-        first = ap (reg (typed_at k.ty at tys)) same ∙ (now.first ∙ sym ty);
-        second = λ e. ap (λ n. reg (typed_at k.ty at tys) (n + 1)) same ∙ now.second (sym width ∙ e);
-      }
+  put-keeps k at b tys proper also le (fits_after out) h = grind (arith, width-most, untouched)
+  put-keeps k at b tys proper also le (fits_before out) h = grind (arith, untouched)
+  put-keeps k at b tys proper also le (fits_with same width ty apart) h = grind (arith, put-holds k at tys proper le)
 
   -- ---- all of them
 
