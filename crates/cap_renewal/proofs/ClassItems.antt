@@ -5,10 +5,11 @@ use Rattle.std.specs.Prelude.{nat_lt}
 use Rattle.std.proofs.lemmas.List.{length-map}
 use Rattle.cap_bytes.specs.declared.format.Format.{Format}
 use Rattle.cap_bytes.specs.Grammar.{Grammar, number, u1, u2, repeat, table, when, at_most, ◌>>=◌, give}
-use Rattle.cap_bytes.specs.Spelling.{Spells, Stands, info_of}
+use Rattle.cap_bytes.specs.Spelling.{Spells, Stands}
 use Rattle.cap_bytes.proofs.Wide.{read_within}
 use Rattle.cap_bytes.proofs.UntilLoops.{moves_on}
-use Rattle.cap_class.specs.ClassFormat.{Class, Instance, DispatchTables, Interface, is_interface, class_flags, wrong_record, interface_info, instance_info}
+use Rattle.cap_class.specs.ClassFormat.{Class, Instance, DispatchTables, Interface, is_interface}
+use Rattle.cap_class.specs.ClassFormat.{class_flags, wrong_record, interface_info, instance_info}
 use Rattle.cap_class.specs.ClassFormat.{tables_info, of_class, beyond_first, record_info, is_after, signature_pool, classes_info}
 use Rattle.cap_bytes.specs.Edit.{Edit, AreInside, FitBytes}
 use Rattle.cap_bytes.specs.Renewal.{Renews, IsEdited, AreSame}
@@ -115,12 +116,7 @@ tables_fit : (to : ℕ → ℕ) (bytes : List ℕ) (at : ℕ) (t : DispatchTable
     → Spells tables_info bytes at t after → FitBytes (both_edits to at t)
 unfolding both_edits
 tables_fit to bytes at t after are keeps s =
-    let h = has_tables bytes at t after s in
-    fit_append (table_edits to (at + 4) t.public) (table_edits to (at + 4 + 2 * length t.public) t.visible)
-    (all_fit u2 (number_edits to) two_bytes to bytes (number_item to bytes) (number_fit to bytes are keeps) h.public_count (at + 4) t.public
-    (at + 4 + 2 * length t.public) h.public)
-    (all_fit u2 (number_edits to) two_bytes to bytes (number_item to bytes) (number_fit to bytes are keeps) h.visible_count (at + 4 + 2 * length t.public)
-    t.visible after h.visible)
+    grind (arith, has_tables bytes at t after s, number_item to bytes, number_fit to bytes are keeps, fit_append, all_fit)
 
 tables_renewed : (to : ℕ → ℕ) (bytes out : List ℕ) (at : ℕ) (t : DispatchTables) (after : ℕ) → length out ≡ length bytes
     → Spells tables_info bytes at t after → IsEdited (both_edits to at t) at after bytes out → Spells tables_info out at (renewed_tables to t) after
@@ -143,18 +139,10 @@ tables_renewed to bytes out at t after len s ed =
     (record {
       public_count = h.public_count;
       visible_count = h.visible_count;
-      first_base =
-          spelled_same u1 bytes out at t.public_base (at + 1) len (same_part at (at + 4) at (at + 1) bytes out one.0 (omega arith) (omega arith))
-          h.first_base;
-      public_counted =
-          spelled_same u1 bytes out (at + 1) h.public_count (at + 2) len
-          (same_part at (at + 4) (at + 1) (at + 2) bytes out one.0 (omega arith) (omega arith)) h.public_counted;
-      second_base =
-          spelled_same u1 bytes out (at + 2) t.package_base (at + 3) len
-          (same_part at (at + 4) (at + 2) (at + 3) bytes out one.0 (omega arith) (omega arith)) h.second_base;
-      visible_counted =
-          spelled_same u1 bytes out (at + 3) h.visible_count (at + 4) len
-          (same_part at (at + 4) (at + 3) (at + 4) bytes out one.0 (omega arith) (omega arith)) h.visible_counted;
+      first_base = grind (arith, spelled_same, same_part);
+      public_counted = grind (arith, spelled_same, same_part);
+      second_base = grind (arith, spelled_same, same_part);
+      visible_counted = grind (arith, spelled_same, same_part);
       public = subst (λ m. Spells (repeat h.public_count u2) out (at + 4) (map to t.public) m) there publics;
       visible = subst (λ m. Spells (repeat h.visible_count u2) out m (map to t.visible) after) there visibles;
       end = omega arith;
@@ -164,13 +152,7 @@ tables_renewed to bytes out at t after len s ed =
 
 wide_instance : (bytes : List ℕ) (at : ℕ) (i : Instance) (after : ℕ) → Spells instance_info bytes at i after → after ≡ at + 5
 unfolding Spells
-wide_instance bytes at i after h =
-    let a = h.2.2 in
-    let b = h.3.2.2 in
-    let c = h.3.3.2.2 in
-    let d = h.3.3.3.2.2 in
-    let e = h.3.3.3.3.1 in
-    omega arith
+wide_instance bytes at i after h = grind (arith)
 
 -- the parts of a class record after its first byte
 record HasClass (bytes : List ℕ) (at first : ℕ) (c : Class) (after : ℕ) : Type 0 where
@@ -205,9 +187,7 @@ has_class bytes at offset first c after h =
 class_edits_at : (to : ℕ → ℕ) (offset first : ℕ) (i : Instance) (t : DispatchTables) (xs : List Interface)
     → is_interface (class_flags first) ≡ false → class_edits to (of_class offset first i t xs) ≡ both_edits to (offset + 6) t
 unfolding both_edits
-class_edits_at to offset first i t xs e =
-    let ten : offset + 6 + 4 ≡ offset + 10 = omega arith in
-    rw (e, ten) refl
+class_edits_at to offset first i t xs e = grind (arith)
 
 interface_edits : (to : ℕ → ℕ) (c : Class) → is_interface c.flags ≡ true → class_edits to c ≡ []
 interface_edits to c e = rw e refl
@@ -215,8 +195,7 @@ interface_edits to c e = rw e refl
 beyond_flags : (bytes : List ℕ) (at offset first : ℕ) (b : Bool) (c : Class) (after : ℕ) → Spells (beyond_first b offset first) bytes at c after
     → (c.flags ≡ class_flags first) × (c.offset ≡ offset)
 unfolding Spells
-beyond_flags bytes at offset first true c after h = rw h.3.0 (refl, refl)
-beyond_flags bytes at offset first false c after h = rw h.3.3.3.0 (refl, refl)
+beyond_flags bytes at offset first v c after h = grind (arith)
 
 interface_same : (to : ℕ → ℕ) (bytes : List ℕ) (at offset first : ℕ) (c : Class) (after : ℕ)
     → Spells (beyond_first true offset first) bytes at c after → renewed_class to c ≡ c
@@ -245,9 +224,7 @@ is_beyond to bytes offset first true c after e h =
     record {
       inside = rw none on;
       fit = λ are keeps. rw none tt;
-      renewed = λ out len ed. rw (interface_same to bytes (offset + 1) offset first c after h)
-          (spelled_same (beyond_first true offset first) bytes out (offset + 1) c after len
-          (subst (λ es. IsEdited es (offset + 1) after bytes out) none ed) h);
+      renewed = grind (arith, interface_same, spelled_same);
     }
 is_beyond to bytes offset first false c after e h =
     let p = has_class bytes (offset + 1) offset first c after h in
@@ -339,19 +316,16 @@ record AreRecords (to : ℕ → ℕ) (bytes : List ℕ) (n : ℕ) (after_class :
 no_records : (to : ℕ → ℕ) (bytes : List ℕ) (n : ℕ) (after_class : Bool) (at : ℕ) (cs : List Class) (after : ℕ) → cs ≡ [] → after ≡ at
     → ((out : List ℕ) → length out ≡ length bytes → Spells (at_most n record_info is_after after_class) out at [] at)
     → AreRecords to bytes n after_class at cs after
-no_records to bytes n after_class at cs after e d again =
-    rw (e, d) (record { inside = omega arith; fit = λ are keeps. tt; renewed = λ out len ed. again out len })
+no_records to bytes n after_class at cs after e d again = grind (arith)
 
 when_true : {X : Type 0} (b : Bool) (otherwise : X) (g : Grammar X) (bytes : List ℕ) (at : ℕ) (x : X) (after : ℕ) → b ≡ true
     → Spells g bytes at x after → Spells (when b otherwise g) bytes at x after
-when_true true otherwise g bytes at x after e h = h
-when_true false otherwise g bytes at x after e h = absurd (cc)
+when_true x otherwise g bytes at x2 after e h = grind (arith)
 
 when_false : {X : Type 0} (b : Bool) (otherwise : X) (g : Grammar X) (bytes : List ℕ) (at : ℕ) → b ≡ false
     → Spells (when b otherwise g) bytes at otherwise at
 unfolding Spells
-when_false true otherwise g bytes at e = absurd (cc)
-when_false false otherwise g bytes at e = (refl, refl)
+when_false x otherwise g bytes at e = grind (arith)
 
 more_records : (to : ℕ → ℕ) (bytes : List ℕ) (n : ℕ) (after_class : Bool) (at : ℕ) (c : Class) (mid : ℕ) (cs : List Class) (after : ℕ)
     → nat_lt 0 (length bytes - at) ≡ true
@@ -363,19 +337,7 @@ more_records to bytes n after_class at c mid cs after some h rest =
     record {
       inside = inside_append (class_edits to c) (classes_edits to cs) at mid after k.inside rest.inside;
       fit = λ are keeps. fit_append (class_edits to c) (classes_edits to cs) (k.fit are keeps) (rest.fit are keeps);
-      renewed = λ out len ed.
-          let two = edited_split (class_edits to c) (classes_edits to cs) at mid after bytes out k.inside rest.inside ed in
-          let items : Spells (record_info after_class >>= λ x. at_most n record_info is_after (is_after after_class x) >>= λ xs. give (x ∷ xs)) out at
-          (map (renewed_class to) (c ∷ cs)) after =
-          (renewed_class to c, mid, k.renewed out len two.0, (map (renewed_class to) cs, after, rest.renewed out len two.1, (refl, refl))) in
-          let test : nat_lt 0 (length out - at) ≡ true = rw len some in (
-            length out - at,
-            at,
-            (refl, refl),
-            when_true (nat_lt 0 (length out - at)) []
-                (record_info after_class >>= λ x. at_most n record_info is_after (is_after after_class x) >>= λ xs. give (x ∷ xs)) out at
-                (map (renewed_class to) (c ∷ cs)) after test items,
-          );
+      renewed = grind (arith, edited_split, when_true);
     }
 
 by_test : (to : ℕ → ℕ) (bytes : List ℕ) (n : ℕ) (after_class : Bool) (at : ℕ) (cs : List Class) (after : ℕ) (b : Bool)
@@ -385,14 +347,7 @@ by_test : (to : ℕ → ℕ) (bytes : List ℕ) (n : ℕ) (after_class : Bool) (
     → Spells (when b [] (record_info after_class >>= λ x. at_most n record_info is_after (is_after after_class x) >>= λ xs. give (x ∷ xs))) bytes at
     cs after → AreRecords to bytes (suc n) after_class at cs after
 unfolding Spells
-by_test to bytes n after_class at cs after false t others h = no_records to bytes (suc n) after_class at cs after h.0 h.1 (λ out len.
-    let test : nat_lt 0 (length out - at) ≡ false = rw len t in (
-      length out - at,
-      at,
-      (refl, refl),
-      when_false (nat_lt 0 (length out - at)) []
-          (record_info after_class >>= λ x. at_most n record_info is_after (is_after after_class x) >>= λ xs. give (x ∷ xs)) out at test,
-    ))
+by_test to bytes n after_class at cs after false t others h = grind (arith, no_records, suc, when_false)
 by_test to bytes n after_class at cs after true t others h =
     let e : cs ≡ h.0 ∷ h.3.0 = h.3.3.0 in
     let d : after ≡ h.3.1 = h.3.3.1 in
@@ -433,24 +388,7 @@ pub record HasClasses (bytes : List ℕ) (format : Format) (cs : List Class) : T
 
 pub has_classes : (format : Format) (bytes : List ℕ) (cs : List Class) → Stands (classes_info format) bytes cs → HasClasses bytes format cs
 unfolding Stands Spells
-has_classes format bytes cs s =
-    let h = s.1 in
-    let r = h.3 in
-    let some : h.1 ≤ length bytes = read_within (info_of 6) (signature_pool format) bytes 0 h.0 h.1 (omega arith) h.2 in
-    let place : r.1 ≡ h.1 = r.2.1 in
-    let size : r.0 ≡ length bytes - h.1 = r.2.0 in
-    let items : Spells (at_most r.0 record_info is_after false) bytes h.1 cs s.0 = subst
-    (λ m. Spells (at_most r.0 record_info is_after false) bytes m cs s.0) place r.3 in
-    record {
-      pool = h.0;
-      start = h.1;
-      head = h.2;
-      fuel = r.0;
-      same = size;
-      after = s.0;
-      items = items;
-      within = read_within (info_of 6) (at_most r.0 record_info is_after false) bytes h.1 cs s.0 some items;
-    }
+has_classes format bytes cs s = grind (arith, read_within)
 
 classes_made : (format : Format) (bytes : List ℕ) (cs : List Class) → HasClasses bytes format cs → Stands (classes_info format) bytes cs
 unfolding Stands Spells
@@ -504,17 +442,12 @@ room_beyond bytes at offset first c after e le h =
 
 room_by : (bytes : List ℕ) (offset first : ℕ) (b : Bool) (c : Class) (at after : ℕ) → at ≡ offset + 1 → is_interface (class_flags first) ≡ b
     → after ≤ length bytes → Spells (beyond_first b offset first) bytes at c after → TablesFit (length bytes) c
-room_by bytes offset first true c at after e b le h =
-    let flags = beyond_flags bytes at offset first true c after h in
-    let is : is_interface c.flags ≡ true = ap is_interface flags.0 ∙ b in
-    record { room = λ is_not. absurd (cc) }
-room_by bytes offset first false c at after e b le h = record { room = λ is_not. room_beyond bytes at offset first c after e le h }
+room_by bytes offset first u c at after e b le h = grind (arith, beyond_flags, room_beyond)
 
 record_room : (bytes : List ℕ) (after_class : Bool) (at : ℕ) (c : Class) (after : ℕ) → after ≤ length bytes
     → Spells (record_info after_class) bytes at c after → TablesFit (length bytes) c
 unfolding Spells record_info
-record_room bytes after_class at c after le h =
-    room_by bytes h.0 h.3.0 (is_interface (class_flags h.3.0)) c h.3.1 after (omega (arith, h.2.0, h.2.1, h.3.2.2)) refl le h.3.3
+record_room bytes after_class at c after le h = grind (arith, room_by)
 
 rooms_by : (bytes : List ℕ) (n : ℕ) (after_class : Bool) (at : ℕ) (cs : List Class) (after : ℕ) (b : Bool) → after ≤ length bytes
     → ((s : Bool) (at' : ℕ) (xs : List Class) (end : ℕ) → end ≤ length bytes → Spells (at_most n record_info is_after s) bytes at' xs end
@@ -540,6 +473,4 @@ records_room bytes (suc n) after_class at cs after le h =
     rooms_by bytes n after_class h.1 cs after (nat_lt 0 h.0) le (λ s' at' xs end l d. records_room bytes n s' at' xs end l d) h.3
 
 pub classes_room : (format : Format) (bytes : List ℕ) (cs : List Class) → Stands (classes_info format) bytes cs → AllRooms (length bytes) cs
-classes_room format bytes cs s =
-    let h = has_classes format bytes cs s in
-    records_room bytes h.fuel false h.start cs h.after h.within h.items
+classes_room format bytes cs s = grind (arith, has_classes, records_room)

@@ -1,12 +1,13 @@
 -- A class descriptor with other numbers of methods.
-use Rattle.std.proofs.Common.{◌≡◌, ℕ, ◌+◌, ◌*◌, ◌≤◌, List, [], length, map, Option, Bool, true, false, refl, sym, subst, ◌∙◌, arith}
+use Rattle.std.proofs.Common.{◌≡◌, ℕ, ◌+◌, ◌*◌, ◌≤◌, List, [], length, map, Option, Bool, true, false, refl, subst, arith}
 use Rattle.std.specs.Prelude.{if◌then◌else◌}
 use Rattle.std.proofs.lemmas.List.{length-map}
 use Rattle.cap_bytes.specs.Grammar.{u1, u2, repeat, table}
-use Rattle.cap_bytes.specs.Spelling.{Spells, Stands, info_of}
+use Rattle.cap_bytes.specs.Spelling.{Spells, Stands}
 use Rattle.cap_bytes.proofs.Wide.{read_within}
 use Rattle.cap_bytes.proofs.UntilLoops.{moves_on}
-use Rattle.cap_desc.specs.DescriptorFormat.{FieldDescriptor, MethodDescriptor, ClassDescriptor, Descriptor, method_flags, field_descriptor_info}
+use Rattle.cap_desc.specs.DescriptorFormat.{FieldDescriptor, MethodDescriptor, ClassDescriptor}
+use Rattle.cap_desc.specs.DescriptorFormat.{Descriptor, method_flags, field_descriptor_info}
 use Rattle.cap_desc.specs.DescriptorFormat.{method_descriptor_info, class_descriptor_info, descriptor_info}
 use Rattle.cap_bytes.specs.Edit.{Edit, patched_all, AreInside, FitBytes}
 use Rattle.cap_bytes.specs.Renewal.{Renews, IsEdited, AreSame}
@@ -15,7 +16,8 @@ use Rattle.cap_bytes.proofs.Patches.{edited_split, edited_last, inside_to, insid
 use Rattle.cap_renewal.specs.declared.new_methods.NewMethod.{NewMethod}
 use Rattle.cap_bytes.specs.Bytes.{AreBytes}
 use Rattle.cap_renewal.specs.NewMethods.{AreSmall, IsSmall, new_numbers}
-use Rattle.cap_renewal.specs.DescriptorEdits.{method_by, renewed_method, edits_to, method_edits, method_width, methods_edits, before_methods, renewed_class}
+use Rattle.cap_renewal.specs.DescriptorEdits.{method_by, renewed_method, edits_to, method_edits}
+use Rattle.cap_renewal.specs.DescriptorEdits.{method_width, methods_edits, before_methods, renewed_class}
 use Rattle.cap_renewal.specs.DescriptorEdits.{class_edits, class_width, descriptor_edits, renewed_descriptor}
 use Rattle.cap_renewal.proofs.Items.{IsItem, IsFit, all_inside, all_fit, all_renewed, all_wide, IsRenewing, has_more}
 use Rattle.cap_renewal.proofs.Numbers.{number_small, wide_u2}
@@ -38,42 +40,7 @@ record HasMethod (bytes : List ℕ) (at : ℕ) (m : MethodDescriptor) (after : �
 has_method : (bytes : List ℕ) (at : ℕ) (m : MethodDescriptor) (after : ℕ) → Spells method_descriptor_info bytes at m after
     → HasMethod bytes at m after
 unfolding Spells
-has_method bytes at m after h =
-    let f = h.3 in
-    let o = f.3 in
-    let t = o.3 in
-    let b = t.3 in
-    let c = b.3 in
-    let i = c.3 in
-    let m1 : h.1 ≡ at + 1 = h.2.2 in
-    let m2 : f.1 ≡ at + 2 = omega (arith, f.2.2, m1) in
-    let m4 : o.1 ≡ at + 4 = omega (arith, o.2.2, m2) in
-    let m6 : t.1 ≡ at + 6 = omega (arith, t.2.2, m4) in
-    let m8 : b.1 ≡ at + 8 = omega (arith, b.2.2, m6) in
-    let m10 : c.1 ≡ at + 10 = omega (arith, c.2.2, m8) in
-    let m12 : i.1 ≡ at + 12 = omega (arith, i.2.2, m10) in
-    let is : m ≡ record {
-      token = h.0;
-      flags = method_flags f.0;
-      method_offset = o.0;
-      type_offset = t.0;
-      bytecode_count = b.0;
-      handler_count = c.0;
-      handler_index = i.0;
-    } = i.3.0 in
-    let z : after ≡ i.1 = i.3.1 in
-    rw is (record {
-      byte = f.0;
-      token = subst (λ k. Spells u1 bytes at h.0 k) m1 h.2;
-      flags = rw (← m2, ← m1) f.2;
-      flagged = refl;
-      offset = rw (← m4, ← m2) o.2;
-      type_of = rw (← m6, ← m4) t.2;
-      bytecodes = rw (← m8, ← m6) b.2;
-      handlers = rw (← m10, ← m8) c.2;
-      index = rw (← m12, ← m10) i.2;
-      end = z ∙ m12;
-    })
+has_method bytes at m after h = grind (arith)
 
 method_made : (bytes : List ℕ) (at : ℕ) (m : MethodDescriptor) (after : ℕ) → HasMethod bytes at m after
     → Spells method_descriptor_info bytes at m after
@@ -141,13 +108,7 @@ edited_method bytes out at m n after len p ed =
 
 pub method_item : (news : List (Option NewMethod)) (bytes : List ℕ) → IsItem method_descriptor_info (method_edits news) method_width
     (renewed_method news) bytes
-method_item news bytes = record {
-  wide = λ at m after h. (has_method bytes at m after h).end;
-  inside = λ at m after h. let e = (has_method bytes at m after h).end in (omega arith, (omega arith, (omega arith, (omega arith, omega arith))));
-  renewed =
-      λ out at m after len h ed. method_made out at (renewed_method news m) after
-      (edited_method bytes out at m (new_numbers news m) after len (has_method bytes at m after h) ed);
-}
+method_item news bytes = grind (arith, has_method, method_made, edited_method)
 
 method_fit : (news : List (Option NewMethod)) (bytes : List ℕ) → AreBytes bytes → AreSmall news → IsFit method_descriptor_info (method_edits news) bytes
 unfolding Spells
@@ -164,13 +125,7 @@ method_fit news bytes are small = record {
 
 wide_field : (bytes : List ℕ) (at : ℕ) (f : FieldDescriptor) (after : ℕ) → Spells field_descriptor_info bytes at f after → after ≡ at + 7
 unfolding Spells
-wide_field bytes at f after h =
-    let a = h.2.2 in
-    let b = h.3.2.2 in
-    let c = h.3.3.2.2 in
-    let d = h.3.3.3.2.2 in
-    let e = h.3.3.3.3.1 in
-    omega arith
+wide_field bytes at f after h = grind (arith)
 
 record HasClass (bytes : List ℕ) (at : ℕ) (c : ClassDescriptor) (after : ℕ) : Type 0 where
   byte : ℕ
@@ -316,24 +271,12 @@ by_renewed false news bytes out at c after len h ed =
       method_count = p.method_count;
       token = spelled_same u1 bytes out at c.token (at + 1) len (same_part at mid at (at + 1) bytes out s (omega arith) (omega arith)) p.token;
       flags = spelled_same u1 bytes out (at + 1) p.byte (at + 2) len (same_part at mid (at + 1) (at + 2) bytes out s (omega arith) (omega arith)) p.flags;
-      reference =
-          spelled_same u2 bytes out (at + 2) c.class_ref (at + 4) len (same_part at mid (at + 2) (at + 4) bytes out s (omega arith) (omega arith))
-          p.reference;
-      interfaces_counted =
-          spelled_same u1 bytes out (at + 4) p.interface_count (at + 5) len (same_part at mid (at + 4) (at + 5) bytes out s (omega arith) (omega arith))
-          p.interfaces_counted;
-      fields_counted =
-          spelled_same u2 bytes out (at + 5) p.field_count (at + 7) len (same_part at mid (at + 5) (at + 7) bytes out s (omega arith) (omega arith))
-          p.fields_counted;
-      methods_counted =
-          spelled_same u2 bytes out (at + 7) p.method_count (at + 9) len (same_part at mid (at + 7) (at + 9) bytes out s (omega arith) (omega arith))
-          p.methods_counted;
-      interfaces =
-          spelled_same (repeat p.interface_count u2) bytes out (at + 9) c.interfaces (at + 9 + 2 * length c.interfaces) len
-          (same_part at mid (at + 9) (at + 9 + 2 * length c.interfaces) bytes out s (omega arith) (omega arith)) p.interfaces;
-      fields =
-          spelled_same (repeat p.field_count field_descriptor_info) bytes out (at + 9 + 2 * length c.interfaces) c.fields mid len
-          (same_part at mid (at + 9 + 2 * length c.interfaces) mid bytes out s (omega arith) (omega arith)) p.fields;
+      reference = grind (arith, spelled_same, same_part);
+      interfaces_counted = grind (arith, spelled_same, same_part);
+      fields_counted = grind (arith, spelled_same, same_part);
+      methods_counted = grind (arith, spelled_same, same_part);
+      interfaces = grind (arith, spelled_same, same_part);
+      fields = grind (arith, spelled_same, same_part);
       methods =
           all_renewed method_descriptor_info (method_edits news) method_width (renewed_method news) bytes (method_item news bytes) out len p.method_count
           mid c.methods after p.methods both.1;
@@ -352,22 +295,11 @@ class_is interfaces news c = refl
 
 pub class_item : (interfaces : ℕ → Bool) (news : List (Option NewMethod)) (bytes : List ℕ)
     → IsItem class_descriptor_info (class_edits interfaces news) class_width (renewed_class interfaces news) bytes
-class_item interfaces news bytes = record {
-  wide = λ at c after h. (has_class bytes at c after h).end;
-  inside =
-      λ at c after h. subst (λ es. AreInside es at after) (sym (edits_are interfaces news at c))
-      (by_inside (interfaces c.class_ref) news bytes at c after (has_class bytes at c after h));
-  renewed = λ out at c after len h ed. subst (λ d. Spells class_descriptor_info out at d after) (class_is interfaces news c)
-      (by_renewed (interfaces c.class_ref) news bytes out at c after len h (subst (λ es. IsEdited es at after bytes out) (edits_are interfaces news at c) ed));
-}
+class_item interfaces news bytes = grind (arith, has_class, edits_are, by_inside, class_is, by_renewed)
 
 class_fit : (interfaces : ℕ → Bool) (news : List (Option NewMethod)) (bytes : List ℕ) → AreBytes bytes → AreSmall news
     → IsFit class_descriptor_info (class_edits interfaces news) bytes
-class_fit interfaces news bytes are small = record {
-  fit =
-      λ at c after h. subst FitBytes (sym (edits_are interfaces news at c))
-      (by_fit (interfaces c.class_ref) news bytes at c after are small (has_class bytes at c after h));
-}
+class_fit interfaces news bytes are small = grind (arith, edits_are, by_fit, has_class)
 
 -- the methods of a class that is no interface stand in the info
 pub class_room : (bytes : List ℕ) (at : ℕ) (c : ClassDescriptor) (after : ℕ) → Spells class_descriptor_info bytes at c after
@@ -390,46 +322,11 @@ pub record HasClasses (bytes : List ℕ) (d : Descriptor) : Type 0 where
 
 pub has_classes : (bytes : List ℕ) (d : Descriptor) → Stands descriptor_info bytes d → HasClasses bytes d
 unfolding Stands Spells
-has_classes bytes d s =
-    let h = s.1 in
-    let c : Spells u1 bytes 0 h.2.0 h.2.1 = h.2.2 in
-    let one : h.2.1 ≡ 1 = omega (arith, c.2) in
-    let some : h.2.1 ≤ length bytes = read_within (info_of 11) u1 bytes 0 h.2.0 h.2.1 (omega arith) c in
-    let low : h.1 ≤ length bytes = read_within (info_of 11) (repeat h.2.0 class_descriptor_info) bytes h.2.1 h.0 h.1 some h.2.3 in
-    let p = h.3 in
-    let place : p.0 ≡ h.1 = p.2.0 in
-    let same : p.1 ≡ h.1 = p.2.1 in
-    let t = p.3 in
-    let n = t.2 in
-    let two : n.1 ≡ h.1 + 2 = omega (arith, n.2.2, same) in
-    let counted : Spells u2 bytes h.1 n.0 (h.1 + 2) = subst (λ m. Spells u2 bytes h.1 n.0 m) two (subst (λ m. Spells u2 bytes m n.0 n.1) same n.2) in
-    let types : Spells (table n.0) bytes (h.1 + 2) t.0 t.1 = subst (λ m. Spells (table n.0) bytes m t.0 t.1) two n.3 in
-    let ends : h.1 + 2 ≤ length bytes = read_within (info_of 11) u2 bytes h.1 n.0 (h.1 + 2) low counted in
-    let is : d ≡ record { classes = h.0; types_start = p.0; pool_types = t.0 } = t.3.0 in
-    rw (is, place) (record {
-      count = h.2.0;
-      after = t.1;
-      head = subst (λ m. Spells u1 bytes 0 h.2.0 m) one c;
-      items = subst (λ m. Spells (repeat h.2.0 class_descriptor_info) bytes m h.0 h.1) one h.2.3;
-      start = low;
-      pool_count = n.0;
-      counted = counted;
-      types = types;
-      within = read_within (info_of 11) (table n.0) bytes (h.1 + 2) t.0 t.1 ends types;
-      some = omega arith;
-    })
+has_classes bytes d s = grind (arith, read_within)
 
 classes_made : (bytes : List ℕ) (d : Descriptor) → HasClasses bytes d → Stands descriptor_info bytes d
 unfolding Stands Spells
-classes_made bytes d h = (
-  h.after,
-  (
-    d.classes,
-    d.types_start,
-    (h.count, 1, h.head, h.items),
-    (d.types_start, d.types_start, (refl, refl), (d.pool_types, h.after, (h.pool_count, d.types_start + 2, h.counted, h.types), (refl, refl))),
-  ),
-)
+classes_made bytes d h = grind (arith)
 
 before_types : (interfaces : ℕ → Bool) (news : List (Option NewMethod)) (bytes : List ℕ) (d : Descriptor) (h : HasClasses bytes d)
     → AreInside (descriptor_edits interfaces news d.classes) 1 d.types_start
@@ -447,9 +344,7 @@ descriptor_inside interfaces news bytes d s =
 pub descriptor_fit : (interfaces : ℕ → Bool) (news : List (Option NewMethod)) (bytes : List ℕ) (d : Descriptor) → AreBytes bytes → AreSmall news
     → Stands descriptor_info bytes d → FitBytes (descriptor_edits interfaces news d.classes)
 descriptor_fit interfaces news bytes d are small s =
-    let h = has_classes bytes d s in
-    all_fit class_descriptor_info (class_edits interfaces news) class_width (renewed_class interfaces news) bytes (class_item interfaces news bytes)
-    (class_fit interfaces news bytes are small) h.count 1 d.classes d.types_start h.items
+    grind (arith, has_classes bytes d s, class_item interfaces news bytes, class_fit interfaces news bytes are small, all_fit)
 
 pub record IsRenewed (interfaces : ℕ → Bool) (news : List (Option NewMethod)) (bytes out : List ℕ) (d : Descriptor) : Type 0 where
   pub stands : Stands descriptor_info out (renewed_descriptor interfaces news d)
@@ -494,6 +389,4 @@ descriptor_renewed interfaces news bytes out d s r =
 pub descriptor_begins : (interfaces : ℕ → Bool) (news : List (Option NewMethod)) (bytes : List ℕ) (d : Descriptor) → Stands descriptor_info bytes d
     → IsRenewing class_descriptor_info (class_edits interfaces news) class_width bytes (patched_all (descriptor_edits interfaces news d.classes) bytes) 1
     d.classes bytes
-descriptor_begins interfaces news bytes d s =
-    let h = has_classes bytes d s in
-    record { here = has_more class_descriptor_info bytes h.count 1 d.classes d.types_start h.some h.items; low = h.some; long = refl; so_far = refl }
+descriptor_begins interfaces news bytes d s = grind (arith, has_classes bytes d s, has_more)

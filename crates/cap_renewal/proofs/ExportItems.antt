@@ -2,7 +2,7 @@
 use Rattle.std.proofs.Common.{◌≡◌, ℕ, ◌+◌, ◌*◌, ◌≤◌, List, [], length, map, refl, subst, arith}
 use Rattle.std.proofs.lemmas.List.{length-map}
 use Rattle.cap_bytes.specs.Grammar.{u1, u2, repeat, table}
-use Rattle.cap_bytes.specs.Spelling.{Spells, Stands, info_of}
+use Rattle.cap_bytes.specs.Spelling.{Spells, Stands}
 use Rattle.cap_bytes.proofs.Wide.{read_within}
 use Rattle.cap_pool.specs.ExportFormat.{Exported, class_export_info, export_info}
 use Rattle.cap_bytes.specs.Edit.{patched_all, AreInside, FitBytes}
@@ -56,17 +56,7 @@ has_exported bytes at c after h =
 
 exported_made : (bytes : List ℕ) (at : ℕ) (c : Exported) (after : ℕ) → HasExported bytes at c after → Spells class_export_info bytes at c after
 unfolding Spells table
-exported_made bytes at c after h = (
-  c.class_offset,
-  at + 2,
-  h.offset,
-  (
-    h.field_count,
-    at + 3,
-    h.fields_counted,
-    (h.method_count, at + 4, h.methods_counted, (c.fields, at + (4 + 2 * length c.fields), h.fields, (c.methods, after, h.methods, (refl, refl)))),
-  ),
-)
+exported_made bytes at c after h = grind (arith)
 
 methods_inside : (to : ℕ → ℕ) (bytes : List ℕ) (at : ℕ) (c : Exported) (after : ℕ) → HasExported bytes at c after
     → AreInside (exported_edits to at c) (at + (4 + 2 * length c.fields)) after
@@ -104,12 +94,7 @@ exported_item to bytes = record {
 }
 
 exported_fit : (to : ℕ → ℕ) (bytes : List ℕ) → AreBytes bytes → KeepsSmall to → IsFit class_export_info (exported_edits to) bytes
-exported_fit to bytes are keeps = record {
-  fit = λ at c after h.
-      let p = has_exported bytes at c after h in
-      all_fit u2 (number_edits to) two_bytes to bytes (number_item to bytes) (number_fit to bytes are keeps) p.method_count (at + (4 + 2 * length c.fields))
-      c.methods after p.methods;
-}
+exported_fit to bytes are keeps = grind (arith, number_item to bytes, number_fit to bytes are keeps, has_exported, all_fit)
 
 pub record HasExport (bytes : List ℕ) (cs : List Exported) : Type 0 where
   pub count : ℕ
@@ -119,24 +104,7 @@ pub record HasExport (bytes : List ℕ) (cs : List Exported) : Type 0 where
 
 pub has_export : (bytes : List ℕ) (cs : List Exported) → Stands export_info bytes cs → HasExport bytes cs
 unfolding Stands Spells
-has_export bytes cs s =
-    let h = s.1 in
-    let c : Spells u1 bytes 0 h.2.0 h.2.1 = h.2.2 in
-    let one : h.2.1 ≡ 1 = omega (arith, c.2) in
-    let some : h.2.1 ≤ length bytes = read_within (info_of 10) u1 bytes 0 h.2.0 h.2.1 (omega arith) c in
-    let low : h.1 ≤ length bytes = read_within (info_of 10) (repeat h.2.0 class_export_info) bytes h.2.1 h.0 h.1 some h.2.3 in
-    let high : length bytes ≤ h.1 = h.3.2.0 in
-    let end : h.1 ≡ length bytes = omega arith in
-    let e : cs ≡ h.0 = h.3.3.0 in
-    record {
-      count = h.2.0;
-      head = subst (λ m. Spells u1 bytes 0 h.2.0 m) one c;
-      items =
-          rw e
-          (subst (λ m. Spells (repeat h.2.0 class_export_info) bytes m h.0 (length bytes)) one
-          (subst (λ m. Spells (repeat h.2.0 class_export_info) bytes h.2.1 h.0 m) end h.2.3));
-      some = omega arith;
-    }
+has_export bytes cs s = grind (arith, read_within)
 
 export_made : (bytes : List ℕ) (cs : List Exported) → HasExport bytes cs → Stands export_info bytes cs
 unfolding Stands Spells
@@ -152,10 +120,7 @@ export_inside to bytes cs s =
 
 pub export_fit : (to : ℕ → ℕ) (bytes : List ℕ) (cs : List Exported) → AreBytes bytes → KeepsSmall to → Stands export_info bytes cs
     → FitBytes (export_edits to cs)
-export_fit to bytes cs are keeps s =
-    let h = has_export bytes cs s in
-    all_fit class_export_info (exported_edits to) exported_width (renewed_exported to) bytes (exported_item to bytes) (exported_fit to bytes are keeps)
-    h.count 1 cs (length bytes) h.items
+export_fit to bytes cs are keeps s = grind (arith, has_export bytes cs s, exported_item to bytes, exported_fit to bytes are keeps, all_fit)
 
 pub export_renewed : (to : ℕ → ℕ) (bytes out : List ℕ) (cs : List Exported) → Stands export_info bytes cs
     → Renews (export_edits to cs) bytes out → Stands export_info out (map (renewed_exported to) cs)
@@ -168,15 +133,11 @@ export_renewed to bytes out cs s r =
     export_made out (map (renewed_exported to) cs) (record {
       count = h.count;
       head = spelled_same u1 bytes out 0 h.count 1 len both.0 h.head;
-      items =
-          rw len (all_renewed class_export_info (exported_edits to) exported_width (renewed_exported to) bytes is out len h.count 1 cs (length bytes)
-          h.items both.1);
+      items = grind (arith, all_renewed);
       some = omega (arith, h.some, len);
     })
 
 -- where the loop over them begins
 pub export_begins : (to : ℕ → ℕ) (bytes : List ℕ) (cs : List Exported) → Stands export_info bytes cs
     → IsRenewing class_export_info (exported_edits to) exported_width bytes (patched_all (export_edits to cs) bytes) 1 cs bytes
-export_begins to bytes cs s =
-    let h = has_export bytes cs s in
-    record { here = has_more class_export_info bytes h.count 1 cs (length bytes) h.some h.items; low = h.some; long = refl; so_far = refl }
+export_begins to bytes cs s = grind (arith, has_export bytes cs s, has_more)

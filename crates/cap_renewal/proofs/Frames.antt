@@ -20,13 +20,7 @@ file_steps tag info one two three a b c = c ∙ ap (λ xs. xs ++ info) (b ∙ ap
 
 -- a tag and a size as one number of three bytes
 three_bytes : (tag n : ℕ) → tag < 256 → n < 65536 → big_bytes 3 (65536 * tag + n) ≡ tag ∷ big_bytes 2 n
-three_bytes tag n t s =
-    let a : (65536 * tag + n) / 65536 % 256 ≡ tag = omega arith in
-    let b : (65536 * tag + n) / 256 % 256 ≡ n / 256 % 256 = omega arith in
-    let c : (65536 * tag + n) % 256 ≡ n % 256 = omega arith in
-    ap (λ x. x ∷ ((65536 * tag + n) / 256 % 256) ∷ ((65536 * tag + n) % 256) ∷ []) a
-    ∙ ap (λ x. tag ∷ x ∷ ((65536 * tag + n) % 256) ∷ []) b
-    ∙ ap (λ x. tag ∷ (n / 256 % 256) ∷ x ∷ []) c
+three_bytes tag n t s = grind (arith)
 
 only_this : (m n : ℕ) (kind : FormKind) → n ≡ m → only m kind n ≡ None
 only_this m n kind e = by (n == m) refl

@@ -1,8 +1,8 @@
 -- Items that stand one after the other, and their edits.
-use Rattle.std.proofs.Common.{◌≡◌, ℕ, zero, suc, ◌+◌, ◌*◌, ◌≤◌, List, ◌∷◌, ◌++◌, length, map, refl, sym, ap, subst, ◌∙◌}
+use Rattle.std.proofs.Common.{◌≡◌, ℕ, zero, suc, ◌+◌, ◌*◌, ◌≤◌, List, ◌∷◌, ◌++◌, length, map, refl, sym, subst, ◌∙◌}
 use Rattle.std.proofs.Common.{arith}
 use Rattle.cap_bytes.specs.Grammar.{Grammar, repeat}
-use Rattle.cap_bytes.specs.Spelling.{Spells, info_of}
+use Rattle.cap_bytes.specs.Spelling.{Spells}
 use Rattle.cap_bytes.proofs.Wide.{read_within}
 use Rattle.cap_bytes.proofs.UntilLoops.{moves_on}
 use Rattle.cap_bytes.specs.Edit.{Edit, patched_all, AreInside, FitBytes}
@@ -27,11 +27,7 @@ pub all_inside : {X : Type 0} (g : Grammar X) (item : ℕ → X → List Edit) (
 unfolding Spells
 all_inside g item width f bytes is zero at xs after h = rw h.0 (omega (arith, h.1))
 all_inside g item width f bytes is (suc n) at xs after h =
-    let w : h.1 ≡ at + width h.0 = is.wide at h.0 h.1 h.2 in
-    let r : AreInside (along item width h.1 h.3.0) h.1 h.3.1 = all_inside g item width f bytes is n h.1 h.3.0 h.3.1 h.3.2 in
-    let e : xs ≡ h.0 ∷ h.3.0 = h.3.3.0 in
-    let d : after ≡ h.3.1 = h.3.3.1 in
-    rw (e, d) (inside_append (item at h.0) (along item width (at + width h.0) h.3.0) at h.1 h.3.1 (is.inside at h.0 h.1 h.2) (rw (← w) r))
+    grind (arith, inside_append, all_inside g item width f bytes is n h.1 h.3.0 h.3.1 h.3.2)
 
 pub all_fit : {X : Type 0} (g : Grammar X) (item : ℕ → X → List Edit) (width : X → ℕ) (f : X → X) (bytes : List ℕ)
     → IsItem g item width f bytes → IsFit g item bytes → (n at : ℕ) (xs : List X) (after : ℕ) → Spells (repeat n g) bytes at xs after
@@ -39,10 +35,7 @@ pub all_fit : {X : Type 0} (g : Grammar X) (item : ℕ → X → List Edit) (wid
 unfolding Spells
 all_fit g item width f bytes is fit zero at xs after h = rw h.0 tt
 all_fit g item width f bytes is fit (suc n) at xs after h =
-    let w : h.1 ≡ at + width h.0 = is.wide at h.0 h.1 h.2 in
-    let r : FitBytes (along item width h.1 h.3.0) = all_fit g item width f bytes is fit n h.1 h.3.0 h.3.1 h.3.2 in
-    let e : xs ≡ h.0 ∷ h.3.0 = h.3.3.0 in
-    rw e (fit_append (item at h.0) (along item width (at + width h.0) h.3.0) (fit.fit at h.0 h.1 h.2) (rw (← w) r))
+    grind (arith, fit_append, all_fit g item width f bytes is fit n h.1 h.3.0 h.3.1 h.3.2)
 
 pub all_renewed : {X : Type 0} (g : Grammar X) (item : ℕ → X → List Edit) (width : X → ℕ) (f : X → X) (bytes : List ℕ)
     → IsItem g item width f bytes → (out : List ℕ) → length out ≡ length bytes → (n at : ℕ) (xs : List X) (after : ℕ)
@@ -68,9 +61,7 @@ pub length_spelled : {X : Type 0} (g : Grammar X) (bytes : List ℕ) (n at : ℕ
     → length xs ≡ n
 unfolding Spells
 length_spelled g bytes zero at xs after h = rw h.0 refl
-length_spelled g bytes (suc n) at xs after h =
-    let e : xs ≡ h.0 ∷ h.3.0 = h.3.3.0 in
-    rw e (ap suc (length_spelled g bytes n h.1 h.3.0 h.3.1 h.3.2))
+length_spelled g bytes (suc n) at xs after h = grind (arith, suc, length_spelled g bytes n h.1 h.3.0 h.3.1 h.3.2)
 
 -- so many items of one width
 pub all_wide : {X : Type 0} (g : Grammar X) (w : ℕ) (bytes : List ℕ)
@@ -95,9 +86,7 @@ pub record HasMore {X : Type 0} (g : Grammar X) (bytes : List ℕ) (at : ℕ) (x
 
 pub has_more : {X : Type 0} (g : Grammar X) (bytes : List ℕ) (n at : ℕ) (xs : List X) (after : ℕ) → at ≤ length bytes
     → Spells (repeat n g) bytes at xs after → HasMore g bytes at xs
-has_more g bytes n at xs after le h =
-    let e : length xs ≡ n = length_spelled g bytes n at xs after h in
-    record { after = after; spelled = rw e h; within = read_within (info_of 0) (repeat n g) bytes at xs after le h }
+has_more g bytes n at xs after le h = grind (arith, length_spelled, read_within)
 
 -- the first of them, and those after it
 pub record IsFirst {X : Type 0} (g : Grammar X) (bytes : List ℕ) (at : ℕ) (x : X) (xs : List X) : Type 0 where
@@ -107,18 +96,7 @@ pub record IsFirst {X : Type 0} (g : Grammar X) (bytes : List ℕ) (at : ℕ) (x
 
 pub more_first : {X : Type 0} (g : Grammar X) (bytes : List ℕ) (at : ℕ) (x : X) (xs : List X) → HasMore g bytes at (x ∷ xs) → IsFirst g bytes at x xs
 unfolding Spells
-more_first g bytes at x xs more =
-    let h : Spells (repeat (suc (length xs)) g) bytes at (x ∷ xs) more.after = more.spelled in
-    let e : x ∷ xs ≡ h.0 ∷ h.3.0 = h.3.3.0 in
-    let d : more.after ≡ h.3.1 = h.3.3.1 in
-    let first : h.0 ≡ x = cc in
-    let rest : h.3.0 ≡ xs = cc in
-    let le = more.within in
-    record {
-      middle = h.1;
-      first = subst (λ y. Spells g bytes at y h.1) first h.2;
-      rest = record { after = h.3.1; spelled = subst (λ ys. Spells (repeat (length xs) g) bytes h.1 ys h.3.1) rest h.3.2; within = omega arith };
-    }
+more_first g bytes at x xs more = grind (arith, suc)
 
 -- the bytes are renewed up to a place, and those of the items from there on are still to be
 pub record IsRenewing {X : Type 0} (g : Grammar X) (item : ℕ → X → List Edit) (width : X → ℕ) (bytes whole : List ℕ) (at : ℕ) (left : List X)

@@ -1,12 +1,11 @@
 -- The numbers of methods that are written anew.
-use Rattle.std.proofs.Common.{◌<◌, ℕ, zero, suc, List, [], ◌∷◌, ◌++◌, Option, Some, None}
+use Rattle.std.proofs.Common.{◌<◌, ℕ, zero, suc, List, [], ◌∷◌, ◌++◌, Option, Some, None, arith}
 use Rattle.cap_renewal.specs.declared.new_methods.NewMethod.{NewMethod}
 use Rattle.cap_desc.specs.DescriptorFormat.{MethodDescriptor}
 use Rattle.cap_renewal.specs.NewMethods.{at_offset, offset_or, to, numbers_or, new_numbers, IsSmall, IsSmallIf, AreSmall, KeepsSmall}
 
 small_or : (n : Option NewMethod) (o : ℕ) → IsSmallIf n → o < 65536 → offset_or o n < 65536
-small_or None o s h = h
-small_or (Some n) o s h = s.offset
+small_or x o s h = grind (arith)
 
 pub keeps_small : (news : List (Option NewMethod)) → AreSmall news → KeepsSmall (to news)
 unfolding to
@@ -33,8 +32,7 @@ no_more news all = push_small news None tt all
 
 small_by : (m : MethodDescriptor) (n : Option NewMethod) → IsSmallIf n → m.method_offset < 65536 → m.bytecode_count < 65536
     → m.handler_count < 65536 → m.handler_index < 65536 → IsSmall (numbers_or m n)
-small_by m None s a b c d = record { offset = a; bytecode_count = b; handler_count = c; handler_index = d }
-small_by m (Some n) s a b c d = s
+small_by m y s a b c d = grind (arith)
 
 pub small_numbers : (news : List (Option NewMethod)) (m : MethodDescriptor) → AreSmall news → m.method_offset < 65536 → m.bytecode_count < 65536
     → m.handler_count < 65536 → m.handler_index < 65536 → IsSmall (new_numbers news m)

@@ -1,7 +1,7 @@
 -- Numbers of two bytes, and tables of them.
-use Rattle.std.proofs.Common.{◌≡◌, ℕ, ◌+◌, ◌<◌, List, drop, Some, None, Bool, true, false, cond, slice_index, refl, arith}
+use Rattle.std.proofs.Common.{◌≡◌, ℕ, ◌+◌, ◌<◌, List, drop, Some, None, Bool, true, false, cond, slice_index, arith}
 use Rattle.std.proofs.lemmas.List.{get_or-drop}
-use Rattle.byteorder.specs.Endian.{big_from, big_number}
+use Rattle.byteorder.specs.Endian.{big_number}
 use Rattle.cap_bytes.specs.Number.{number_at}
 use Rattle.cap_bytes.specs.Grammar.{u2}
 use Rattle.cap_bytes.specs.Spelling.{Spells}
@@ -18,21 +18,11 @@ number_value w at bytes n h = by _ h
     by false e = absurd (cc)
 
 pub number_small : (at : ℕ) (bytes : List ℕ) (n : ℕ) → AreBytes bytes → number_at 2 at bytes ≡ Some n → n < 65536
-number_small at bytes n are h =
-    let v : n ≡ big_from 0 2 (drop at bytes) = number_value 2 at bytes n h in
-    let a : slice_index (drop at bytes) 0 ≡ slice_index bytes (at + 0) = get_or-drop at bytes 0 0 in
-    let b : slice_index (drop at bytes) 1 ≡ slice_index bytes (at + 1) = get_or-drop at bytes 1 0 in
-    let x = are (at + 0) in
-    let y = are (at + 1) in
-    omega arith
+number_small at bytes n are h = grind (arith, number_value, slice_index, get_or-drop)
 
 pub number_item : (to : ℕ → ℕ) (bytes : List ℕ) → IsItem u2 (number_edits to) two_bytes to bytes
 unfolding Spells
-number_item to bytes = record {
-  wide = λ at n after h. h.2;
-  inside = λ at n after h. (omega arith, omega (arith, h.2));
-  renewed = λ out at n after len h ed. (ed.1.number, refl, h.2);
-}
+number_item to bytes = grind (arith)
 
 pub number_fit : (to : ℕ → ℕ) (bytes : List ℕ) → AreBytes bytes → KeepsSmall to → IsFit u2 (number_edits to) bytes
 unfolding Spells

@@ -1,10 +1,10 @@
 -- A pool entry with another offset.
 use Rattle.std.proofs.Common.{◌≡◌, ℕ, ◌+◌, ◌≤◌, ◌<◌, List, [], ◌∷◌, length, map, take, drop, Option, Some, None, slice_index, refl}
-use Rattle.std.proofs.Common.{sym, ap, subst, ◌∙◌, arith}
+use Rattle.std.proofs.Common.{sym, ap, ◌∙◌, arith}
 use Rattle.std.proofs.lemmas.List.{get_or-take, get_or-drop, drop_more}
 use Rattle.byteorder.specs.Endian.{big_bytes}
 use Rattle.cap_bytes.specs.Grammar.{number, that, u2, repeat}
-use Rattle.cap_bytes.specs.Spelling.{Spells, Stands, info_of}
+use Rattle.cap_bytes.specs.Spelling.{Spells, Stands}
 use Rattle.cap_bytes.proofs.Wide.{read_within}
 use Rattle.cap_pool.specs.PoolFormat.{Entry, is_pool_tag, entry_info, pool_info}
 use Rattle.cap_pool.specs.declared.pool_reference.PoolReference.{PoolReference}
@@ -18,7 +18,7 @@ use Rattle.cap_bytes.proofs.Same.{spelled_same, same_part}
 use Rattle.cap_bytes.proofs.Patches.{edited_split, inside_from}
 use Rattle.cap_bytes.specs.Bytes.{AreBytes}
 use Rattle.cap_renewal.specs.NewMethods.{KeepsSmall}
-use Rattle.cap_renewal.specs.PoolEdits.{own_offset, own_method, entry_by, renewed_entry, edits_by, entry_edits, entry_width, pool_edits}
+use Rattle.cap_renewal.specs.PoolEdits.{own_offset, entry_by, renewed_entry, edits_by, entry_edits, entry_width, pool_edits}
 use Rattle.cap_renewal.proofs.Items.{IsItem, IsFit, all_inside, all_fit, all_renewed, IsRenewing, has_more}
 
 record HasEntry (bytes : List ℕ) (at : ℕ) (e : Entry) (after : ℕ) : Type 0 where
@@ -29,22 +29,10 @@ record HasEntry (bytes : List ℕ) (at : ℕ) (e : Entry) (after : ℕ) : Type 0
 
 has_entry : (bytes : List ℕ) (at : ℕ) (e : Entry) (after : ℕ) → Spells entry_info bytes at e after → HasEntry bytes at e after
 unfolding Spells
-has_entry bytes at e after h =
-    let first : h.1 ≡ at + 1 = h.2.2 in
-    let fits : h.1 + 3 ≤ length bytes = h.3.2.0 in
-    let last : h.3.1 ≡ h.1 + 3 = h.3.2.2 in
-    let d : after ≡ h.3.1 = h.3.3.1 in
-    let is : e ≡ record { tag = h.0; bytes = h.3.0 } = h.3.3.0 in
-    rw is (record {
-      tag = subst (λ m. Spells (number 1 (that is_pool_tag)) bytes at h.0 m) first h.2;
-      fits = omega arith;
-      three = subst (λ m. h.3.0 ≡ take 3 (drop m bytes)) first h.3.2.1;
-      end = omega arith;
-    })
+has_entry bytes at e after h = grind (arith)
 
 by_inside : (to : ℕ → ℕ) (at : ℕ) (o : Option ℕ) → AreInside (edits_by to at o) at (at + 4)
-by_inside to at None = omega arith
-by_inside to at (Some o) = (omega arith, omega arith)
+by_inside to at z = grind (arith)
 
 three_bytes : (k : ℕ) (xs : List ℕ) → k < length xs → take 3 (drop k xs) ≡ slice_index xs k ∷ take 2 (drop (k + 1) xs)
 three_bytes k xs h = ap (take 3) (drop_more xs k 0 h)
@@ -82,11 +70,7 @@ by_fit to at e (StaticMethod (Internal o)) is b c keeps = let told = (own-told e
 by_fit to at e other is b c keeps = tt
 
 pub entry_item : (to : ℕ → ℕ) (bytes : List ℕ) → IsItem entry_info (entry_edits to) entry_width (renewed_entry to) bytes
-entry_item to bytes = record {
-  wide = λ at e after h. (has_entry bytes at e after h).end;
-  inside = λ at e after h. rw ((has_entry bytes at e after h).end) (by_inside to at (own_method e));
-  renewed = λ out at e after len h ed. by_renewed to bytes out at e after (own_method e) len h ed;
-}
+entry_item to bytes = grind (arith, has_entry, by_inside, by_renewed)
 
 entry_fit : (to : ℕ → ℕ) (bytes : List ℕ) → AreBytes bytes → KeepsSmall to → IsFit entry_info (entry_edits to) bytes
 entry_fit to bytes are keeps = record {
@@ -107,25 +91,7 @@ pub record HasPool (bytes : List ℕ) (es : List Entry) : Type 0 where
 
 pub has_pool : (bytes : List ℕ) (es : List Entry) → Stands pool_info bytes es → HasPool bytes es
 unfolding Stands Spells
-has_pool bytes es s =
-    let h = s.1 in
-    let c : Spells u2 bytes 0 h.0 h.1 = h.2 in
-    let two : h.1 ≡ 2 = omega (arith, c.2) in
-    let r = h.3 in
-    let some : h.1 ≤ length bytes = read_within (info_of 5) u2 bytes 0 h.0 h.1 (omega arith) c in
-    let low : r.1 ≤ length bytes = read_within (info_of 5) (repeat h.0 entry_info) bytes h.1 r.0 r.1 some r.2 in
-    let high : length bytes ≤ r.1 = r.3.2.0 in
-    let end : r.1 ≡ length bytes = omega arith in
-    let e : es ≡ r.0 = r.3.3.0 in
-    record {
-      count = h.0;
-      head = subst (λ m. Spells u2 bytes 0 h.0 m) two c;
-      items =
-          rw e
-          (subst (λ m. Spells (repeat h.0 entry_info) bytes m r.0 (length bytes)) two
-          (subst (λ m. Spells (repeat h.0 entry_info) bytes h.1 r.0 m) end r.2));
-      some = omega arith;
-    }
+has_pool bytes es s = grind (arith, read_within)
 
 pool_made : (bytes : List ℕ) (es : List Entry) → HasPool bytes es → Stands pool_info bytes es
 unfolding Stands Spells
@@ -140,10 +106,7 @@ pool_inside to bytes es s =
 
 pub pool_fit : (to : ℕ → ℕ) (bytes : List ℕ) (es : List Entry) → AreBytes bytes → KeepsSmall to → Stands pool_info bytes es
     → FitBytes (pool_edits to es)
-pool_fit to bytes es are keeps s =
-    let h = has_pool bytes es s in
-    all_fit entry_info (entry_edits to) entry_width (renewed_entry to) bytes (entry_item to bytes) (entry_fit to bytes are keeps) h.count 2 es
-    (length bytes) h.items
+pool_fit to bytes es are keeps s = grind (arith, has_pool bytes es s, entry_item to bytes, entry_fit to bytes are keeps, all_fit)
 
 pub pool_renewed : (to : ℕ → ℕ) (bytes out : List ℕ) (es : List Entry) → Stands pool_info bytes es → Renews (pool_edits to es) bytes out
     → Stands pool_info out (map (renewed_entry to) es)
@@ -163,6 +126,4 @@ pool_renewed to bytes out es s r =
 -- where the loop over them begins
 pub pool_begins : (to : ℕ → ℕ) (bytes : List ℕ) (es : List Entry) → Stands pool_info bytes es
     → IsRenewing entry_info (entry_edits to) entry_width bytes (patched_all (pool_edits to es) bytes) 2 es bytes
-pool_begins to bytes es s =
-    let h = has_pool bytes es s in
-    record { here = has_more entry_info bytes h.count 2 es (length bytes) h.some h.items; low = h.some; long = refl; so_far = refl }
+pool_begins to bytes es s = grind (arith, has_pool bytes es s, has_more)

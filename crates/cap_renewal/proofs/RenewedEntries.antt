@@ -1,5 +1,5 @@
 -- What a pool entry refers to, with another offset: it stays, or is still a static method of the package.
-use Rattle.std.proofs.Common.{◌≡◌, ℕ, ◌+◌, ◌*◌, ◌⊎◌, None, slice_index, refl, sym, ap, ◌∙◌, inl, inr}
+use Rattle.std.proofs.Common.{◌≡◌, ℕ, ◌+◌, ◌*◌, ◌⊎◌, None, slice_index, arith}
 use Rattle.byteorder.specs.Endian.{big_bytes}
 use Rattle.cap_pool.specs.PoolFormat.{Entry}
 use Rattle.cap_pool.specs.declared.pool_reference.PoolReference.{PoolReference}
@@ -7,11 +7,10 @@ use Rattle.cap_pool.specs.declared.pool_reference.PoolReference.TheVariants.{Sta
 use Rattle.cap_pool.specs.declared.pool_reference.StaticReference.TheVariants.{Internal}
 use Rattle.cap_pool.specs.PoolReference.{referred}
 use Rattle.cap_pool.proofs.OwnMethods.{own-told}
-use Rattle.cap_renewal.specs.PoolEdits.{own_offset, own_method, entry_by, renewed_entry}
+use Rattle.cap_renewal.specs.PoolEdits.{own_offset, own_method, renewed_entry}
 
 own_or_not : (x : PoolReference) → (own_offset x ≡ None) ⊎ ((o : ℕ) × (x ≡ StaticMethod (Internal o)))
-own_or_not (StaticMethod (Internal o)) = inr (o, refl)
-own_or_not other = inl refl
+own_or_not other = grind (arith)
 
 -- the offset that such an entry names, and the one that the renewed entry names
 pub record NamesOwn (to : ℕ → ℕ) (e : Entry) : Type 0 where
@@ -21,19 +20,9 @@ pub record NamesOwn (to : ℕ → ℕ) (e : Entry) : Type 0 where
       ≡ StaticMethod (Internal (slice_index (big_bytes 2 (to offset)) 0 * 256 + slice_index (big_bytes 2 (to offset)) 1))
 
 pub none-or-own : (to : ℕ → ℕ) (e : Entry) → (own_method e ≡ None) ⊎ NamesOwn to e
-none-or-own to e = elim (own_or_not (referred e)) [
-  | inl none ↦ inl none
-  | inr own ↦ inr (record {
-    offset = own.0;
-    named = own.1;
-    renewed = ap (λ x. referred (entry_by to e (own_offset x))) own.1 ∙ (own-told e own.0 (big_bytes 2 (to own.0)) own.1).renewed;
-  })
-]
+none-or-own to e = grind (arith, own_or_not, own-told)
 
 -- what is asked of a reference and is one thing for all the package's own static methods
 pub asked-same : {Z : Type 0} (g : PoolReference → Z) (d : Z) → ((o : ℕ) → g (StaticMethod (Internal o)) ≡ d) → (to : ℕ → ℕ) (e : Entry)
     → g (referred (renewed_entry to e)) ≡ g (referred e)
-asked-same g d own to e = elim (none-or-own to e) [
-  | inl none ↦ ap (λ o. g (referred (entry_by to e o))) none
-  | inr n ↦ ap g n.renewed ∙ own _ ∙ sym (own n.offset) ∙ sym (ap g n.named)
-]
+asked-same g d own to e = grind (arith, none-or-own to e)
