@@ -1,7 +1,7 @@
 -- Bytes up to the first of a value, and numbers in decimal.
 use Rattle.std.proofs.Common.{◌≡◌, ◌≢◌, ◌<◌, ◌≤◌, ◌+◌, ◌^◌, ℕ, zero, suc, Result, Ok, Err, List, [], ◌∷◌, ◌++◌, length, take, drop}
 use Rattle.std.proofs.Common.{sym, ap, subst, ◌∙◌, arith, rules, get_or, length-append}
-use Rattle.std.specs.Prelude.{decimal, ℤ, pos, FitsSigned}
+use Rattle.std.specs.Prelude.{decimal, ℤ, pos, FitsSigned, negsuc}
 use Rattle.std.specs.Int.{w32}
 use Rattle.std.specs.Fmt.{signed_decimal}
 use Rattle.std.specs.Str.{IsUtf8, IsAscii}

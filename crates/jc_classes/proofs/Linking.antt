@@ -1,7 +1,7 @@
 -- The class table of classes of which nothing is at fault is that of a linked world.
 use Rattle.std.proofs.Common.{◌≡◌, ℕ, ◌+◌, ◌<◌, ◌≤◌, max, get_or, Bool, true, false, List, [], ◌∷◌, length, Option, Some, None}
 use Rattle.std.proofs.Common.{Result, refl, sym, ap, subst, ◌∙◌, arith, inl, inr}
-use Rattle.std.specs.Prelude.{◌==◌, ◌||◌, not, All, IfOk, IfSome, IsSomeAnd, MatchBool, slice_get, option_map, option_and_then}
+use Rattle.std.specs.Prelude.{◌==◌, ◌||◌, not, All, IfOk, IfSome, IsSomeAnd, MatchBool, slice_get, option_map, option_and_then, ◌&&◌}
 use Rattle.std.specs.Prelude.{if◌then◌else◌}
 use Rattle.std.specs.List.{list_all}
 use Rattle.std.specs.Option.{option_flatten}
@@ -29,7 +29,8 @@ use Rattle.jc_resolve.specs.Due.{IsDue}
 use Rattle.jc_resolve.specs.Named as named
 use Rattle.first_fault.specs.First.{AllEmpty}
 use Rattle.jc_classes.specs.Lines.{HaveLines}
-use Rattle.jc_classes.specs.Outline.{LineTable, AreLines, IsClass as IsLineClass, object as line_object, parent_of as line_parent}
+use Rattle.jc_classes.specs.Outline.{LineTable, AreLines, IsClass as IsLineClass}
+use Rattle.jc_classes.specs.Outline.{object as line_object, parent_of as line_parent, is_on_chain as on_line_chain}
 use Rattle.jc_classes.specs.Outline.{is_interface as line_interface, is_interface_line, package_of as line_package}
 use Rattle.jc_classes.specs.Outline.{package_in_line, line_of, outline}
 use Rattle.jc_classes.specs.KnownLines.{HaveSuperclasses}

@@ -35,7 +35,7 @@ use Rattle.law_package.proofs.Handlers.{ClaimsInside, OwnedOnce, owned_once, all
 use Rattle.law_package.proofs.Handlers.{distinct_numbers, has_map, some_count, block}
 use Rattle.law_package.proofs.Ranks.{sums_agree, sum_through, sums_all, split_at, late_sum}
 use Rattle.law_package.proofs.Ranks.{Rising, rising_map, rising_sources, rising_before, rising_after}
-use Rattle.law_package.proofs.Slots.{slot, sum_slots, size_of, key_below, AreApartBy, at_offset_of}
+use Rattle.law_package.proofs.Slots.{slot, sum_slots, size_of, key_below, AreApartBy, at_offset_of, Differ}
 use Rattle.law_package.proofs.Slots.{first_of, put_all, own, holds, all_free, slot_none}
 use Rattle.law_package.proofs.Slots.{sum_put, length_table, by_offset_is, firsts_is, place_is}
 use Rattle.law_package.proofs.Anew.{Pair, pairs_in, source_in, member_in, pair_sources, pair_members, change_in}
