@@ -165,7 +165,7 @@ members_are p laid xs l e = grind (arith, laid_each, elements_counted, elements_
 
 -- ---- the words of stack that each needs
 
-stack_of : (info : List ℕ) (s : FormerMethod) (b : Body) → writing.IsBodyOf info s b → HasSmallStack b → writing.HasSmallStack s
+stack_of : (info : List ℕ) (s : FormerMethod) (b : Body) → writing.IsBodyOf info s b → BodyHasSmallStack b → writing.LaidHasSmallStack s
 stack_of info s z h f = grind (arith)
 
 small_stacks : (info : List ℕ) (ss : List FormerMethod) (ms : List WrittenMember) → writing.AreMembersOf info ss ms
