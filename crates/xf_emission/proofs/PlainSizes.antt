@@ -7,6 +7,7 @@ use Rattle.std.specs.Prelude.{ℤ, is_some, nat_lt, nat_le, count_by, cond, IsSo
 use Rattle.std.specs.List.{filter}
 use Rattle.std.proofs.lemmas.List.{length-reverse}
 use Rattle.std.proofs.lemmas.List.Sums.{length-filter, sum_by-append, sum_by-cons}
+use Rattle.jc_base.proofs.Eaching.{Each-at}
 use Rattle.jc_base.specs.Each.{IsAmong}
 use Rattle.jc_base.specs.Laws.{SameTypeDecides}
 use Rattle.jc_base.specs.declared.ty.Kind.{Kind}
@@ -184,7 +185,7 @@ in-homes same n (k ∷ ks) h r e = by (same_home k h) refl e (λ f. in-homes sam
 
 pub in-order-distinct : (s : Source) (q x : ℕ) (hs : List Home) → AreAskedInOrder s.method s.frames q x hs → Distinct hs
 in-order-distinct s q x [] o = tt
-in-order-distinct s q x (h ∷ hs) o = grind (arith, each-among, in-order-distinct s q x hs o.1)
+in-order-distinct s q x (h ∷ hs) o = grind (arith, Each-at, in-order-distinct s q x hs o.1)
 
 module _ (same : SameTypeDecides) (kept_are : NeededAreKept) (s : Source) (has_frames : HasFrames s) (serve : Serve s.world s.method s.frames s.homes) where
   framed : (o : Option Frame) (P : Frame → Type 0) → IsSomeAnd o P → is_some o ≡ true
