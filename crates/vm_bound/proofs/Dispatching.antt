@@ -1,7 +1,7 @@
 -- Which classes below a class have the entry that an object runs.
 use Rattle.std.proofs.Common.{◌≡◌, ℕ, ◌-◌, ◌≤◌, Bool, true, false, refl, sym, ap, ◌∙◌, subst, arith}
 use Rattle.std.specs.Prelude.{Some, nat_lt, ◌==◌}
-use Rattle.std.proofs.lemmas.Bool.{eq-eqb, eqb-true, false≢true, or_cases}
+use Rattle.std.proofs.lemmas.Bool.{eq-eqb, eqb-true, false≢true, or_cases, or_left, or_right}
 use Rattle.jc_base.specs.Class.{ClassTable, IsClass, AreClasses, IsNextOnChain}
 use Rattle.jc_base.specs.Dispatch.{package_of, entry_at, nearest_of, visible_in, dispatched}
 use Rattle.jc_base.specs.Order.{is_on_chain}
@@ -54,14 +54,14 @@ module _ (t : ClassTable) (are : AreClasses t) where
       (λ r p link next before on. nearest-by home c r p (package_of t r == home) refl at next before on)
 
   entry-by : (c token r n : ℕ) (b : Bool) → nat_lt token 128 ≡ b → is_on_chain t c r ≡ true → dispatched t c token r ≡ Some n → HasEntry t c token r n
-  entry-by c token r n true few on runs = grind (arith, on_chain-here, or-left, public-entry)
+  entry-by c token r n true few on runs = grind (arith, on_chain-here, or_left, public-entry)
   entry-by c token r n false far on runs =
       let near = nearest (package_of t c) c refl r on in
       record {
         class = near.class;
         above = near.above;
         below = near.below;
-        shared = grind (arith, or-right, eq-eqb);
+        shared = grind (arith, or_right, eq-eqb);
         entry = nearest-entry c r token near.class n far near.found runs;
       }
 
@@ -80,7 +80,7 @@ module _ (t : ClassTable) (are : AreClasses t) where
   -- a class between shares too, where packages fall along the chain
   pub shares-between : (c token k p : ℕ) → package_of t c ≤ package_of t p → package_of t p ≤ package_of t k → shares t c token k ≡ true
       → (shares t c token p ≡ true) × (shares t p token k ≡ true)
-  shares-between c token k p low high is = grind (arith, or_cases, or-left, eqb-true, or-right, eq-eqb)
+  shares-between c token k p low high is = grind (arith, or_cases, or_left, eqb-true, or_right, eq-eqb)
 
   -- what an object runs for the token of a subclass that shares it, it runs for that of the class
   moved : (c d token r n : ℕ) (b : Bool) → nat_lt token 128 ≡ b → shares t c token d ≡ true → dispatched t d token r ≡ Some n → dispatched t c token r ≡ Some n
