@@ -1,5 +1,5 @@
 -- The least fault of things is the same in whatever order they are looked at, where faults at one place are the same.
-use Rattle.std.proofs.Common.{◌≡◌, List, [], ◌∷◌, Option, Some, None, Bool, true, false, refl, ap, ◌∙◌, inl, inr, arith}
+use Rattle.std.proofs.Common.{◌≡◌, List, [], ◌∷◌, Option, Some, None, Bool, true, false, refl, arith}
 use Rattle.first_fault.specs.declared.place.Place.{Place}
 use Rattle.first_fault.specs.Order.{IsBefore, IsUpTo, comes_before}
 use Rattle.first_fault.specs.Least.{lesser, least_from}
@@ -7,19 +7,10 @@ use Rattle.first_fault.proofs.Places.{before-true, before-false, before-then, up
 
 -- a place is not before itself
 never_before : (a : Place) → IsBefore a a → ⊥
-never_before a (inl h) = absurd (omega (arith, h))
-never_before a (inr h) = let k = h.1 in absurd (omega (arith, k))
+never_before a x = grind (arith)
 
 same_place : (a b : Place) → IsUpTo a b → IsUpTo b a → a ≡ b
-same_place a b (inl p) (inl q) = absurd (omega (arith, p, q))
-same_place a b (inl p) (inr q) = let e = q.0 in absurd (omega (arith, p, e))
-same_place a b (inr p) (inl q) = let e = p.0 in absurd (omega (arith, q, e))
-same_place a b (inr p) (inr q) =
-    let e : a.first ≡ b.first = p.0 in
-    let m = p.1 in
-    let n = q.1 in
-    let k : a.second ≡ b.second = omega (arith, m, n) in
-    ap (λ x. record { first = x; second = a.second }) e ∙ ap (λ x. record { first = b.first; second = x }) k
+same_place a b x x2 = grind (arith)
 
 module _ {F : Type 0} (place : F → Place) where
   -- faults of things that stand at one place are the same
@@ -29,14 +20,7 @@ module _ {F : Type 0} (place : F → Place) where
   pair_by : (f g : F) (b c : Bool) → comes_before (place g) (place f) ≡ b → comes_before (place f) (place g) ≡ c
       → (place f ≡ place g → f ≡ g) → lesser place (Some f) (Some g) ≡ lesser place (Some g) (Some f)
   unfolding lesser
-  pair_by f g true true p q same =
-      absurd
-      (never_before (place f) (up_to-before (place f) (place g) (place f) (before-up_to (place f) (place g) (before-true (place f) (place g) q))
-      (before-true (place g) (place f) p)))
-  pair_by f g true false p q same = rw (p, q) refl
-  pair_by f g false true p q same = rw (p, q) refl
-  pair_by f g false false p q same =
-      rw (p, q) (ap Some (same (same_place (place f) (place g) (before-false (place g) (place f) p) (before-false (place f) (place g) q))))
+  pair_by f g x x2 p q same = grind (arith, never_before, up_to-before, before-up_to, before-true, same_place, before-false)
 
   pair : (f g : F) → (place f ≡ place g → f ≡ g) → lesser place (Some f) (Some g) ≡ lesser place (Some g) (Some f)
   pair f g same = pair_by f g (comes_before (place g) (place f)) (comes_before (place f) (place g)) refl refl same
@@ -44,24 +28,15 @@ module _ {F : Type 0} (place : F → Place) where
   -- what is not before a fault is not before one that is before that
   stays : (f g h : F) → comes_before (place f) (place h) ≡ true → comes_before (place g) (place h) ≡ false → (b : Bool)
       → comes_before (place g) (place f) ≡ b → comes_before (place g) (place f) ≡ false
-  stays f g h p q false e = e
-  stays f g h p q true e =
-      let g_f = before-true (place g) (place f) e in
-      let f_h = before-true (place f) (place h) p in
-      let g_h = up_to-before (place g) (place f) (place h) (before-up_to (place g) (place f) g_f) f_h in
-      absurd (never_before (place g) (before-then (place g) (place h) (place g) g_h (before-false (place g) (place h) q)))
+  stays f g h p q x e = grind (arith, before-true, up_to-before, before-up_to, never_before, before-then, before-false)
 
   three_by : (h f g : F) (b c : Bool) → comes_before (place f) (place h) ≡ b → comes_before (place g) (place h) ≡ c
       → (place f ≡ place g → f ≡ g) → lesser place (lesser place (Some h) (Some f)) (Some g) ≡ lesser place (lesser place (Some h) (Some g))
       (Some f)
   unfolding lesser
   three_by h f g true true p q same = rw (p, q) (pair f g same)
-  three_by h f g true false p q same =
-      let e = stays f g h p q (comes_before (place g) (place f)) refl in
-      rw (p, q, e, p) refl
-  three_by h f g false true p q same =
-      let e = stays g f h q p (comes_before (place f) (place g)) refl in
-      rw (p, q, e) refl
+  three_by h f g true false p q same = grind (arith, stays)
+  three_by h f g false true p q same = grind (arith, stays)
   three_by h f g false false p q same = rw (p, q, p) refl
 
   -- of two things it does not matter which is looked at first
@@ -71,21 +46,16 @@ module _ {F : Type 0} (place : F → Place) where
   two-turned before None p same = refl
   two-turned before (Some f) None same = refl
   two-turned None (Some f) (Some g) same = pair f g (λ e. same f g refl refl e)
-  two-turned (Some h) (Some f) (Some g) same =
-      three_by h f g (comes_before (place f) (place h)) (comes_before (place g) (place h)) refl refl (λ e. same f g refl refl e)
+  two-turned (Some h) (Some f) (Some g) same = grind (arith, three_by)
 
   module _ {X : Type 0} (fault : X → Option F) (exact : AreExact fault) where
     one-turned : (x : X) (xs : List X) (before : Option F) → lesser place (least_from place before fault xs) (fault x) ≡ least_from place
         (lesser place before (fault x)) fault xs
     one-turned x [] before = refl
-    one-turned x (y ∷ ys) before =
-        one-turned x ys (lesser place before (fault y))
-        ∙ ap (λ b. least_from place b fault ys) (two-turned before (fault y) (fault x) (λ f g p q e. exact y x f g p q e))
+    one-turned x (y ∷ ys) before = grind (arith, two-turned, one-turned x ys (lesser place before (fault y)))
 
     -- of two lists of things it does not matter which is gone through first
     pub least-turned : (xs ys : List X) (before : Option F) → least_from place (least_from place before fault xs) fault ys ≡ least_from place
         (least_from place before fault ys) fault xs
     least-turned xs [] before = refl
-    least-turned xs (y ∷ ys) before =
-        ap (λ b. least_from place b fault ys) (one-turned y xs before)
-        ∙ least-turned xs ys (lesser place before (fault y))
+    least-turned xs (y ∷ ys) before = grind (arith, one-turned, least-turned xs ys (lesser place before (fault y)))

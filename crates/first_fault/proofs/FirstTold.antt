@@ -1,5 +1,6 @@
 -- Conditions that are asked one after the other tell the first that is broken.
-use Rattle.std.proofs.Common.{◌≡◌, List, [], ◌∷◌, ◌++◌, Option, Some, None, Result, Ok, Err, refl, sym, ap, subst, ◌∙◌, inl, inr}
+use Rattle.std.proofs.Common.{arith}
+use Rattle.std.proofs.Common.{◌≡◌, List, [], ◌∷◌, ◌++◌, Option, None, Result, Ok, Err, refl, sym, ap, subst, ◌∙◌, inl, inr}
 use Rattle.std.specs.List.{filter_map}
 use Rattle.std.specs.Option.{option_to_list}
 use Rattle.first_fault.specs.declared.place.Place.{Place}
@@ -37,20 +38,14 @@ module _ {F : Type 0} (place : F → Place) where
   one-told o = record { same = least-one place o }
 
   step_by : (o : Option F) (r s : Result (Unit {0}) F) → r ≡ s → (refused o >>= λ _. r) ≡ (refused o >>= λ _. s)
-  step_by None r s e = e
-  step_by (Some f) r s e = refl
+  step_by x r s e = grind (arith)
 
   pub step : {o : Option F} {faults : List F} {r : Result (Unit {0}) F} {others : List (List F)} → IsLeastOf o faults → IsTold r others
       → IsTold ((refused o >>= λ _. r)) (faults ∷ others)
-  step {o} {faults} {r} {others} e h =
-      record {
-        same = subst (λ x. (refused x >>= λ _. r) ≡ first_refused (faults ∷ others)) (sym e.same)
-            (step_by (least_in place None faults) r (first_refused others) h.same);
-      }
+  step {o} {faults} {r} {others} e h = grind (arith, step_by)
 
   end_by : (o : Option F) → refused o ≡ (refused o >>= λ _. Ok (tt {0}))
-  end_by None = refl
-  end_by (Some f) = refl
+  end_by x = grind (arith)
 
   pub last : {o : Option F} {faults : List F} → IsLeastOf o faults → IsTold (refused o) (faults ∷ [])
   last {o} {faults} e = record { same = ap refused e.same ∙ end_by (least_in place None faults) }
@@ -58,8 +53,7 @@ module _ {F : Type 0} (place : F → Place) where
   -- one group of conditions after another
 
   join_by : (o : Option F) (r s t : Result (Unit {0}) F) → (r >>= λ _. s) ≡ t → ((refused o >>= λ _. r) >>= λ _. s) ≡ (refused o >>= λ _. t)
-  join_by None r s t e = e
-  join_by (Some f) r s t e = refl
+  join_by x r s t e = grind (arith)
 
   join : (xs ys : List (List F)) → (first_refused xs >>= λ _. first_refused ys) ≡ first_refused (xs ++ ys)
   join [] ys = refl
@@ -73,8 +67,7 @@ module _ {F : Type 0} (place : F → Place) where
   first_of : (faults : List F) (others : List (List F)) (o : Option F) (f : F) → least_in place None faults ≡ o
       → (first_refused others ≡ Err f → IsFirst place others f) → (refused o >>= λ _. first_refused others) ≡ Err f
       → IsFirst place (faults ∷ others) f
-  first_of faults others None f e known h = inr (least-none place faults e, known h)
-  first_of faults others (Some g) f e known h = let k : g ≡ f = cc in inl (least-found place faults f (e ∙ ap Some k))
+  first_of faults others x f e known h = grind (arith, least-none, least-found)
 
   pub refused-first : (lists : List (List F)) (f : F) → first_refused lists ≡ Err f → IsFirst place lists f
   refused-first [] f h = absurd cc
@@ -83,8 +76,7 @@ module _ {F : Type 0} (place : F → Place) where
   empty_of : (faults : List F) (others : List (List F)) (o : Option F) → least_in place None faults ≡ o
       → (first_refused others ≡ Ok (tt {0}) → AllEmpty others) → (refused o >>= λ _. first_refused others) ≡ Ok (tt {0})
       → AllEmpty (faults ∷ others)
-  empty_of faults others None e known h = (least-none place faults e, known h)
-  empty_of faults others (Some g) e known h = absurd cc
+  empty_of faults others x e known h = grind (arith, least-none)
 
   pub accepted-empty : (lists : List (List F)) → first_refused lists ≡ Ok (tt {0}) → AllEmpty lists
   accepted-empty [] h = tt {0}

@@ -1,6 +1,7 @@
 -- The least fault of an iterator's things, where the iterator shows the list that it has left.
+use Rattle.std.proofs.Common.{arith}
 use Rattle.std.proofs.Common.{◌≡◌, ℕ, List, Option, Bor, map, sym, ap, ◌∙◌, refl}
-use Rattle.std.specs.Iterator.{YieldsFirst, YieldsFirstBy, Drains, DrainsIf}
+use Rattle.std.specs.Iterator.{YieldsFirst, YieldsFirstBy, Drains}
 use Rattle.std.specs.declared.slice.Iter.{Iter}
 use Rattle.std.specs.Slice.Iter.{iter_steps, iter_rest}
 use Rattle.std.proofs.lemmas.Iterator.{YieldsList, YieldsList-from_slice, items_from_drains}
@@ -12,9 +13,7 @@ use Rattle.first_fault.specs.LeastFound.{IsFound, FindsLeast}
 
 module _ {S A B : Type 0} {gives : S → Option A → S → Type 0} {view : A → B} {s : S} {all : List B} where
   all-seen : YieldsList gives view s all → (things : List A) → Drains gives s things → map view things ≡ all
-  all-seen yields things d =
-      let drained : DrainsIf gives (Unit {0}) s things = (d.1.0, d.1.1, λ _. (d.0, d.1.2)) in
-      items_from_drains things drained yields
+  all-seen yields things d = grind (arith, items_from_drains)
 
   among : {F : Type 0} → YieldsList gives view s all → (place : F → Place) (before : Option F) (tells : A → Option F → Type 0)
       (found : Option F) → IsFound gives s place before tells found → (fault : B → Option F)
