@@ -1,6 +1,6 @@
 -- Bits by offset are a set of offsets.
-use Rattle.std.proofs.Common.{◌≡◌, ◌≢◌, ℕ, zero, ◌+◌, ◌*◌, ◌/◌, ◌%◌, ◌^◌, ◌<◌, ◌≤◌, Bool, true, false, ◌||◌}
-use Rattle.std.proofs.Common.{eqb, List, length, get_or, set, replicate, refl, sym, ap, subst, ◌∙◌, inl, inr, arith, bit_or, eqb-true, eq-eqb, ne_eqb}
+use Rattle.std.proofs.Common.{◌≡◌, ◌≢◌, ℕ, ◌+◌, ◌*◌, ◌/◌, ◌%◌, ◌^◌, ◌<◌, ◌≤◌, Bool, true, false, ◌||◌}
+use Rattle.std.proofs.Common.{eqb, List, length, get_or, set, replicate, refl, sym, ap, ◌∙◌, inl, inr, arith, bit_or, eqb-true, eq-eqb, ne_eqb}
 use Rattle.std.proofs.Common.{w64, ◌-◌, ◌⊎◌, Some, None, div-le_self}
 use mathlib.Core.Path.{fun_ext}
 use Rattle.std.specs.Int.{bit_at, trailing_zeros}
@@ -13,34 +13,17 @@ use Rattle.offset_set.specs.Bits.{is_set}
 
 -- ---- no bit
 
-no_word : (n word : ℕ) → get_or {A = ℕ} (replicate n 0) word 0 ≡ zero
-no_word n word =
-    elim (cases_lt word n) [
-      | inl lt ↦ get_or-replicate n word 0 0 lt
-      | inr le ↦ get_or_past (replicate n 0) word 0
-          (let same = length-replicate {A = ℕ} n 0 in omega (arith, same, le))
-    ]
-
 pub no-bits : (n : ℕ) → is_set (replicate n 0) ≡ nowhere
 unfolding is_set
-no-bits n = fun_ext (λ offset. rw (no_word n (offset / 64), bit_at-zero (offset % 64)) refl)
+no-bits n = grind (arith, bit_at-zero, cases_lt, get_or-replicate, get_or_past, replicate, length-replicate)
 
 -- ---- one more
 
 same_word : (word k j : ℕ) (b : Bool) → k < 64 → eqb k j ≡ b → eqb (bit_at (bit_or word (1 * 2 ^ k % 2 ^ 64)) j) 1 ≡ (b || eqb (bit_at word j) 1)
-same_word word k j true lt e =
-    let same = eqb-true k j e in
-    rw (sym same, bit_at_set_same w64 word k lt) refl
+same_word word k j true lt e = grind (arith, eqb-true k j e, bit_at_set_same w64 word k lt)
 same_word word k j false lt e =
     let apart : j ≢ k = λ same. eqb-false k j e (sym same) in
     rw (bit_at_set_other w64 word k lt j apart) refl
-
-same_offset : (one offset : ℕ) (b : Bool) → one / 64 ≡ offset / 64 → eqb (one % 64) (offset % 64) ≡ b → eqb one offset ≡ b
-same_offset one offset true e f = let same = eqb-true (one % 64) (offset % 64) f in eq-eqb one offset (omega arith)
-same_offset one offset false e f = let apart = eqb-false (one % 64) (offset % 64) f in ne_eqb one offset (λ same. apart (ap (λ n. n % 64) same))
-
-other_offset : (one offset : ℕ) → one / 64 ≢ offset / 64 → eqb one offset ≡ false
-other_offset one offset apart = ne_eqb one offset (λ same. apart (ap (λ n. n / 64) same))
 
 module _ (words : List ℕ) (one : ℕ) (within : one / 64 < length words) where
   abbrev marked : List ℕ
@@ -48,20 +31,8 @@ module _ (words : List ℕ) (one : ℕ) (within : one / 64 < length words) where
 
   by_word : (offset : ℕ) (b : Bool) → eqb (one / 64) (offset / 64) ≡ b → eqb (bit_at (get_or marked (offset / 64) 0) (offset % 64)) 1
       ≡ (eqb one offset || eqb (bit_at (get_or words (offset / 64) 0) (offset % 64)) 1)
-  by_word offset true e =
-      let same = eqb-true (one / 64) (offset / 64) e in
-      rw (
-        sym same,
-        get_or-set_same words (one / 64) (bit_or (get_or words (one / 64) 0) (1 * 2 ^ (one % 64) % 2 ^ 64)) 0 within,
-        same_offset one offset (eqb (one % 64) (offset % 64)) same refl,
-      )
-      (same_word (get_or words (one / 64) 0) (one % 64) (offset % 64) (eqb (one % 64) (offset % 64)) (omega arith) refl)
-  by_word offset false e =
-      let apart = eqb-false (one / 64) (offset / 64) e in
-      rw (
-        get_or-set_other words (one / 64) (offset / 64) (bit_or (get_or words (one / 64) 0) (1 * 2 ^ (one % 64) % 2 ^ 64)) 0 (λ same. apart (sym same)),
-        other_offset one offset apart,
-      ) refl
+  by_word offset true e = grind (arith, eqb-true, get_or-set_same, bit_or, get_or, eqb, same_word, eq-eqb, eqb-false, ne_eqb)
+  by_word offset false e = grind (arith, eqb-false, get_or-set_other, bit_or, get_or, ne_eqb)
 
   pub one-more : is_set marked ≡ also one (is_set words)
   unfolding is_set
@@ -123,18 +94,13 @@ module _ (words : List ℕ) (offset : ℕ) where
           [ inl lt ↦ lt | inr le ↦ (let none = bit_at_above first 64 (offset % 64 + 1 + t) short le in absurd (omega arith)) ]
 
       there_set : (t : ℕ) → offset % 64 + 1 + t < 64 → bit_at first (offset % 64 + 1 + t) ≡ 1 → is_set words (offset + 1 + t) ≡ true
-      there_set t within there =
-          let place : (offset + 1 + t) % 64 ≡ offset % 64 + 1 + t = omega arith in
-          set_at words (offset + 1 + t) (offset / 64) (omega arith) (ap (bit_at first) place ∙ there)
+      there_set t within there = grind (arith, set_at)
 
       before : (other : ℕ) → offset < other → other / 64 ≡ offset / 64 → bit_at above (other - offset - 1) ≡ 0 → is_set words other ≡ false
-      before other lt same none =
-          let place : other % 64 ≡ offset % 64 + 1 + (other - offset - 1) = omega arith in
-          free_at words other (offset / 64) same (ap (bit_at first) place ∙ sym (above_bit first (offset % 64) (other - offset - 1)) ∙ none)
+      before other lt same none = grind (arith, free_at, above_bit)
 
   pub first-above : (word : ℕ) → word ≡ first → (word / 2 ^ (offset % 64) / 2 ≡ 0 → ⊥) → word < 2 ^ 64 → FirstAbove word
-  first-above word e =
-      subst (λ w. (w / 2 ^ (offset % 64) / 2 ≡ 0 → ⊥) → w < 2 ^ 64 → FirstAbove w) (sym e) (λ some short. first_above (omega (arith, some)) short)
+  first-above word e = grind (arith, first_above)
 
   -- where none is above, none stands in the rest of the word
   none_above : above ≡ 0 → IsFree words offset (64 * (offset / 64 + 1))
@@ -185,16 +151,11 @@ module _ (words : List ℕ) (offset : ℕ) where
       by : (other : ℕ) → offset < other → other < word * 64 + trailing_zeros w64 (get_or words word 0)
           → ((i : ℕ) → i < trailing_zeros w64 (get_or words word 0) → bit_at (get_or words word 0) i ≡ 0) → (other < 64 * word)
           ⊎ (64 * word ≤ other) → is_set words other ≡ false
-      by other lt below none (inl less) = before.free other lt less
-      by other lt below none (inr le) =
-          let few = trailing_le 64 (get_or words word 0) in
-          let place : other % 64 ≡ other - word * 64 = omega arith in
-          free_at words other word (omega arith) (ap (bit_at (get_or words word 0)) place ∙ none (other - word * 64) (omega arith))
+      by other lt below none x = grind (arith, before, trailing_le, get_or, free_at)
 
   pub first-in : (word bits : ℕ) → bits ≡ get_or words word 0 → offset < 64 * word → IsFree words offset (64 * word) → (bits ≡ 0 → ⊥)
       → bits < 2 ^ 64 → FirstIn word bits
-  first-in word bits e farther before =
-      subst (λ b. (b ≡ 0 → ⊥) → b < 2 ^ 64 → FirstIn word b) (sym e) (λ some short. first_in word farther before (omega (arith, some)) short)
+  first-in word bits e farther before = grind (arith, first_in, before)
 
   -- no word is left
   pub none-left : (word : ℕ) → length words ≡ 1024 → IsFree words offset (64 * word) → 1024 ≤ word → IsNext (is_set words) offset None

@@ -1,9 +1,8 @@
 -- The next offset of a set is one alone, and that of the offsets of a list is the least of those above.
 use Rattle.std.proofs.Common.{◌≡◌, ℕ, ◌<◌, ◌≤◌, Bool, true, false, ltb, eqb, min, cond, List, [], ◌∷◌, Option, Some, None, refl, sym}
 use Rattle.std.proofs.Common.{ap, ◌∙◌, arith, inl, inr, ltb-true, ltb-false, eq-eqb, ne_eqb, true≢false, ◌⊎◌}
-use Rattle.std.specs.Prelude.{MatchBool}
 use Rattle.std.proofs.lemmas.Bool.{cases_lt, or_from, or_left, or_right}
-use Rattle.offset_set.specs.Sets.{IsNext, is_among, is_repeated, lesser_of, least_above, nearest}
+use Rattle.offset_set.specs.Sets.{IsNext, is_among, lesser_of, least_above, nearest}
 use Rattle.offset_set.specs.Tallies.{IsNearest, tally_of}
 
 -- ---- one alone
@@ -26,12 +25,7 @@ itself n = eq-eqb n n refl
 
 step : (offset n : ℕ) (ns : List ℕ) (b : Bool) (o : Option ℕ) → ltb offset n ≡ b → IsNext (is_among ns) offset o
     → IsNext (is_among (n ∷ ns)) offset (cond b (Some (lesser_of n o)) o)
-step offset n ns true None e h = (
-  ltb-true offset n e,
-  or_left (eqb n n) (is_among ns n) (itself n),
-  λ other lt below. or_from (eqb n other) (is_among ns other)
-      (ne_eqb n other (λ same. absurd (omega arith))) (h other lt),
-)
+step offset n ns true None e h = grind (arith, ltb-true, or_left, eqb, itself, or_from, ne_eqb)
 step offset n ns true (Some m) e h =
     let lt = ltb-true offset n e in
     let above = h.0 in (
@@ -44,25 +38,13 @@ step offset n ns true (Some m) e h =
     least : (m < n) ⊎ (n ≤ m) → is_among (n ∷ ns) (min n m) ≡ true
     least (inl lt) = let same : min n m ≡ m = omega arith in rw same (or_right (eqb n m) (is_among ns m) h.1)
     least (inr le) = let same : min n m ≡ n = omega arith in rw same (or_left (eqb n n) (is_among ns n) (itself n))
-step offset n ns false None e h =
-    let le = ltb-false offset n e in λ other lt. or_from (eqb n other) (is_among ns other) (ne_eqb n other (λ same. absurd (omega arith))) (h other lt)
-step offset n ns false (Some m) e h =
-    let le = ltb-false offset n e in (
-      h.0,
-      or_right (eqb n m) (is_among ns m) h.1,
-      λ other lt below. or_from (eqb n other) (is_among ns other)
-          (ne_eqb n other (λ same. absurd (omega arith))) (h.2 other lt below),
-    )
+step offset n ns false None e h = grind (arith, ltb-false, or_from, eqb, ne_eqb)
+step offset n ns false (Some m) e h = grind (arith, ltb-false, or_right, eqb, or_from, ne_eqb)
 
 pub next-above : (offset : ℕ) (ns : List ℕ) → IsNext (is_among ns) offset (least_above offset ns)
 next-above offset [] = λ other lt. refl
 next-above offset (n ∷ ns) = step offset n ns (ltb offset n) (least_above offset ns) refl (next-above offset ns)
 
-nearest_by : (ns : List ℕ) (offset : ℕ) (near : Option ℕ) (b : Bool) → MatchBool b (near ≡ Some offset) (IsNext (is_among ns) offset near)
-    → near ≡ cond b (Some offset) (least_above offset ns)
-nearest_by ns offset near true h = h
-nearest_by ns offset near false h = one-next (is_among ns) offset near (least_above offset ns) h (next-above offset ns)
-
 -- what is the nearest of a tally is that of the list that was counted
 pub is-nearest : (ns : List ℕ) (offset : ℕ) (near : Option ℕ) → IsNearest (tally_of ns) offset near → near ≡ nearest ns offset
-is-nearest ns offset near h = nearest_by ns offset near (is_repeated ns offset) h
+is-nearest ns offset near h = grind (arith, one-next, next-above)
