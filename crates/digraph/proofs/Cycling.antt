@@ -1,5 +1,5 @@
 -- Where each vertex that is not known waits for another, ways come to a vertex again.
-use Rattle.std.proofs.Common.{◌≡◌, ℕ, zero, suc, ◌<◌, ◌⊎◌, inl, inr, ⊎_elim, Bool, true, false, List, [], length, sym, refl, ap, ◌∙◌, subst, arith}
+use Rattle.std.proofs.Common.{◌≡◌, ℕ, zero, suc, ◌<◌, ◌⊎◌, inl, inr, ⊎_elim, Bool, true, false, List, [], length, sym, ap, ◌∙◌, subst, arith}
 use Rattle.std.specs.Prelude.{All, slice_index_or, replicate, Option, None}
 use Rattle.std.proofs.Math.ListN.{set, length-set}
 use Rattle.std.proofs.lemmas.Bool.{cases_eq}
@@ -27,8 +27,7 @@ module _ (g : List (List ℕ)) (known : List (Option ℕ)) (from : ℕ) (graph :
     passed : (m : ℕ) → IsMarked marks m → Passed cur m
 
   cases : (b : Bool) → (b ≡ true) ⊎ (b ≡ false)
-  cases true = inl refl
-  cases false = inr refl
+  cases x = grind (arith)
 
   onward : (marks : List Bool) (cur to : ℕ) → Walks marks cur → Edge g cur to → to < length g → known_at known to ≡ None
       → Walks (set marks to true) to

@@ -1,5 +1,5 @@
 -- Marks that a search sets.
-use Rattle.std.proofs.Common.{◌≡◌, ℕ, ◌+◌, ◌<◌, ◌⊎◌, inl, inr, ⊎_elim, Bool, true, false, List, [], ◌∷◌, ◌++◌, length, sym, refl, ap, ◌∙◌, subst, arith}
+use Rattle.std.proofs.Common.{◌≡◌, ℕ, ◌+◌, ◌<◌, ◌⊎◌, inl, inr, ⊎_elim, Bool, true, false, List, [], ◌∷◌, ◌++◌, length, sym, refl, ◌∙◌, subst, arith}
 use Rattle.std.specs.Prelude.{All, Contains, slice_index_or, replicate}
 use Rattle.std.proofs.Math.ListN.{set, length-set}
 use Rattle.std.proofs.lemmas.Bool.{cases_eq, cases_lt, false≢true}
@@ -9,23 +9,17 @@ use Rattle.std.proofs.lemmas.List.Elements.{Contains-push, Contains-push_cases}
 use Rattle.std.proofs.lemmas.List.Sums.{sum_by-set}
 use Rattle.digraph.specs.Way.{Leads, by_step, by_more}
 use Rattle.digraph.specs.Graph.{next, Edge}
-use Rattle.digraph.specs.Marks.{IsMarked, one_if_free, unmarked, Marks, IsMet, IsSearch, AreLedTo}
+use Rattle.digraph.specs.Marks.{IsMarked, unmarked, Marks, IsMet, IsSearch, AreLedTo}
 use Rattle.digraph.proofs.Leading.{leads-more}
 
 nothing-in : (v : ℕ) → Contains [] v → ⊥
 nothing-in v c = let l : c.0 < 0 = c.1 in omega arith
 
 pub marked-inside : (marks : List Bool) (v : ℕ) → IsMarked marks v → v < length marks
-marked-inside marks v h = elim (cases_lt v (length marks)) [
-  | inl inside ↦ inside
-  | inr past ↦ absurd (false≢true (sym (get_or_past marks v false past) ∙ h))
-]
+marked-inside marks v h = grind (arith, cases_lt, length, false≢true, get_or_past)
 
 pub marked-none : (n v : ℕ) → IsMarked (replicate n false) v → ⊥
-marked-none n v h = elim (cases_lt v n) [
-  | inl inside ↦ absurd (false≢true (sym (get_or-replicate n v false false inside) ∙ h))
-  | inr past ↦ absurd (false≢true (sym (get_or_past (replicate n false) v false (omega (arith, length-replicate n false))) ∙ h))
-]
+marked-none n v h = grind (arith, cases_lt, false≢true, get_or-replicate, get_or_past, length-replicate)
 
 -- ---- one vertex
 
@@ -45,10 +39,7 @@ marks-set v marks pending inside had = record {
     here = get_or-set_same marks v true false inside
 
     kept : (u : ℕ) → IsMarked marks u → IsMarked (set marks v true) u
-    kept u h = elim (cases_eq u v) [
-      | inl is ↦ subst (IsMarked (set marks v true)) (sym is) here
-      | inr other ↦ get_or-set_other marks v u true false other ∙ h
-    ]
+    kept u h = grind (arith, cases_eq, set, get_or-set_other)
 
     only : (u : ℕ) → IsMarked (set marks v true) u → IsMarked marks u ⊎ (Contains (v ∷ []) u × Contains (pending ++ v ∷ []) u)
     only u h = elim (cases_eq u v) [
@@ -57,11 +48,7 @@ marks-set v marks pending inside had = record {
     ]
 
     many : length (pending ++ v ∷ []) + unmarked (set marks v true) ≡ length pending + unmarked marks
-    many =
-        let s = sum_by-set one_if_free marks v true false inside in
-        let o : one_if_free (slice_index_or marks v false) ≡ 1 = ap one_if_free had in
-        let l = length-append pending (v ∷ []) in
-        omega (arith, s, o, l)
+    many = grind (arith, sum_by-set, length-append)
 
 -- ---- several
 

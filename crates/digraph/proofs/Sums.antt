@@ -20,8 +20,7 @@ settled-more (k ∷ ks) [] v b l m e = absurd (omega arith)
 settled-more (None ∷ ks) (w ∷ ws) zero b l m e = refl
 settled-more (Some c ∷ ks) (w ∷ ws) zero b l m e = absurd (cc)
 settled-more (None ∷ ks) (w ∷ ws) (suc v) b l m e = settled-more ks ws v b (omega arith) (omega arith) e
-settled-more (Some c ∷ ks) (w ∷ ws) (suc v) b l m e =
-    let more = settled-more ks ws v b (omega arith) (omega arith) e in omega arith
+settled-more (Some c ∷ ks) (w ∷ ws) (suc v) b l m e = grind (arith, settled-more ks ws v b (omega arith) (omega arith) e)
 
 pub settled-most : (known : List (Option ℕ)) (ws : List ℕ) → settled known ws ≤ sum ws
 settled-most [] ws = omega arith
@@ -91,14 +90,7 @@ table-more g ws known v best table inside sized is most = record {
     same = get_or-set_same known v (Some (weight_of ws v + best)) None there
 
     greatest : (u b : ℕ) → known_at (set known v (Some (weight_of ws v + best))) u ≡ Some b → IsGreatest (Edge g) (weight_of ws) u b
-    greatest u b e = elim (cases_eq u v) [
-      | inl at ↦
-          let here = subst (λ x. known_at (set known v (Some (weight_of ws v + best))) x ≡ Some b) at e in
-          let eq : weight_of ws v + best ≡ b = same_Some (weight_of ws v + best) b (sym same ∙ here) in
-          subst (λ x. IsGreatest (Edge g) (weight_of ws) x b) (sym at) (subst (IsGreatest (Edge g) (weight_of ws) v) eq
-          (greatest-here g ws known v best table most))
-      | inr other ↦ table.greatest u b (sym (get_or-set_other known v u (Some (weight_of ws v + best)) None other) ∙ e)
-    ]
+    greatest u b e = grind (arith, cases_eq, set, same_Some, same, greatest-here, get_or-set_other)
 
     ends : (u b : ℕ) → known_at (set known v (Some (weight_of ws v + best))) u ≡ Some b → NoneRecurs g u
     ends u b e = elim (cases_eq u v) [
@@ -110,14 +102,7 @@ table-more g ws known v best table inside sized is most = record {
     best-least = elim most.some [ inl none ↦ omega arith | inr (w, (among, at)) ↦ table.bounded w best at ]
 
     bounded : (u b : ℕ) → known_at (set known v (Some (weight_of ws v + best))) u ≡ Some b → b ≤ settled (set known v (Some (weight_of ws v + best))) ws
-    bounded u b e = elim (cases_eq u v) [
-      | inl at ↦
-          let here = subst (λ x. known_at (set known v (Some (weight_of ws v + best))) x ≡ Some b) at e in
-          let eq : weight_of ws v + best ≡ b = same_Some (weight_of ws v + best) b (sym same ∙ here) in
-          let l = best-least in omega (arith, all)
-      | inr other ↦
-          let l = table.bounded u b (sym (get_or-set_other known v u (Some (weight_of ws v + best)) None other) ∙ e) in omega (arith, all)
-    ]
+    bounded u b e = grind (arith, cases_eq, set, same_Some, same, best-least, all, get_or-set_other)
 
 -- what is added to the weight of a vertex still fits
 pub sum-fits :
@@ -133,8 +118,7 @@ sum-fits g ws known v best table inside sized is most =
 -- ---- the greatest of several
 
 at-most : (o : Option ℕ) (a b : ℕ) → a ≤ b → IsSomeAnd o (λ n. n ≤ a) → IsSomeAnd o (λ n. n ≤ b)
-at-most None a b l h = h
-at-most (Some n) a b l h = omega arith
+at-most x a b l h = grind (arith)
 
 pub most-more :
     (known : List (Option ℕ)) (vs : List ℕ) (v best sum : ℕ)
@@ -163,8 +147,7 @@ most-more known vs v best sum most is = record { each = each; some = some }
 -- ---- what the table says
 
 pub not-some : (o : Option ℕ) → is_some o ≡ false → o ≡ None
-not-some None e = refl
-not-some (Some b) e = absurd (cc)
+not-some x e = grind (arith)
 
 pub known-most : (g : List (List ℕ)) (ws : List ℕ) (known : List (Option ℕ)) (v : ℕ) (o : Option ℕ) → IsTable g ws known → known_at known v ≡ o
     → IfSome o (λ b. b ≤ sum ws)

@@ -1,7 +1,7 @@
 ghost use Rattle.std.specs.Prelude.{◌≡◌, ◌<◌, ◌≤◌, ℕ, length, All, IsTrue, IfOk, MatchOption, MatchBool};
 ghost use Rattle.digraph.specs.Way.{Recurs, IsLeastRecurring};
-ghost use Rattle.digraph.specs.Graph.{Edge, next};
-ghost use Rattle.digraph.specs.Marks.{AreLedTo, IsMet};
+ghost use Rattle.digraph.specs.Graph.{Edge};
+ghost use Rattle.digraph.specs.Marks.{AreLedTo};
 ghost use Rattle.digraph.specs.Ranks.{AreRanks, AllFall, rank_of};
 
 use crate::graph::Digraph;

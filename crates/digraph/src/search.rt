@@ -1,6 +1,5 @@
-ghost use Rattle.std.specs.Prelude.{◌≡◌, ◌<◌, ◌∷◌, [], length, All, IfOk, OnOk, Contains};
-ghost use Rattle.digraph.specs.Graph.{next};
-ghost use Rattle.digraph.specs.Marks.{Marks, AreLedTo, IsSearch, IsMet};
+ghost use Rattle.std.specs.Prelude.{◌<◌, ◌∷◌, [], length, All, IfOk, OnOk};
+ghost use Rattle.digraph.specs.Marks.{Marks, AreLedTo};
 
 use crate::graph::Digraph;
 use std::alloc::{AllocError, Global};

@@ -1,6 +1,5 @@
 ghost use Rattle.std.specs.Prelude.{◌≡◌, ◌<◌, ◌≤◌, ◌^◌, length, sum, IfOk, IfSome, MatchOption, All};
-ghost use Rattle.digraph.specs.Graph.{next};
-ghost use Rattle.digraph.specs.Settled.{IsTable, IsSumFrom, IsMostOf, HasUnknown, Settles, known_at};
+ghost use Rattle.digraph.specs.Settled.{IsTable, IsSumFrom, IsMostOf, HasUnknown, Settles};
 
 use crate::graph::Digraph;
 use crate::hints::look_over;
