@@ -3,7 +3,6 @@ use Rattle.std.proofs.Common.{◌≡◌, ℕ, suc, ◌+◌, ◌-◌, ◌≤◌, 
 use Rattle.std.proofs.Common.{◌∙◌, arith}
 use Rattle.cap_bytes.specs.declared.fault.FormFault.{FormFault}
 use Rattle.cap_bytes.specs.declared.fault.FormKind.{FormKind}
-use Rattle.cap_bytes.specs.Number.{number_at}
 use Rattle.cap_bytes.specs.declared.cursor.Cursor.{Cursor}
 use Rattle.cap_bytes.specs.Grammar.{Grammar, each, repeat, give, number, ◌>>=◌}
 use Rattle.cap_bytes.specs.Spelling.{Origin, info_of}
@@ -45,17 +44,11 @@ end_fault g step n now s fault h = rw h.answer refl
 pub each_fault : {X S : Type 0} (g : S → Grammar X) (step : S → X → S) (count : ℕ) (start : Cursor) (first : S) (i : ℕ) (now : Cursor) (s : S)
     (fault : FormFault) → HasPassedEach g step count start first i now s → i < count → TakingFails (g s) now fault
     → TakingFails (each count g step first) start fault
-each_fault g step count start first i now s fault so_far lt h =
-    let k : count - i ≡ suc (count - (i + 1)) = omega arith in
-    let e : end_of (next (each (suc (count - (i + 1))) g step s) now) ≡ Err fault = end_fault g step (count - (i + 1)) now s fault h in
-    record { answer = err_of (next (each count g step first) start) fault (sym so_far.goes_on ∙ ap (λ n. end_of (next (each n g step s) now)) k ∙ e) }
+each_fault g step count start first i now s fault so_far lt h = grind (arith, suc, end_fault, err_of)
 
 pub each_all : {X S : Type 0} (g : S → Grammar X) (step : S → X → S) (count : ℕ) (start : Cursor) (first : S) (i : ℕ) (now : Cursor) (s : S)
     → HasPassedEach g step count start first i now s → count ≤ i → (xs : List X) × Taken (each count g step first) start xs now
-each_all g step count start first i now s so_far le =
-    let k : count - i ≡ 0 = omega arith in
-    let t = ok_of (next (each count g step first) start) now.at (sym so_far.goes_on ∙ ap (λ n. end_of (next (each n g step s) now)) k) in
-    (t.0, record { value = t.1; info = so_far.info; part = so_far.part })
+each_all g step count start first i now s so_far le = grind (arith, ok_of)
 
 -- what a loop over so many items with a state needs
 pub ruleset passing_each = (each_none, each_more, each_fault, each_all)
@@ -79,8 +72,7 @@ each-repeat g step h all (suc n) s from bytes at xs after e =
 
 pub each_taken : {X S : Type 0} (g : S → Grammar X) (step : S → X → S) (h : Grammar X) → ReadsAll g h
     → (n : ℕ) (s : S) (now : Cursor) (xs : List X) (after : Cursor) → Taken (each n g step s) now xs after → Taken (repeat n h) now xs after
-each_taken g step h all n s now xs after t =
-    record { value = each-repeat g step h all n s (info_of now.part) now.info.bytes.now now.at xs after.at t.value; info = t.info; part = t.part }
+each_taken g step h all n s now xs after t = grind (arith, each-repeat)
 
 -- a number that passes a stricter test passes this one
 number_loose : (from : Origin) (wrong loose : ℕ → Option FormKind) (bytes : List ℕ) (at end : ℕ) (found : Option ℕ) (n after : ℕ)
@@ -96,6 +88,4 @@ number_loose from wrong loose bytes at end (Some m) n after all e = tested_loose
 -- items that differ in the test of their first number alone
 pub loose_first : {X S : Type 0} (w : ℕ) (wrong : S → ℕ → Option FormKind) (loose : ℕ → Option FormKind) (rest : ℕ → Grammar X)
     → ((s : S) (m : ℕ) → wrong s m ≡ None → loose m ≡ None) → ReadsAll (λ s. number w (wrong s) >>= rest) (number w loose >>= rest)
-loose_first w wrong loose rest all s from bytes at x after e =
-    let t = then_ok (read from (number w (wrong s)) bytes at) (λ n middle. read from (rest n) bytes middle) x after e in
-    rw (number_loose from (wrong s) loose bytes at (at + w) (number_at w at bytes) t.0 t.1 (all s) t.2) t.3
+loose_first w wrong loose rest all s from bytes at x after e = grind (arith, then_ok, number_loose)

@@ -1,15 +1,14 @@
 -- What is spelled is read, what breaks is answered, and a reading is one of both.
-use Rattle.std.proofs.Common.{◌≡◌, ℕ, ◌+◌, ◌-◌, ◌≤◌, ◌<◌, ◌⊎◌, List, length, take, drop, Option, Some, None, Ok, Err, Bool}
-use Rattle.std.proofs.Common.{true, false, cond, leb, refl, sym, ap, subst, ◌∙◌, inl, inr}
+use Rattle.std.proofs.Common.{arith}
+use Rattle.std.proofs.Common.{◌≡◌, ℕ, ◌+◌, ◌-◌, ◌<◌, ◌⊎◌, List, length, take, drop, Option, Ok, Err}
+use Rattle.std.proofs.Common.{refl, sym, ap, ◌∙◌, inl, inr}
 use Rattle.std.proofs.lemmas.Bool.{le-leb, lt-leb, leb-true, leb-false}
 use Rattle.cap_bytes.specs.declared.fault.FormFault.{FormFault}
 use Rattle.cap_bytes.specs.declared.fault.FormKind.{FormKind}
-use Rattle.cap_bytes.specs.declared.fault.FormKind.TheVariants.{Trailing}
-use Rattle.byteorder.specs.Endian.{big_number}
 use Rattle.cap_bytes.specs.Number.{number_at}
 use Rattle.cap_bytes.specs.Grammar.{Grammar, give, number, piece, remaining, place, finish, ◌>>=◌}
-use Rattle.cap_bytes.specs.Spelling.{Spells, Stands, Origin, fault_at, cut, Breaks, info_of}
-use Rattle.cap_bytes.specs.Reading.{Reading, and_then, tested, number_read, read, reading, outcome}
+use Rattle.cap_bytes.specs.Spelling.{Spells, Stands, Origin, cut, Breaks, info_of}
+use Rattle.cap_bytes.specs.Reading.{Reading, and_then, number_read, read, reading, outcome}
 use Rattle.cap_bytes.specs.Exact.{IsExact}
 
 -- ---- what is spelled is read
@@ -43,8 +42,7 @@ breaks-read from remaining bytes at fault h = absurd h
 breaks-read from place bytes at fault h = absurd h
 breaks-read from finish bytes at fault h = rw (lt-leb (length bytes) at h.0, h.1) refl
 breaks-read from (g >>= next) bytes at fault (inl h) = rw (breaks-read from g bytes at fault h) refl
-breaks-read from (g >>= next) bytes at fault (inr h) =
-    rw (spelled-read from g bytes at h.0 h.1 h.2) (breaks-read from (next h.0) bytes h.1 fault h.3)
+breaks-read from (g >>= next) bytes at fault (inr h) = grind (arith, spelled-read, breaks-read from (next h.0) bytes h.1 fault h.3)
 
 abbrev pub read_ok : {X : Type 0} → X → ℕ → Reading X
 read_ok x after = Ok (x, after)
@@ -54,90 +52,40 @@ read_ok x after = Ok (x, after)
 -- the first half of a reading that went well
 pub then_ok : {X Y : Type 0} (r : Reading X) (next : X → ℕ → Reading Y) (y : Y) (after : ℕ) → and_then r next ≡ Ok (y, after) → (x : X)
     × (middle : ℕ) × (r ≡ Ok (x, middle)) × (next x middle ≡ Ok (y, after))
-then_ok (Ok x) next y after h = (x.0, x.1, refl, h)
-then_ok (Err e) next y after h = absurd cc
+then_ok x next y after h = grind (arith)
 
 -- which half failed
 then_err : {X Y : Type 0} (r : Reading X) (next : X → ℕ → Reading Y) (fault : FormFault) → and_then r next ≡ Err fault → (r ≡ Err fault)
     ⊎ ((x : X) × (middle : ℕ) × (r ≡ Ok (x, middle)) × (next x middle ≡ Err fault))
-then_err (Ok x) next fault h = inr (x.0, x.1, refl, h)
-then_err (Err e) next fault h = inl cc
-
-tested_ok : (from : Origin) (at : ℕ) (kind : Option FormKind) (m end n after : ℕ) → tested from at kind m end ≡ Ok (n, after) → (m ≡ n)
-    × (kind ≡ None) × (after ≡ end)
-tested_ok from at None m end n after h = let e : (m, end) ≡ (n, after) = cc in (ap (λ (p : ℕ × ℕ). p.0) e, refl, sym (ap (λ (p : ℕ × ℕ). p.1) e))
-tested_ok from at (Some kind) m end n after h = absurd cc
-
-number_ok : (from : Origin) (wrong : ℕ → Option FormKind) (bytes : List ℕ) (at end : ℕ) (found : Option ℕ) (n after : ℕ)
-    → number_read from wrong bytes at end found ≡ Ok (n, after) → (found ≡ Some n) × (wrong n ≡ None) × (after ≡ end)
-number_ok from wrong bytes at end None n after h = absurd cc
-number_ok from wrong bytes at end (Some m) n after h =
-    let t = tested_ok from at (wrong m) m end n after h in
-    (ap Some t.0, subst (λ k. wrong k ≡ None) t.0 t.1, t.2)
+then_err x next fault h = grind (arith)
 
 pub pair_ok : {X : Type 0} (x y : X) (a b : ℕ) → read_ok x a ≡ read_ok y b → (y ≡ x) × (b ≡ a)
 pair_ok x y a b h = let e : (x, a) ≡ (y, b) = cc in (sym (ap (λ (p : _ × ℕ). p.0) e), sym (ap (λ (p : _ × ℕ). p.1) e))
-
-piece_ok : (from : Origin) (bytes : List ℕ) (at n : ℕ) (b : Bool) (part : List ℕ) (after : ℕ) → leb (at + n) (length bytes) ≡ b
-    → cond b (read_ok (take n (drop at bytes)) (at + n)) (Err (cut from bytes)) ≡ Ok (part, after) → (at + n ≤ length bytes)
-    × (part ≡ take n (drop at bytes)) × (after ≡ at + n)
-piece_ok from bytes at n true part after e h = let p = pair_ok (take n (drop at bytes)) part (at + n) after h in (leb-true _ _ e, p.0, p.1)
-piece_ok from bytes at n false part after e h = absurd cc
-
-finish_ok : (from : Origin) (bytes : List ℕ) (at : ℕ) (b : Bool) (x : Unit {0}) (after : ℕ) → leb (length bytes) at ≡ b
-    → cond b (read_ok (tt {0}) at) (Err (fault_at from at Trailing)) ≡ Ok (x, after) → (length bytes ≤ at) × (after ≡ at)
-finish_ok from bytes at true x after e h = (leb-true _ _ e, (pair_ok (tt {0}) x at after h).1)
-finish_ok from bytes at false x after e h = absurd cc
 
 pub read-spells : {X : Type 0} (from : Origin) (g : Grammar X) (bytes : List ℕ) (at : ℕ) (x : X) (after : ℕ)
     → read from g bytes at ≡ Ok (x, after) → Spells g bytes at x after
 unfolding Spells
 read-spells from (give y) bytes at x after h = pair_ok y x at after h
-read-spells from (number w wrong) bytes at n after h = number_ok from wrong bytes at (at + w) (number_at w at bytes) n after h
-read-spells from (piece n) bytes at part after h = piece_ok from bytes at n _ part after refl h
+read-spells from (number w wrong) bytes at n after h = grind (arith)
+read-spells from (piece n) bytes at part after h = grind (arith, pair_ok, take, drop, leb-true)
 read-spells from remaining bytes at n after h = pair_ok (length bytes - at) n at after h
 read-spells from place bytes at n after h = pair_ok at n at after h
-read-spells from finish bytes at x after h = finish_ok from bytes at _ x after refl h
+read-spells from finish bytes at x after h = grind (arith, leb-true, pair_ok)
 read-spells from (g >>= next) bytes at y after h =
     let t = then_ok (read from g bytes at) (λ x middle. read from (next x) bytes middle) y after h in
     (t.0, t.1, read-spells from g bytes at t.0 t.1 t.2, read-spells from (next t.0) bytes t.1 y after t.3)
 
 -- ---- what is answered breaks
 
-tested_err : (from : Origin) (at : ℕ) (kind : Option FormKind) (m end : ℕ) (fault : FormFault) → tested from at kind m end ≡ Err fault
-    → (k : FormKind) × (kind ≡ Some k) × (fault ≡ fault_at from at k)
-tested_err from at None m end fault h = absurd cc
-tested_err from at (Some kind) m end fault h = (kind, refl, cc)
-
-number_err : (from : Origin) (wrong : ℕ → Option FormKind) (w : ℕ) (bytes : List ℕ) (at : ℕ) (b : Bool) (fault : FormFault)
-    → leb (at + w) (length bytes) ≡ b
-    → number_read from wrong bytes at (at + w) (cond b (Some (big_number w (drop at bytes))) None) ≡ Err fault
-    → Breaks from (number w wrong) bytes at fault
-unfolding Breaks
-number_err from wrong w bytes at false fault e h = inl (leb-false _ _ e, cc)
-number_err from wrong w bytes at true fault e h =
-    let t = tested_err from at (wrong (big_number w (drop at bytes))) (big_number w (drop at bytes)) (at + w) fault h in
-    inr (big_number w (drop at bytes), t.0, rw e refl, t.1, t.2)
-
-piece_err : (from : Origin) (bytes : List ℕ) (at n : ℕ) (b : Bool) (fault : FormFault) → leb (at + n) (length bytes) ≡ b
-    → cond b (read_ok (take n (drop at bytes)) (at + n)) (Err (cut from bytes)) ≡ Err fault → (length bytes < at + n) × (fault ≡ cut from bytes)
-piece_err from bytes at n true fault e h = absurd cc
-piece_err from bytes at n false fault e h = (leb-false _ _ e, cc)
-
-finish_err : (from : Origin) (bytes : List ℕ) (at : ℕ) (b : Bool) (fault : FormFault) → leb (length bytes) at ≡ b
-    → cond b (read_ok (tt {0}) at) (Err (fault_at from at Trailing)) ≡ Err fault → (at < length bytes) × (fault ≡ fault_at from at Trailing)
-finish_err from bytes at true fault e h = absurd cc
-finish_err from bytes at false fault e h = (leb-false _ _ e, cc)
-
 pub read-breaks : {X : Type 0} (from : Origin) (g : Grammar X) (bytes : List ℕ) (at : ℕ) (fault : FormFault) → read from g bytes at ≡ Err fault
     → Breaks from g bytes at fault
 unfolding Breaks Spells
 read-breaks from (give y) bytes at fault h = absurd cc
-read-breaks from (number w wrong) bytes at fault h = number_err from wrong w bytes at _ fault refl h
-read-breaks from (piece n) bytes at fault h = piece_err from bytes at n _ fault refl h
+read-breaks from (number w wrong) bytes at fault h = grind (arith, leb-false, drop)
+read-breaks from (piece n) bytes at fault h = grind (arith, leb-false)
 read-breaks from remaining bytes at fault h = absurd cc
 read-breaks from place bytes at fault h = absurd cc
-read-breaks from finish bytes at fault h = finish_err from bytes at _ fault refl h
+read-breaks from finish bytes at fault h = grind (arith, leb-false)
 read-breaks from (g >>= next) bytes at fault h =
     elim (then_err (read from g bytes at) (λ x middle. read from (next x) bytes middle) fault h) [
       | inl e ↦ inl (read-breaks from g bytes at fault e)
@@ -157,10 +105,6 @@ outcome_ok : {X : Type 0} (r : Reading X) (x : X) → outcome r ≡ Ok x → (af
 outcome_ok (Ok y) x h = let e : y.0 ≡ x = cc in (y.1, rw (← e) refl)
 outcome_ok (Err e) x h = absurd cc
 
-outcome_err : {X : Type 0} (r : Reading X) (fault : FormFault) → outcome r ≡ Err fault → r ≡ Err fault
-outcome_err (Ok y) fault h = absurd cc
-outcome_err (Err e) fault h = cc
-
 pub stands : {X : Type 0} (from : Origin) (g : Grammar X) (bytes : List ℕ) (x : X) → reading from g bytes ≡ Ok x → Stands g bytes x
 unfolding Stands reading
 stands from g bytes x h = let o = outcome_ok (read from g bytes 0) x h in (o.0, read-spells from g bytes 0 x o.0 o.1)
@@ -168,7 +112,7 @@ stands from g bytes x h = let o = outcome_ok (read from g bytes 0) x h in (o.0, 
 pub breaks : {X : Type 0} (from : Origin) (g : Grammar X) (bytes : List ℕ) (fault : FormFault) → reading from g bytes ≡ Err fault
     → Breaks from g bytes 0 fault
 unfolding reading
-breaks from g bytes fault h = read-breaks from g bytes 0 fault (outcome_err (read from g bytes 0) fault h)
+breaks from g bytes fault h = grind (arith, read-breaks)
 
 -- the converse
 pub reading_where : {X : Type 0} (from : Origin) (g : Grammar X) (bytes : List ℕ) (x : X) → Stands g bytes x → reading from g bytes ≡ Ok x

@@ -1,6 +1,6 @@
 -- Loops that pass over so many items of one kind.
 use Rattle.std.proofs.Common.{◌≡◌, ℕ, zero, suc, ◌+◌, ◌-◌, ◌≤◌, ◌<◌, List, [], ◌∷◌, length, Result, Ok, Err, refl, sym, ap}
-use Rattle.std.proofs.Common.{subst, ◌∙◌, false, arith}
+use Rattle.std.proofs.Common.{◌∙◌, arith}
 use Rattle.std.specs.Prelude.{IsTrue}
 use Rattle.cap_bytes.specs.declared.fault.FormFault.{FormFault}
 use Rattle.cap_bytes.specs.declared.cursor.Cursor.{Cursor}
@@ -16,8 +16,7 @@ end_of (Ok x) = Ok x.1
 end_of (Err fault) = Err fault
 
 pub err_of : {X : Type 0} (r : Reading X) (fault : FormFault) → end_of r ≡ Err fault → r ≡ Err fault
-err_of (Ok x) fault h = absurd cc
-err_of (Err e) fault h = cc
+err_of x fault h = grind (arith)
 
 pub ok_of : {X : Type 0} (r : Reading X) (at : ℕ) → end_of r ≡ Ok at → (x : X) × (r ≡ Ok (x, at))
 ok_of (Ok x) at h = let e : x.1 ≡ at = cc in (x.0, rw (← e) refl)
@@ -33,8 +32,7 @@ pub passed_none : {X : Type 0} (g : Grammar X) (count : ℕ) (start : Cursor) �
 passed_none g count start = record { goes_on = let e : count - 0 ≡ count = omega arith in rw e refl; info = refl; part = refl }
 
 pub forget : {X : Type 0} (x : X) (r : Reading (List X)) → end_of (and_then r (λ xs p. Ok (x ∷ xs, p))) ≡ end_of r
-forget x (Ok y) = refl
-forget x (Err e) = refl
+forget x x2 = grind (arith)
 
 end_one : {X : Type 0} (g : Grammar X) (n : ℕ) (now : Cursor) (x : X) (after : Cursor) → Taken g now x after → end_of (next (repeat (suc n) g) now)
     ≡ end_of (next (repeat n g) after)
@@ -56,17 +54,11 @@ end_fault g n now fault h = rw h.answer refl
 
 pub passed_fault : {X : Type 0} (g : Grammar X) (count : ℕ) (start : Cursor) (i : ℕ) (now : Cursor) (fault : FormFault)
     → HasPassed g count start i now → i < count → TakingFails g now fault → TakingFails (repeat count g) start fault
-passed_fault g count start i now fault so_far lt h =
-    let k : count - i ≡ suc (count - (i + 1)) = omega arith in
-    let e : end_of (next (repeat (suc (count - (i + 1))) g) now) ≡ Err fault = end_fault g (count - (i + 1)) now fault h in
-    record { answer = err_of (next (repeat count g) start) fault (sym so_far.goes_on ∙ ap (λ n. end_of (next (repeat n g) now)) k ∙ e) }
+passed_fault g count start i now fault so_far lt h = grind (arith, suc, end_fault, err_of)
 
 pub passed_all : {X : Type 0} (g : Grammar X) (count : ℕ) (start : Cursor) (i : ℕ) (now : Cursor) → HasPassed g count start i now → count ≤ i
     → (xs : List X) × Taken (repeat count g) start xs now
-passed_all g count start i now so_far le =
-    let k : count - i ≡ 0 = omega arith in
-    let t = ok_of (next (repeat count g) start) now.at (sym so_far.goes_on ∙ ap (λ n. end_of (next (repeat n g) now)) k) in
-    (t.0, record { value = t.1; info = so_far.info; part = so_far.part })
+passed_all g count start i now so_far le = grind (arith, ok_of)
 
 -- what a loop over so many items needs
 pub ruleset passing = (passed_none, passed_more, passed_fault, passed_all)
@@ -74,38 +66,20 @@ pub ruleset passing = (passed_none, passed_more, passed_fault, passed_all)
 -- ---- iterators over what is known to be so many items of one kind
 
 read_first : {X : Type 0} (x : X) (r : Reading (List X)) → is_read (and_then r (λ xs p. Ok (x ∷ xs, p))) ≡ is_read r
-read_first x (Ok y) = refl
-read_first x (Err e) = refl
-
-value_first : {X : Type 0} (x : X) (r : Reading (List X)) → IsTrue (is_read r) → value_or [] (and_then r (λ xs p. Ok (x ∷ xs, p)))
-    ≡ x ∷ value_or [] r
-value_first x (Ok y) h = refl
-value_first x (Err e) h = absurd cc
+read_first x x2 = grind (arith)
 
 one_less : (left : ℕ) → 0 < left → left ≡ suc (left - 1)
 one_less left h = omega arith
 
-first_read : {X : Type 0} (g : Grammar X) (n : ℕ) (now : Cursor) (x : X) (after : Cursor) → Taken g now x after
-    → is_read (next (repeat (suc n) g) now) ≡ is_read (next (repeat n g) after)
-first_read g n now x after h = rw (h.value, h.info, h.part) (read_first x (read (info_of now.part) (repeat n g) now.info.bytes.now after.at))
-
 pub gives_rest : {X : Type 0} (g : Grammar X) (left : ℕ) (now : Cursor) (x : X) (after : Cursor) → Gives (repeat left g) now → 0 < left
     → Taken g now x after → Gives (repeat (left - 1) g) after
 unfolding gives given
-gives_rest g left now x after h lt t =
-    let e : IsTrue (is_read (next (repeat (suc (left - 1)) g) now)) = subst (λ n. IsTrue (is_read (next (repeat n g) now))) (one_less left lt) h in
-    subst IsTrue (first_read g (left - 1) now x after t) e
+gives_rest g left now x after h lt t = grind (arith, suc, one_less, read_first)
 
 pub gives_first : {X : Type 0} (g : Grammar X) (left : ℕ) (now : Cursor) (x : X) (after : Cursor) → Gives (repeat left g) now → 0 < left
     → Taken g now x after → given [] (repeat left g) now ≡ x ∷ given [] (repeat (left - 1) g) after
 unfolding gives given
-gives_first g left now x after h lt t =
-    let k = one_less left lt in
-    let rest : IsTrue (is_read (next (repeat (left - 1) g) after)) = gives_rest g left now x after h lt t in
-    let one : given [] (repeat (suc (left - 1)) g) now ≡ x ∷ given [] (repeat (left - 1) g) after =
-    rw (t.value, t.info, t.part)
-    (value_first x (read (info_of now.part) (repeat (left - 1) g) now.info.bytes.now after.at) (rw (← t.info, ← t.part) rest)) in
-    ap (λ n. given [] (repeat n g) now) k ∙ one
+gives_first g left now x after h lt t = grind (arith, one_less, gives_rest, suc)
 
 pub length-repeat : {X : Type 0} (from : Origin) (g : Grammar X) (n : ℕ) (bytes : List ℕ) (at : ℕ) (xs : List X) (after : ℕ)
     → read from (repeat n g) bytes at ≡ Ok (xs, after) → length xs ≡ n
@@ -143,10 +117,7 @@ gives_none g left now h = rw h refl
 pub gives_not : {X : Type 0} (g : Grammar X) (left : ℕ) (now : Cursor) (fault : FormFault) → Gives (repeat left g) now → 0 < left
     → TakingFails g now fault → ⊥
 unfolding gives given
-gives_not g left now fault h lt f =
-    let e : IsTrue (is_read (next (repeat (suc (left - 1)) g) now)) = subst (λ n. IsTrue (is_read (next (repeat n g) now))) (one_less left lt) h in
-    let n : is_read (next (repeat (suc (left - 1)) g) now) ≡ false = rw f.answer refl in
-    absurd cc
+gives_not g left now fault h lt f = grind (arith, suc, one_less)
 
 -- what such an iterator needs
 pub ruleset yielding = (count_given, length_given, gives_taken, given_taken, gives_rest, gives_first, gives_none, gives_not)

@@ -1,5 +1,5 @@
 -- Numbers that are written over at rising places.
-use Rattle.std.proofs.Common.{◌≡◌, ℕ, ◌+◌, ◌-◌, ◌^◌, ◌≤◌, ◌<◌, List, [], ◌∷◌, ◌++◌, length, take, drop, Some}
+use Rattle.std.proofs.Common.{◌≡◌, ℕ, ◌+◌, ◌^◌, ◌≤◌, ◌<◌, List, [], ◌∷◌, ◌++◌, length, take, drop, Some}
 use Rattle.std.proofs.Common.{slice_index, refl, ap, ◌∙◌, arith, length-append}
 use Rattle.std.proofs.lemmas.List.{get_or_append_left, get_or-append_right, get_or-take, get_or-drop, length-take, length-drop, drop_at, take_at}
 use Rattle.std.proofs.Math.Nat.{mod-eq_of_lt}
@@ -15,26 +15,16 @@ length_two n = length-bytes_high_first 2 n
 
 pub length_patched : (e : Edit) (bytes : List ℕ) → e.at + 2 ≤ length bytes → length (patched e bytes) ≡ length bytes
 unfolding patched
-length_patched e bytes h =
-    let front = length-append (take e.at bytes) (big_bytes 2 e.number ++ drop (e.at + 2) bytes) in
-    let back = length-append (big_bytes 2 e.number) (drop (e.at + 2) bytes) in
-    omega (arith, front, back, length_two e.number, length-take e.at bytes, length-drop (e.at + 2) bytes)
+length_patched e bytes h = grind (arith, length-append, take, drop, length_two, length-take, length-drop)
 
 before_patched : (e : Edit) (bytes : List ℕ) (k : ℕ) → e.at + 2 ≤ length bytes → k < e.at → slice_index (patched e bytes) k ≡ slice_index bytes k
 unfolding patched
-before_patched e bytes k w h =
-    get_or_append_left (take e.at bytes) (big_bytes 2 e.number ++ drop (e.at + 2) bytes) 0 k (omega (arith, length-take e.at bytes))
-    ∙ get_or-take e.at bytes k 0 h
+before_patched e bytes k w h = grind (arith, get_or_append_left, take, drop, length-take, get_or-take)
 
 after_patched : (e : Edit) (bytes : List ℕ) (k : ℕ) → e.at + 2 ≤ length bytes → e.at + 2 ≤ k
     → slice_index (patched e bytes) k ≡ slice_index bytes k
 unfolding patched
-after_patched e bytes k w h =
-    let len : length (take e.at bytes) ≡ e.at = omega (arith, length-take e.at bytes) in
-    let place : e.at + 2 + (k - e.at - 2) ≡ k = omega arith in
-    get_or-append_right (take e.at bytes) (big_bytes 2 e.number ++ drop (e.at + 2) bytes) e.at k 0 len (omega arith)
-    ∙ get_or-append_right (big_bytes 2 e.number) (drop (e.at + 2) bytes) 2 (k - e.at) 0 (length_two e.number) (omega arith)
-    ∙ get_or-drop (e.at + 2) bytes (k - e.at - 2) 0 ∙ ap (slice_index bytes) place
+after_patched e bytes k w h = grind (arith, length, take, length-take, get_or-append_right, drop, length_two, get_or-drop, slice_index)
 
 -- a number stands where its bytes do
 pub number_there : (w n at : ℕ) (before after : List ℕ) → n < 256 ^ w → length before ≡ at → number_at w at (before ++ (big_bytes w n ++ after))
@@ -58,10 +48,7 @@ number_patched e bytes w fits =
 
 bytes_patched : (e : Edit) (bytes : List ℕ) → e.at + 2 ≤ length bytes → take 2 (drop e.at (patched e bytes)) ≡ big_bytes 2 e.number
 unfolding patched
-bytes_patched e bytes w =
-    let len : length (take e.at bytes) ≡ e.at = omega (arith, length-take e.at bytes) in
-    ap (take 2) (drop_at (take e.at bytes) (big_bytes 2 e.number ++ drop (e.at + 2) bytes) e.at len)
-    ∙ take_at (big_bytes 2 e.number) (drop (e.at + 2) bytes) 2 (length_two e.number)
+bytes_patched e bytes w = grind (arith, length, take, length-take, drop_at, drop, take_at, length_two)
 
 pub inside_order : (es : List Edit) (low high : ℕ) → AreInside es low high → low ≤ high
 inside_order [] low high h = h
@@ -120,16 +107,13 @@ patches_renew es bytes i f = record { long = length_patched_all es 0 bytes i; in
 edited_from : (es : List Edit) (low mid high : ℕ) (bytes out : List ℕ) → IsEdited es low high bytes out → low ≤ mid → AreInside es mid high
     → AreSame low mid bytes out × IsEdited es mid high bytes out
 edited_from [] low mid high bytes out h l i = (same_part low high low mid bytes out h (omega arith) i, same_part low high mid high bytes out h l (omega arith))
-edited_from (e ∷ es) low mid high bytes out h l i =
-    (same_part low e.at low mid bytes out h.0 (omega arith) i.0, (same_part low e.at mid e.at bytes out h.0 l (omega arith), h.1, h.2))
+edited_from (e ∷ es) low mid high bytes out h l i = grind (arith, same_part)
 
 -- the edits up to a place, and those from there on
 pub edited_split : (es fs : List Edit) (low mid high : ℕ) (bytes out : List ℕ) → AreInside es low mid → AreInside fs mid high
     → IsEdited (es ++ fs) low high bytes out → IsEdited es low mid bytes out × IsEdited fs mid high bytes out
 edited_split [] fs low mid high bytes out i j h = edited_from fs low mid high bytes out h i j
-edited_split (e ∷ es) fs low mid high bytes out i j h =
-    let r = edited_split es fs (e.at + 2) mid high bytes out i.1 j h.2 in
-    ((h.0, h.1, r.0), r.1)
+edited_split (e ∷ es) fs low mid high bytes out i j h = grind (arith, edited_split es fs (e.at + 2) mid high bytes out i.1 j h.2)
 
 pub inside_from : (es : List Edit) (low mid high : ℕ) → low ≤ mid → AreInside es mid high → AreInside es low high
 inside_from [] low mid high l h = omega arith
@@ -157,6 +141,4 @@ inside_to (e ∷ es) low mid high h l = (h.0, inside_to es (e.at + 2) mid high h
 pub edited_last : (es : List Edit) (low mid high : ℕ) (bytes out : List ℕ) → AreInside es low mid → mid ≤ high → IsEdited es low high bytes out
     → IsEdited es low mid bytes out × AreSame mid high bytes out
 edited_last [] low mid high bytes out i l h = (same_part low high low mid bytes out h (omega arith) l, same_part low high mid high bytes out h i (omega arith))
-edited_last (e ∷ es) low mid high bytes out i l h =
-    let r = edited_last es (e.at + 2) mid high bytes out i.1 l h.2 in
-    ((h.0, h.1, r.0), r.1)
+edited_last (e ∷ es) low mid high bytes out i l h = grind (arith, edited_last es (e.at + 2) mid high bytes out i.1 l h.2)

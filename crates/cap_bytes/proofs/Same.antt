@@ -24,11 +24,7 @@ big_same (suc n) i xs ys same =
 
 pub number_same : (w at : ℕ) (bytes out : List ℕ) → length out ≡ length bytes → AreSame at (at + w) bytes out
     → number_at w at out ≡ number_at w at bytes
-number_same w at bytes out len s =
-    let e : big_from 0 w (drop at out) ≡ big_from 0 w (drop at bytes) = big_same w 0 (drop at out) (drop at bytes) (λ k h.
-    let z : 0 + k ≡ k = omega arith in
-    rw z (get_or-drop at out k 0 ∙ s.each (at + k) (omega arith) (omega arith) ∙ sym (get_or-drop at bytes k 0))) in
-    rw (len, e) refl
+number_same w at bytes out len s = grind (arith, drop, big_same, get_or-drop)
 
 pub piece_same : (n at : ℕ) (bytes out : List ℕ) → length out ≡ length bytes → AreSame at (at + n) bytes out
     → take n (drop at out) ≡ take n (drop at bytes)
@@ -43,12 +39,8 @@ pub spelled_same : {X : Type 0} (g : Grammar X) (bytes out : List ℕ) (at : ℕ
     → AreSame at after bytes out → Spells g bytes at x after → Spells g out at x after
 unfolding Spells
 spelled_same (give y) bytes out at x after len s h = h
-spelled_same (number w wrong) bytes out at n after len s h =
-    let t : AreSame at (at + w) bytes out = same_part at after at (at + w) bytes out s (omega arith) (omega (arith, h.2)) in
-    (number_same w at bytes out len t ∙ h.0, h.1, h.2)
-spelled_same (piece n) bytes out at part after len s h =
-    let t : AreSame at (at + n) bytes out = same_part at after at (at + n) bytes out s (omega arith) (omega (arith, h.2)) in
-    (omega (arith, h.0, len), h.1 ∙ sym (piece_same n at bytes out len t), h.2)
+spelled_same (number w wrong) bytes out at n after len s h = grind (arith, same_part, number_same)
+spelled_same (piece n) bytes out at part after len s h = grind (arith, same_part, piece_same)
 spelled_same remaining bytes out at n after len s h = (h.0 ∙ ap (λ l. l - at) (sym len), h.1)
 spelled_same place bytes out at n after len s h = h
 spelled_same finish bytes out at x after len s h = (omega (arith, h.0, len), h.1)

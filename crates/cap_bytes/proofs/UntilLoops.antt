@@ -1,6 +1,6 @@
 -- Loops that pass over items up to the end of the bytes.
 use Rattle.std.proofs.Common.{◌≡◌, ℕ, zero, suc, ◌+◌, ◌-◌, ◌≤◌, ◌<◌, List, [], ◌∷◌, length, Option, Result, Ok, Err, Bool, true}
-use Rattle.std.proofs.Common.{false, nat_lt, refl, sym, ap, subst, ◌∙◌, arith}
+use Rattle.std.proofs.Common.{false, nat_lt, refl, sym, ap, ◌∙◌, arith}
 use Rattle.std.proofs.lemmas.Bool.{lt-ltb, le-ltb}
 use Rattle.cap_bytes.specs.declared.fault.FormFault.{FormFault}
 use Rattle.cap_bytes.specs.declared.cursor.Cursor.{Cursor}
@@ -21,24 +21,8 @@ abbrev pub plus : ℕ → Result (ℕ × ℕ) FormFault → Result (ℕ × ℕ) 
 plus i (Ok x) = Ok (i + x.0, x.1)
 plus i (Err fault) = Err fault
 
-sized_err : {X : Type 0} (r : Reading (List X)) (fault : FormFault) → size_of r ≡ Err fault → r ≡ Err fault
-sized_err (Ok x) fault h = absurd cc
-sized_err (Err e) fault h = cc
-
-sized_ok : {X : Type 0} (r : Reading (List X)) (n at : ℕ) → size_of r ≡ Ok (n, at) → (xs : List X) × (r ≡ Ok (xs, at)) × (length xs ≡ n)
-sized_ok (Ok x) n at h =
-    let p : (length x.0, x.1) ≡ (n, at) = cc in
-    let e : x.1 ≡ at = ap (λ (q : ℕ × ℕ). q.1) p in
-    (x.0, rw (← e) refl, ap (λ (q : ℕ × ℕ). q.0) p)
-sized_ok (Err e) n at h = absurd cc
-
-plus_none : (r : Result (ℕ × ℕ) FormFault) → plus 0 r ≡ r
-plus_none (Ok x) = let e : 0 + x.0 ≡ x.0 = omega arith in rw e refl
-plus_none (Err e) = refl
-
 plus_one : {X : Type 0} (i : ℕ) (x : X) (r : Reading (List X)) → plus i (size_of (and_then r (λ xs p. Ok (x ∷ xs, p)))) ≡ plus (i + 1) (size_of r)
-plus_one i x (Ok y) = let e : i + suc (length y.0) ≡ i + 1 + length y.0 = omega arith in rw e refl
-plus_one i x (Err e) = refl
+plus_one i x x2 = grind (arith, suc, length)
 
 -- i items from `start` on are passed, which changed the state from `first` to `s`, and `now` is after them
 pub record HasPassedUntil {X S : Type 0} (g : S → Grammar X) (step : S → X → S) (start : Cursor) (first : S) (i : ℕ) (now : Cursor) (s : S) : Type 0
@@ -50,27 +34,17 @@ pub record HasPassedUntil {X S : Type 0} (g : S → Grammar X) (step : S → X �
     pub part : now.part ≡ start.part
 
 pub until_none : {X S : Type 0} (g : S → Grammar X) (step : S → X → S) (start : Cursor) (first : S) → HasPassedUntil g step start first 0 start first
-until_none g step start first = record {
-  fuel = length start.info.bytes.now - start.at;
-  enough = omega arith;
-  goes_on = plus_none (size_of (next (until_end g step first) start));
-  info = refl;
-  part = refl;
-}
+until_none g step start first = grind (arith, length)
 
 when_true : {X : Type 0} (b : Bool) (otherwise : X) (g : Grammar X) (now : Cursor) → b ≡ true → next (when b otherwise g) now ≡ next g now
-when_true true otherwise g now e = refl
-when_true false otherwise g now e = absurd cc
+when_true x otherwise g now e = grind (arith)
 
 when_false : {X : Type 0} (b : Bool) (otherwise : X) (g : Grammar X) (now : Cursor) → b ≡ false → next (when b otherwise g) now ≡ Ok (otherwise, now.at)
-when_false true otherwise g now e = absurd cc
-when_false false otherwise g now e = refl
+when_false x otherwise g now e = grind (arith)
 
 one_item : {X S : Type 0} (g : S → Grammar X) (step : S → X → S) (n : ℕ) (now : Cursor) (s : S) → now.at < length now.info.bytes.now
     → next (at_most (suc n) g step s) now ≡ next (g s >>= λ x. at_most n g step (step s x) >>= λ xs. give (x ∷ xs)) now
-one_item g step n now s lt =
-    let e : nat_lt 0 (length now.info.bytes.now - now.at) ≡ true = lt-ltb 0 (length now.info.bytes.now - now.at) (omega arith) in
-    when_true (nat_lt 0 (length now.info.bytes.now - now.at)) [] (g s >>= λ x. at_most n g step (step s x) >>= λ xs. give (x ∷ xs)) now e
+one_item g step n now s lt = grind (arith, nat_lt, length, lt-ltb, when_true)
 
 pub until_more : {X S : Type 0} (g : S → Grammar X) (step : S → X → S) (start : Cursor) (first : S) (i : ℕ) (now : Cursor) (s : S) (x : X)
     (after : Cursor) → HasPassedUntil g step start first i now s → now.at < length now.info.bytes.now → Taken (g s) now x after → now.at < after.at
@@ -97,29 +71,17 @@ one_fault g step i n now s fault lt h = rw (one_item g step n now s lt, h.answer
 pub until_fault : {X S : Type 0} (g : S → Grammar X) (step : S → X → S) (start : Cursor) (first : S) (i : ℕ) (now : Cursor) (s : S)
     (fault : FormFault) → HasPassedUntil g step start first i now s → now.at < length now.info.bytes.now → TakingFails (g s) now fault
     → TakingFails (until_end g step first) start fault
-until_fault g step start first i now s fault so_far lt h =
-    let enough = so_far.enough in
-    let k : so_far.fuel ≡ suc (so_far.fuel - 1) = omega arith in
-    let e : plus i (size_of (next (at_most (suc (so_far.fuel - 1)) g step s) now)) ≡ Err fault = one_fault g step i (so_far.fuel - 1) now s fault lt h in
-    record {
-      answer = sized_err (next (until_end g step first) start) fault
-          (sym so_far.goes_on ∙ ap (λ m. plus i (size_of (next (at_most m g step s) now))) k ∙ e);
-    }
+until_fault g step start first i now s fault so_far lt h = grind (arith, suc, one_fault)
 
 no_item : {X S : Type 0} (g : S → Grammar X) (step : S → X → S) (n : ℕ) (now : Cursor) (s : S) → length now.info.bytes.now ≤ now.at
     → next (at_most n g step s) now ≡ Ok ([], now.at)
 no_item g step zero now s le = refl
-no_item g step (suc n) now s le =
-    let e : nat_lt 0 (length now.info.bytes.now - now.at) ≡ false = le-ltb 0 (length now.info.bytes.now - now.at) (omega arith) in
-    when_false (nat_lt 0 (length now.info.bytes.now - now.at)) [] (g s >>= λ x. at_most n g step (step s x) >>= λ xs. give (x ∷ xs)) now e
+no_item g step (suc n) now s le = grind (arith, nat_lt, length, le-ltb, when_false)
 
 pub until_all : {X S : Type 0} (g : S → Grammar X) (step : S → X → S) (start : Cursor) (first : S) (i : ℕ) (now : Cursor) (s : S)
     → HasPassedUntil g step start first i now s → length now.info.bytes.now ≤ now.at → (xs : List X) × Taken (until_end g step first) start xs now
     × (length xs ≡ i)
-until_all g step start first i now s so_far le =
-    let e : plus i (size_of (next (at_most so_far.fuel g step s) now)) ≡ Ok (i + 0, now.at) = rw (no_item g step so_far.fuel now s le) refl in
-    let t = sized_ok (next (until_end g step first) start) (i + 0) now.at (sym so_far.goes_on ∙ e) in
-    (t.0, record { value = t.1; info = so_far.info; part = so_far.part }, omega (arith, t.2))
+until_all g step start first i now s so_far le = grind (arith, no_item, length)
 
 -- what a loop up to the end needs
 pub ruleset passing_until = (until_none, until_more, until_fault, until_all)
@@ -139,15 +101,7 @@ one_more : {X S : Type 0} (g : S → Grammar X) (step : S → X → S) (h : Gram
     → read from (repeat (length ys) h) bytes at' ≡ Ok (ys, end))
     → read from (when b [] (g s >>= λ x. at_most n g step (step s x) >>= λ ys. give (x ∷ ys))) bytes at ≡ Ok (xs, after)
     → read from (repeat (length xs) h) bytes at ≡ Ok (xs, after)
-one_more g step h all n s from bytes at xs after false others e = no_more h from bytes at xs after e
-one_more g step h all n s from bytes at xs after true others e =
-    let t = then_ok (read from (g s) bytes at) (λ x middle. read from (at_most n g step (step s x) >>= λ ys. give (x ∷ ys)) bytes middle) xs after e in
-    let u = then_ok (read from (at_most n g step (step s t.0)) bytes t.1) (λ ys p. read_ok (t.0 ∷ ys) p) xs after t.3 in
-    let p = pair_ok (t.0 ∷ u.0) xs u.1 after u.3 in
-    let whole : read from (repeat (suc (length u.0)) h) bytes at ≡ Ok (t.0 ∷ u.0, u.1) =
-    rw (all s from bytes at t.0 t.1 t.2, others (step s t.0) t.1 u.0 u.1 u.2) refl in
-    subst (λ (q : List _ × ℕ). read from (repeat (length q.0) h) bytes at ≡ Ok q) {x = (t.0 ∷ u.0, u.1)}
-    (pair_is (t.0 ∷ u.0) xs u.1 after p.0 p.1) whole
+one_more g step h all n s from bytes at xs after x others e = grind (arith, no_more, then_ok, pair_ok, suc, length, pair_is)
 
 pub most-repeat : {X S : Type 0} (g : S → Grammar X) (step : S → X → S) (h : Grammar X) → ReadsAll g h
     → (n : ℕ) (s : S) (from : Origin) (bytes : List ℕ) (at : ℕ) (xs : List X) (after : ℕ) → read from (at_most n g step s) bytes at
@@ -159,12 +113,7 @@ most-repeat g step h all (suc n) s from bytes at xs after e =
 
 pub until_taken : {X S : Type 0} (g : S → Grammar X) (step : S → X → S) (h : Grammar X) → ReadsAll g h
     → (s : S) (now : Cursor) (xs : List X) (after : Cursor) → Taken (until_end g step s) now xs after → Taken (repeat (length xs) h) now xs after
-until_taken g step h all s now xs after t =
-    record {
-      value = most-repeat g step h all (length now.info.bytes.now - now.at) s (info_of now.part) now.info.bytes.now now.at xs after.at t.value;
-      info = t.info;
-      part = t.part;
-    }
+until_taken g step h all s now xs after t = grind (arith, most-repeat, length)
 
 -- ---- items move on
 
@@ -176,10 +125,7 @@ moves_on (piece n) bytes at part after h = omega (arith, h.2)
 moves_on remaining bytes at n after h = omega (arith, h.1)
 moves_on place bytes at n after h = omega (arith, h.1)
 moves_on finish bytes at x after h = omega (arith, h.1)
-moves_on (g >>= next) bytes at y after h =
-    let a = moves_on g bytes at h.0 h.1 h.2 in
-    let b = moves_on (next h.0) bytes h.1 y after h.3 in
-    omega (arith, a, b)
+moves_on (g >>= next) bytes at y after h = grind (arith, moves_on g bytes at h.0 h.1 h.2, moves_on (next h.0) bytes h.1 y after h.3)
 
 -- what begins with a number has the bytes of that number at least
 pub moves : {X : Type 0} (w : ℕ) (wrong : ℕ → Option FormKind) (then : ℕ → Grammar X) (now : Cursor) (x : X) (after : Cursor)

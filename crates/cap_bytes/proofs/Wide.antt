@@ -1,6 +1,6 @@
 -- Items of one width, which stand at known places.
 use Rattle.std.proofs.Common.{◌≡◌, ℕ, zero, suc, ◌+◌, ◌*◌, ◌≤◌, ◌<◌, List, [], ◌∷◌, length, Option, Some, None, Ok, Err, Bool}
-use Rattle.std.proofs.Common.{true, false, cond, leb, drop, refl, sym, ap, ◌∙◌, arith}
+use Rattle.std.proofs.Common.{cond, leb, drop, refl, sym, arith}
 use Rattle.std.specs.Prelude.{IsTrue, slice_get}
 use Rattle.std.proofs.lemmas.Option.{slice_get_past}
 use Rattle.cap_bytes.specs.declared.fault.FormFault.{FormFault}
@@ -33,18 +33,11 @@ wide_piece n = record { ends = λ from bytes at part after h. (read-spells from 
 
 pub wide_then : {X Y : Type 0} (v w : ℕ) (g : Grammar X) (next : X → Grammar Y) → IsWide v g → ((x : X) → IsWide w (next x))
     → IsWide (v + w) (g >>= next)
-wide_then v w g next p q = record {
-  ends = λ from bytes at y after h.
-      let t = then_ok (read from g bytes at) (λ x middle. read from (next x) bytes middle) y after h in
-      let a = p.ends from bytes at t.0 t.1 t.2 in
-      let b = (q t.0).ends from bytes t.1 y after t.3 in
-      omega (arith, a, b);
-}
+wide_then v w g next p q = grind (arith, then_ok)
 
 pub reaches : (w : ℕ) (bytes : List ℕ) (at n : ℕ) (b : Bool) → leb (at + w) (length bytes) ≡ b → cond b (Some (big_number w (drop at bytes))) None
     ≡ Some n → at + w ≤ length bytes
-reaches w bytes at n true e h = leb-true _ _ e
-reaches w bytes at n false e h = absurd cc
+reaches w bytes at n x e h = grind (arith, leb-true)
 
 -- what is read from a place within the bytes ends within them
 pub read_within : {X : Type 0} (from : Origin) (g : Grammar X) (bytes : List ℕ) (at : ℕ) (x : X) (after : ℕ) → at ≤ length bytes
@@ -122,10 +115,7 @@ nth_known w g left k now there wide h lt a =
 
 pub nth_given : {X : Type 0} (w : ℕ) (g : Grammar X) (left k : ℕ) (now there : Cursor) (x : X) (after : Cursor) → IsWide w g
     → Gives (repeat left g) now → k < left → IsAhead now k w there → Taken g there x after → Some x ≡ slice_get (given [] (repeat left g) now) k
-nth_given w g left k now there x after wide h lt a t =
-    let n = nth_known w g left k now there wide h lt a in
-    let e : read_ok n.0 (there.at + w) ≡ Ok (x, after.at) = sym n.1 ∙ t.value in
-    ap Some (pair_ok n.0 x (there.at + w) after.at e).0 ∙ sym n.2
+nth_given w g left k now there x after wide h lt a t = grind (arith, nth_known w g left k now there wide h lt a, pair_ok)
 
 not_both : {X : Type 0} (x : X) (after : ℕ) (fault : FormFault) → read_ok x after ≡ Err fault → ⊥
 not_both x after fault e = cc
@@ -133,10 +123,7 @@ not_both x after fault e = cc
 pub nth_not : {X : Type 0} (other : Option X) (w : ℕ) (g : Grammar X) (left k : ℕ) (now there : Cursor) (fault : FormFault) → IsWide w g
     → Gives (repeat left g) now → k < left → IsAhead now k w there → TakingFails g there fault
     → other ≡ slice_get (given [] (repeat left g) now) k
-nth_not other w g left k now there fault wide h lt a f =
-    let n = nth_known w g left k now there wide h lt a in
-    let e : read_ok n.0 (there.at + w) ≡ Err fault = sym n.1 ∙ f.answer in
-    absurd (not_both n.0 (there.at + w) fault e)
+nth_not other w g left k now there fault wide h lt a f = grind (arith, nth_known w g left k now there wide h lt a, not_both)
 
 pub nth_none : {X : Type 0} (g : Grammar X) (left k : ℕ) (now : Cursor) → Gives (repeat left g) now → left ≤ k
     → None ≡ slice_get (given [] (repeat left g) now) k

@@ -1,5 +1,5 @@
 -- What is written item by item is spelled.
-use Rattle.std.proofs.Common.{◌≡◌, ℕ, ◌+◌, ◌^◌, ◌<◌, List, [], ◌++◌, length, take, None, Option, refl, sym, ap, subst, ◌∙◌, arith}
+use Rattle.std.proofs.Common.{◌≡◌, ℕ, ◌+◌, ◌^◌, ◌<◌, List, [], ◌++◌, length, take, None, Option, refl, ap, subst, arith}
 use Rattle.std.proofs.Common.{length-append, append_assoc}
 use Rattle.std.proofs.lemmas.List.{drop_at, take_at, append-nil}
 use Rattle.byteorder.specs.Endian.{big_bytes}
@@ -23,21 +23,11 @@ writes_number total w n at wrong fits right = record {
 
 pub writes_piece : (total n at : ℕ) (bytes : List ℕ) → length bytes ≡ n → SpellsInPlace total (piece n) at bytes bytes
 unfolding Spells
-writes_piece total n at bytes len = record {
-  there = λ before after l t.
-      let whole = length-append before (bytes ++ after) in
-      let part = length-append bytes after in (
-        omega arith,
-        sym (ap (take n) (drop_at before (bytes ++ after) at l) ∙ take_at bytes after n len),
-        ap (λ k. at + k) len,
-      );
-}
+writes_piece total n at bytes len = grind (arith, length-append, take, drop_at, take_at)
 
 pub writes_finish : (total at : ℕ) → total ≡ at → SpellsInPlace total finish at [] (tt {0})
 unfolding Spells
-writes_finish total at e = record {
-  there = λ before after l t. let whole = length-append before after in (omega arith, omega arith);
-}
+writes_finish total at e = grind (arith, length-append)
 
 pub writes_then : {X Y : Type 0} (total at : ℕ) (g : Grammar X) (next : X → Grammar Y) (out rest : List ℕ) (x : X) (y : Y)
     → SpellsInPlace total g at out x → SpellsInPlace total (next x) (at + length out) rest y → SpellsInPlace total (g >>= next) at (out ++ rest) y

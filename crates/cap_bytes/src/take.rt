@@ -1,5 +1,5 @@
 ghost use Rattle.std.specs.Prelude.{◌≡◌, ◌+◌, ◌-◌, ◌*◌, ◌≤◌, length, Ok, IfOk};
-ghost use Rattle.cap_bytes.specs.Grammar.{u1, u2, u4, number, piece, remaining, finish, rest, aid, that, is_aid_length};
+ghost use Rattle.cap_bytes.specs.Grammar.{u1, u2, u4, piece, remaining, finish, rest, aid};
 ghost use Rattle.cap_bytes.specs.Spelling.{info_of, fault_at, cut};
 ghost use Rattle.cap_bytes.specs.Taking.{Takes, IsAhead, same, bytes, nothing};
 
