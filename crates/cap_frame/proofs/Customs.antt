@@ -1,5 +1,5 @@
 -- Custom components that were read one by one, each with a new tag.
-use Rattle.std.proofs.Common.{◌≡◌, ℕ, ◌+◌, ◌<◌, ◌≤◌, Bool, true, false, cond, List, length, Some, None, refl, sym, subst, ◌∙◌, inl}
+use Rattle.std.proofs.Common.{◌≡◌, ℕ, ◌+◌, ◌<◌, ◌≤◌, Bool, true, false, cond, List, length, Some, None, sym, subst, ◌∙◌, inl}
 use Rattle.std.proofs.Common.{inr, arith}
 use mathlib.Core.Path.{fun_ext}
 use Rattle.std.specs.Prelude.{replicate, slice_set, ◌&&◌, not, nat_le}
@@ -17,8 +17,7 @@ use Rattle.cap_frame.specs.Tags.{named_in}
 -- ---- the iterator asks less of a tag
 
 both : (a b : Bool) (kind : FormKind) → cond (a && b) None (Some kind) ≡ None → cond (a && true) None (Some kind) ≡ None
-both true b kind e = refl
-both false b kind e = e
+both x b kind e = grind (arith)
 
 less_strict : (named : ℕ → Bool) (tag : ℕ) → that (is_new_tag named) tag ≡ None → that (is_new_tag none) tag ≡ None
 less_strict named tag e = both (nat_le 128 tag) (not (named tag)) _ e
@@ -47,10 +46,7 @@ pub record HasNamed (count : ℕ) (start : Cursor) (i : ℕ) (now : Cursor) (nam
   pub flags : length named ≡ 256
 
 pub named_none : (count : ℕ) (start : Cursor) → HasNamed count start 0 start (replicate 256 false)
-named_none count start = record {
-  passed = subst (λ s. HasPassedEach custom_info and_that_of count start none 0 start s) (sym none_named) (each_none custom_info and_that_of count start none);
-  flags = length-replicate 256 false;
-}
+named_none count start = grind (arith, none_named, each_none, length-replicate)
 
 pub named_more : (count : ℕ) (start : Cursor) (i : ℕ) (now : Cursor) (named : List Bool) (custom : Custom) (after : Cursor)
     → HasNamed count start i now named → i < count → Taken (custom_info (named_in named)) now custom after → custom.tag < 256
