@@ -1,5 +1,6 @@
 -- The entries that name a static method of the package itself.
-use Rattle.std.proofs.Common.{◌≡◌, ℕ, ◌+◌, ◌-◌, ◌*◌, Bool, true, false, cond, eqb, ltb, List, ◌∷◌, slice_index, refl}
+use Rattle.std.proofs.Common.{arith}
+use Rattle.std.proofs.Common.{◌≡◌, ℕ, ◌+◌, ◌-◌, ◌*◌, Bool, cond, eqb, ltb, List, ◌∷◌, slice_index}
 use Rattle.cap_pool.specs.PoolFormat.{Entry}
 use Rattle.cap_pool.specs.declared.pool_reference.PoolReference.{PoolReference}
 use Rattle.cap_pool.specs.declared.pool_reference.PoolReference.TheVariants.{Class, InstanceField, VirtualMethod, SuperMethod, StaticField, StaticMethod}
@@ -31,17 +32,8 @@ AreTold bytes o new others =
 
 own_by : (a b c d f low : Bool) (bytes : List ℕ) (o x : ℕ) (others : List ℕ) → by_kind a b c d f low bytes ≡ StaticMethod (Internal o)
     → AreTold bytes o (by_kind a b c d f low (x ∷ others)) others
-own_by true b c d f low bytes o x others h = absurd cc
-own_by false true c d f low bytes o x others h = absurd cc
-own_by false false true d f low bytes o x others h = absurd cc
-own_by false false false true f low bytes o x others h = absurd cc
-own_by false false false false true low bytes o x others h = absurd cc
-own_by false false false false false false bytes o x others h = absurd cc
-own_by false false false false false true bytes o x others h = (cc, refl)
+own_by x b c d f low bytes o x2 others h = grind (arith)
 
 pub own-told : (e : Entry) (o : ℕ) (others : List ℕ) → referred e ≡ StaticMethod (Internal o) → IsOwn e o others
 unfolding referred
-own-told e o others h =
-    let both = own_by (eqb e.tag 1) (eqb e.tag 2) (eqb e.tag 3) (eqb e.tag 4) (eqb e.tag 5) (ltb (slice_index e.bytes 0) 128) e.bytes o
-    (slice_index e.bytes 0) others h in
-    record { told = both.0; renewed = both.1 }
+own-told e o others h = grind (arith, own_by, eqb, ltb, slice_index)
