@@ -1,5 +1,5 @@
 -- Records up to the end of the component: each takes a byte or more, and is one that may stand anywhere.
-use Rattle.std.proofs.Common.{◌≡◌, ℕ, ◌≤◌, ◌<◌, Bool, true, false, List, [], ◌∷◌, length, Some, None, refl, arith, subst, cond}
+use Rattle.std.proofs.Common.{◌≡◌, ℕ, ◌≤◌, ◌<◌, Bool, false, List, [], ◌∷◌, length, Some, None, refl, arith, cond}
 use Rattle.std.specs.Prelude.{◌&&◌}
 use Rattle.cap_bytes.specs.declared.fault.FormKind.TheVariants.{BadValue, Remote}
 use Rattle.cap_bytes.specs.declared.fault.FormFault.{FormFault}
@@ -10,7 +10,7 @@ use Rattle.cap_bytes.specs.Spelling.{Spells}
 use Rattle.cap_bytes.proofs.Laws.{read-spells, spelled-read}
 use Rattle.cap_bytes.proofs.EachLoops.{ReadsAll}
 use Rattle.cap_bytes.proofs.UntilLoops.{HasPassedUntil, moves, until_taken}
-use Rattle.cap_class.specs.ClassFormat.{Class, wrong_record, beyond_first, is_interface, is_remote, class_flags, record_info, any_record, is_after}
+use Rattle.cap_class.specs.ClassFormat.{Class, wrong_record, beyond_first, is_interface, class_flags, record_info, any_record, is_after}
 
 -- so many records from `start` on are passed up to `now`, and no more than the bytes before it
 pub record HavePassed (start : Cursor) (count : ℕ) (now : Cursor) (after_class : Bool) : Type 0 where
@@ -29,24 +29,17 @@ pub ruleset advancing = (advances)
 
 relaxed : (b c d : Bool) → cond (b && c) (Some BadValue) (cond d (Some Remote) None) ≡ None
     → cond (false && c) (Some BadValue) (cond d (Some Remote) None) ≡ None
-relaxed true true d h = absurd cc
-relaxed true false d h = h
-relaxed false c d h = h
+relaxed x c d h = grind (arith)
 
 -- a record that may stand where it stands may stand anywhere
 reads_all : ReadsAll record_info any_record
 unfolding record_info Spells
-reads_all s from bytes at x after h =
-    let r = read-spells from (record_info s) bytes at x after h in
-    let t = r.3 in
-    let first = relaxed s (is_interface (class_flags t.0)) (is_remote (class_flags t.0)) t.2.1 in
-    spelled-read from any_record bytes at x after (r.0, r.1, r.2, (t.0, t.1, (t.2.0, first, t.2.2), t.3))
+reads_all s from bytes at x after h = grind (arith, read-spells, relaxed, spelled-read)
 
 -- so many records up to the end are so many that may stand anywhere
 pub counted : (n : ℕ) (now : Cursor) (xs : List Class) (after : Cursor) → Taken (until_end record_info is_after false) now xs after → length xs ≡ n
     → Taken (repeat n any_record) now xs after
-counted n now xs after t e =
-    subst (λ (k : ℕ). Taken (repeat k any_record) now xs after) e (until_taken record_info is_after any_record reads_all false now xs after t)
+counted n now xs after t e = grind (arith, until_taken record_info is_after any_record reads_all false now xs after t)
 
 -- a table of no entries is always there
 pub never_fails : (now : Cursor) (fault : FormFault) → TakingFails (table 0) now fault → ⊥
