@@ -25,14 +25,11 @@ abbrev pub with_front : {X : Type 0} → List X → Reading (List X) → Reading
 with_front front r = and_then r (λ xs after. Ok (front ++ xs, after))
 
 fronts : {X : Type 0} (xs ys : List X) (r : Reading (List X)) → with_front xs (with_front ys r) ≡ with_front (xs ++ ys) r
-fronts xs ys (Ok x) = ap (λ zs. Ok (zs, x.1)) (sym (append_assoc xs ys x.0))
-fronts xs ys (Err e) = refl
+fronts xs ys x = grind (arith, append_assoc)
 
 pub most-more : {X : Type 0} (g : Grammar X) (ns : List ℕ) (n at after : ℕ) (x : X) → at < length ns → at_place g ns at ≡ Ok (x, after)
     → most g (suc n) ns at ≡ with_front (x ∷ []) (most g n ns after)
-most-more g ns n at after x lt k =
-    subst (λ t. at_place (when t [] (first_of_most g n)) ns at ≡ with_front (x ∷ []) (most g n ns after))
-    (sym (lt-ltb 0 (length ns - at) (omega arith))) (rw k refl)
+most-more g ns n at after x lt k = grind (arith, lt-ltb, length)
 
 pub most-fails : {X : Type 0} (g : Grammar X) (ns : List ℕ) (n at : ℕ) → at < length ns → result_ok (at_place g ns at) ≡ None
     → result_ok (most g (suc n) ns at) ≡ None
@@ -48,9 +45,7 @@ most-fails {X = X} g ns n at lt k =
 
 pub most-ends : {X : Type 0} (g : Grammar X) (ns : List ℕ) (n at : ℕ) → length ns ≤ at → most g n ns at ≡ Ok ([], at)
 most-ends g ns zero at le = refl
-most-ends {X = X} g ns (suc n) at le =
-    let none : List X = [] in
-    subst (λ t. at_place (when t none (first_of_most g n)) ns at ≡ Ok (none, at)) (sym (le-ltb 0 (length ns - at) (omega arith))) refl
+most-ends {X = X} g ns (suc n) at le = grind (arith, le-ltb, length)
 
 abbrev front_ok : {X : Type 0} → X → List X → ℕ → Reading (List X)
 front_ok y ys p = Ok (y ∷ ys, p)
@@ -69,11 +64,7 @@ chain r next x middle out e k = rw (e, k) refl
 pub repeat-more : {X : Type 0} (g : Grammar X) (ns : List ℕ) (n start at after : ℕ) (xs : List X) (x : X)
     → at_place (repeat n g) ns start ≡ Ok (xs, at) → at_place g ns at ≡ Ok (x, after) → at_place (repeat (suc n) g) ns start
     ≡ Ok (xs ++ x ∷ [], after)
-repeat-more {X = X} g ns zero start at after xs x h k =
-    let e : ([], start) ≡ (xs, at) = cc in
-    let xs_none : [] ≡ xs = ap (λ (p : List X × ℕ). p.0) e in
-    let same : start ≡ at = ap (λ (p : List X × ℕ). p.1) e in
-    rw (← xs_none, same, k) refl
+repeat-more {X = X} g ns zero start at after xs x h k = grind (arith)
 repeat-more {X = X} g ns (suc n) start at after xs x h k =
     let first = then_ok (at_place g ns start) (λ y middle. and_then (at_place (repeat n g) ns middle) (λ ys p. Ok (y ∷ ys, p))) xs at h in
     let others = then_ok (at_place (repeat n g) ns first.1) (λ ys p. Ok (first.0 ∷ ys, p)) xs at first.3 in
@@ -114,26 +105,14 @@ pub record ReadsAll {X : Type 0} (g : Grammar X) (ns : List ℕ) (n : ℕ) : Typ
   pub items : option_map (λ (p : List X × ℕ). p.0) (result_ok (most g (length ns - 0) ns 0)) ≡ Some (value_or [] (at_place (repeat n g) ns 0))
 
 pub counted-all : {X : Type 0} (g : Grammar X) (ns : List ℕ) (n at : ℕ) → HasCounted g ns n at → length ns ≤ at → ReadsAll g ns n
-counted-all g ns n at h le =
-    let e : length ns - 0 ≡ length ns = omega arith in
-    record {
-      whole = rw h.front refl;
-      items = rw (e, h.others, most-ends g ns (length ns - n) at le, h.front) (ap Some (append-nil h.items));
-    }
+counted-all g ns n at h le = grind (arith, length, most-ends, append-nil)
 
 failed : {X : Type 0} (front : List X) (r : Reading (List X)) → result_ok r ≡ None → result_ok (with_front front r) ≡ None
-failed front (Ok x) h = absurd cc
-failed front (Err e) h = refl
+failed front x h = grind (arith)
 
 pub counted-fails : {X : Type 0} (g : Grammar X) (ns : List ℕ) (n at : ℕ) → HasCounted g ns n at → at < length ns
     → result_ok (at_place g ns at) ≡ None → option_map (λ (p : List X × ℕ). p.0) (result_ok (most g (length ns - 0) ns 0)) ≡ None
-counted-fails g ns n at h lt k =
-    let few : n ≤ at = h.few in
-    let e : length ns - 0 ≡ length ns = omega arith in
-    let one : length ns - n ≡ suc (length ns - (n + 1)) = omega arith in
-    let f = failed h.items (most g (length ns - n) ns at) (rw one (most-fails g ns (length ns - (n + 1)) at lt k)) in
-    rw (e, h.others, f) refl
+counted-fails g ns n at h lt k = grind (arith, length, suc, failed, most-fails)
 
 pub read_where : {X : Type 0} (r : Reading X) (x : X × ℕ) → Some x ≡ result_ok r → r ≡ Ok x
-read_where (Ok y) x h = cc
-read_where (Err e) x h = absurd cc
+read_where x x2 h = grind (arith)

@@ -1,14 +1,13 @@
 -- The n-th nibble stands in the byte n / 2.
 use Rattle.std.proofs.Common.{◌≡◌, ℕ, zero, suc, ◌+◌, ◌*◌, ◌/◌, ◌%◌, ◌≤◌, ◌<◌, List, [], ◌∷◌, length, take, Some, Bool}
-use Rattle.std.proofs.Common.{true, false, leb, refl, ap, ◌∙◌, arith, length-take-le}
+use Rattle.std.proofs.Common.{leb, refl, ap, ◌∙◌, arith, length-take-le}
 use Rattle.std.specs.List.{slice_get}
 use Rattle.std.proofs.lemmas.Bool.{le-leb, lt-leb, leb-true, leb-false}
 use Rattle.cap_bytes.specs.Number.{number_at}
 use Rattle.cap_desc.specs.TypeFormat.{nibbles}
 
 one_more : (n b : ℕ) (t : Bool) → leb (n + 1) b ≡ t → leb (suc n + 1) (suc b) ≡ t
-one_more n b true e = let h : n + 1 ≤ b = leb-true (n + 1) b e in le-leb (suc n + 1) (suc b) (omega arith)
-one_more n b false e = let h : b < n + 1 = leb-false (n + 1) b e in lt-leb (suc n + 1) (suc b) (omega arith)
+one_more n b x e = grind (arith, leb-true, le-leb, suc, leb-false, lt-leb)
 
 -- a number of one item is that item
 pub number-item : (xs : List ℕ) (n : ℕ) → number_at 1 n xs ≡ slice_get xs n

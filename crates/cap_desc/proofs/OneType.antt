@@ -1,5 +1,6 @@
 -- A descriptor of one type: the type stands first, and the nibbles end after it.
-use Rattle.std.proofs.Common.{◌≡◌, ℕ, ◌≤◌, ◌<◌, List, length, Option, Some, None, Ok, Err, refl, sym}
+use Rattle.std.proofs.Common.{arith}
+use Rattle.std.proofs.Common.{◌≡◌, ℕ, ◌≤◌, ◌<◌, List, length, Option, Some, None, Ok, refl, sym}
 use Rattle.std.specs.Result.{result_ok}
 use Rattle.std.specs.Option.{option_map}
 use Rattle.std.proofs.lemmas.Bool.{le-leb, lt-leb}
@@ -13,8 +14,7 @@ abbrev then_end : List ℕ → Reading TypeItem → Option TypeItem
 then_end ns r = option_map (λ p. p.0) (result_ok (and_then r (λ x at. nibbles_read (finish >>= λ end. give x) ns at)))
 
 none_first : (ns : List ℕ) (r : Reading TypeItem) → result_ok r ≡ None → then_end ns r ≡ None
-none_first ns (Ok x) h = absurd cc
-none_first ns (Err e) h = refl
+none_first ns x h = grind (arith)
 
 pub one_type-none : (ns : List ℕ) → None ≡ result_ok (nibbles_read type_item ns 0) → one_type_in ns ≡ None
 unfolding one_type_in

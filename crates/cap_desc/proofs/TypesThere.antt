@@ -1,6 +1,6 @@
 -- Which types stand at an offset, as a relation and as the word that computes them.
-use Rattle.std.proofs.Common.{◌≡◌, ℕ, zero, suc, ◌+◌, ◌-◌, ◌/◌, ◌≤◌, ◌<◌, Bool, true, false, cond, List, [], ◌∷◌, length}
-use Rattle.std.proofs.Common.{take, Option, Some, None, Ok, Err, IfSome, IfNone, option_map, option_and_then, refl, sym, ◌∙◌, subst, inl, inr, arith}
+use Rattle.std.proofs.Common.{◌≡◌, ℕ, zero, suc, ◌+◌, ◌-◌, ◌/◌, ◌≤◌, ◌<◌, Bool, cond, List, [], ◌∷◌, length}
+use Rattle.std.proofs.Common.{take, Option, Some, None, Ok, Err, IfSome, IfNone, option_map, option_and_then, refl, sym, ◌∙◌, inl, inr, arith}
 use Rattle.std.specs.Result.{result_ok}
 use Rattle.std.proofs.lemmas.Bool.{cases_lt}
 use Rattle.std.proofs.lemmas.Option.{option_and_then_some}
@@ -11,7 +11,7 @@ use Rattle.cap_bytes.specs.Spelling.{Spells, Stands, info_of}
 use Rattle.cap_bytes.specs.Reading.{Reading, and_then, number_read, read}
 use Rattle.cap_bytes.proofs.Laws.{spelled-read, read-spells}
 use Rattle.cap_desc.specs.declared.type_item.TypeItem.{TypeItem}
-use Rattle.cap_desc.specs.TypeFormat.{nibbles, class_nibbles, names_class, type_item, type_items, nibbles_read, types_in, one_type_in, nibbles_at}
+use Rattle.cap_desc.specs.TypeFormat.{nibbles, class_nibbles, type_item, type_items, nibbles_read, types_in, one_type_in, nibbles_at}
 use Rattle.cap_desc.specs.TypeFormat.{descriptor_nibbles, types_at, type_at}
 use Rattle.cap_desc.specs.TypeDescriptor.{type_descriptor, TypesAt}
 use Rattle.cap_desc.proofs.Counting.{at_place, most, most-more, most-ends, most-fails, with_front}
@@ -33,24 +33,21 @@ some_then f o x y h k = rw (h, k) refl
 reached : (b : Bool) (part : List ℕ) (count end : ℕ) (fault : FormFault)
     → value_of (and_then (cond b (Ok (part, end)) (Err fault)) (λ bytes after. Ok (take count (nibbles bytes), after)))
     ≡ cond b (Some (take count (nibbles part))) None
-reached true part count end fault = refl
-reached false part count end fault = refl
+reached x part count end fault = grind (arith)
 
 counted : (o : Option ℕ) (bytes : List ℕ) (at : ℕ)
     → value_of
     (and_then (number_read (info_of 11) any bytes at (at + 1) o)
     (λ count after. read (info_of 11) (piece ((count + 1) / 2) >>= λ part. give (take count (nibbles part))) bytes after)) ≡ option_and_then
     (λ count. nibbles_at bytes (at + 1) count) o
-counted None bytes at = refl
-counted (Some count) bytes at = reached _ _ count _ _
+counted x bytes at = grind (arith, reached)
 
 nibbles-there : (bytes : List ℕ) (at : ℕ) → value_of (read (info_of 11) type_descriptor bytes at) ≡ descriptor_nibbles bytes at
 nibbles-there bytes at = counted (number_at 1 at bytes) bytes at
 
 pub chained : {X Y Z : Type 0} (f : X → Option Y) (g : Y → Option Z) (o : Option X) → option_and_then (λ x. option_and_then g (f x)) o
     ≡ option_and_then g (option_and_then f o)
-chained f g None = refl
-chained f g (Some x) = refl
+chained f g x = grind (arith)
 
 -- ---- the types that they spell
 
@@ -91,33 +88,25 @@ only (t ∷ u ∷ ts) = None
 
 farther : (b : Bool) (ns : List ℕ) (at c after : ℕ) → Spells (when b 0 class_nibbles) ns at c after → at ≤ after
 unfolding Spells
-farther true ns at c after h = omega (arith, h.2.2, h.3.2.2, h.3.3.2.2, h.3.3.3.2.2, h.3.3.3.3.1)
-farther false ns at c after h = omega (arith, h.1)
+farther x ns at c after h = grind (arith)
 
 type-rises : (ns : List ℕ) (at : ℕ) (t : TypeItem) (after : ℕ) → nibbles_read type_item ns at ≡ Ok (t, after) → at < after
 unfolding Spells
-type-rises ns at t after e =
-    let h = read-spells (info_of 11) type_item ns at t after e in
-    omega (arith, h.2.2, farther (names_class h.0) ns h.1 h.3.0 h.3.1 h.3.2, h.3.3.1)
+type-rises ns at t after e = grind (arith, read-spells, farther)
 
 none_more : (t : TypeItem) (r : Reading (List TypeItem)) → result_ok r ≡ None → option_and_then only (value_of (with_front (t ∷ []) r)) ≡ None
-none_more t (Ok x) h = absurd cc
-none_more t (Err e) h = refl
+none_more t x h = grind (arith)
 
 two : (t u : TypeItem) (r : Reading (List TypeItem)) → option_and_then only (value_of (with_front (t ∷ []) (with_front (u ∷ []) r))) ≡ None
-two t u (Ok x) = refl
-two t u (Err e) = refl
+two t u x = grind (arith)
 
 more_follow : (t : TypeItem) (ns : List ℕ) (n at : ℕ) (r : Reading TypeItem) → at_place type_item ns at ≡ r → at < length ns
     → option_and_then only (value_of (with_front (t ∷ []) (most type_item (suc n) ns at))) ≡ None
-more_follow t ns n at (Ok x) e lt = rw (most-more type_item ns n at x.1 x.0 lt e) (two t x.0 (most type_item n ns x.1))
-more_follow t ns n at (Err fault) e lt = none_more t (most type_item (suc n) ns at) (most-fails type_item ns n at lt (rw e refl))
+more_follow t ns n at x e lt = grind (arith, most-more, two, none_more, suc, most-fails)
 
 first_of : (ns : List ℕ) (n : ℕ) (r : Reading TypeItem) → nibbles_read type_item ns 0 ≡ r → suc n ≡ length ns
     → one_type_in ns ≡ option_and_then only (value_of (most type_item (suc n) ns 0))
-first_of ns n (Err fault) e len =
-    let none = most-fails type_item ns n 0 (omega (arith, len)) (rw e refl) in
-    one_type-none ns (rw e refl) ∙ rw none refl
+first_of ns n (Err fault) e len = grind (arith, most-fails, one_type-none)
 first_of ns n (Ok x) e len =
     let step = most-more type_item ns n 0 x.1 x.0 (omega (arith, len)) e in
     elim (cases_lt x.1 (length ns)) [
@@ -152,14 +141,7 @@ type-only : (bytes : List ℕ) (at : ℕ) → type_at bytes at ≡ option_and_th
 type-only bytes at = one_there bytes at (number_at 1 at bytes)
 
 alone : (ts : List TypeItem) (t : TypeItem) → only ts ≡ Some t → ts ≡ t ∷ []
-alone [] t h = absurd cc
-alone (u ∷ []) t h = let e : u ≡ t = cc in rw e refl
-alone (u ∷ v ∷ ts) t h = absurd cc
-
-type-stands : (bytes : List ℕ) (at : ℕ) (t : TypeItem) → type_at bytes at ≡ Some t → TypesAt bytes at (t ∷ [])
-type-stands bytes at t h =
-    option_and_then_some only (types_at bytes at) t (sym (type-only bytes at) ∙ h)
-    (λ ts there one. subst (λ us. TypesAt bytes at us) (alone ts t one) (types-stand bytes at ts there))
+alone x t h = grind (arith)
 
 type-found : (bytes : List ℕ) (at : ℕ) (t : TypeItem) → TypesAt bytes at (t ∷ []) → type_at bytes at ≡ Some t
 type-found bytes at t h = type-only bytes at ∙ rw (types-found bytes at (t ∷ []) h) refl
@@ -168,8 +150,7 @@ type-found bytes at t h = type-only bytes at ∙ rw (types-found bytes at (t ∷
 
 pub found_types : {R : Type 0} (seen : R → List TypeItem) (bytes : List ℕ) (at : ℕ) (r : Option R) → option_map seen r ≡ types_at bytes at
     → IfSome r (λ x. TypesAt bytes at (seen x))
-found_types seen bytes at (Some x) h = types-stand bytes at (seen x) (sym h)
-found_types seen bytes at None h = tt
+found_types seen bytes at x h = grind (arith, types-stand)
 
 pub no_types : {R : Type 0} (seen : R → List TypeItem) (bytes : List ℕ) (at : ℕ) (r : Option R) → option_map seen r ≡ types_at bytes at
     → IfNone r ((ts : List TypeItem) → TypesAt bytes at ts → ⊥)
@@ -180,8 +161,7 @@ pub one_list : (bytes : List ℕ) (at : ℕ) (ts us : List TypeItem) → TypesAt
 one_list bytes at ts us h k = let e : Some ts ≡ Some us = sym (types-found bytes at ts h) ∙ types-found bytes at us k in cc
 
 pub found_type : (bytes : List ℕ) (at : ℕ) (r : Option TypeItem) → r ≡ type_at bytes at → IfSome r (λ t. TypesAt bytes at (t ∷ []))
-found_type bytes at (Some t) h = type-stands bytes at t (sym h)
-found_type bytes at None h = tt
+found_type bytes at x h = grind (arith, option_and_then_some, type-only, alone, types-stand)
 
 pub no_type : (bytes : List ℕ) (at : ℕ) (r : Option TypeItem) → r ≡ type_at bytes at
     → IfNone r ((t : TypeItem) → TypesAt bytes at (t ∷ []) → ⊥)

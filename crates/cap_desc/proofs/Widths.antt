@@ -90,6 +90,4 @@ taken-width m g otherwise part before after h t =
 pub fails-width : {X : Type 0} (m : ℕ) (g : Grammar X) (before : Cursor) (fault : FormFault) → HasWidth m g → TakingFails (piece m) before fault
     → TakingFails g before fault
 unfolding Breaks
-fails-width m g before fault h f =
-    let b = read-breaks (info_of before.part) (piece m) before.info.bytes.now before.at fault f.answer in
-    record { answer = rw b.1 (h.short (info_of before.part) before.info.bytes.now before.at before.within b.0) }
+fails-width m g before fault h f = grind (arith, read-breaks)
