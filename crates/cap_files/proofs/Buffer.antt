@@ -1,5 +1,5 @@
 -- The texts at spans of a buffer, where a text is put after what stands there.
-use Rattle.std.proofs.Common.{◌≡◌, ℕ, zero, suc, ◌-◌, ◌<◌, ◌≤◌, List, [], ◌∷◌, ◌++◌, length, drop, slice_index_or, refl, sym}
+use Rattle.std.proofs.Common.{◌≡◌, ℕ, zero, suc, ◌<◌, ◌≤◌, List, [], ◌∷◌, ◌++◌, length, drop, slice_index_or, refl, sym}
 use Rattle.std.proofs.Common.{subst, arith, length-append, length-drop, inl, inr}
 use Rattle.std.proofs.Math.Nat.{eq-or-lt_of_le}
 use Rattle.std.proofs.Math.ListN.{get_or-append}
@@ -23,17 +23,10 @@ boundary_before xs ys i text here =
     ]
 
 text_before : (xs ys : List ℕ) (s : Span) → IsText xs s → text_at (xs ++ ys) s ≡ text_at xs s
-text_before xs ys s here =
-    let start : s.start ≤ length xs = omega (arith, here.rises, here.ends.0) in
-    let room : s.end - s.start ≤ length (drop s.start xs) = omega (arith, length-drop s.start xs, here.ends.0) in
-    rw (drop-append-le s.start xs ys start, take-append-le (s.end - s.start) (drop s.start xs) ys room) refl
+text_before xs ys s here = grind (arith, length, drop, length-drop, drop-append-le, take-append-le)
 
 is_text_before : (xs ys : List ℕ) (s : Span) → IsUtf8 ys → IsText xs s → IsText (xs ++ ys) s
-is_text_before xs ys s text here = record {
-  rises = here.rises;
-  begins = boundary_before xs ys s.start text here.begins;
-  ends = boundary_before xs ys s.end text here.ends;
-}
+is_text_before xs ys s text here = grind (arith, boundary_before xs ys s.start text here.begins, boundary_before xs ys s.end text here.ends)
 
 pub texts_before : (xs ys : List ℕ) (spans : List Span) → AreTexts xs spans → texts (xs ++ ys) spans ≡ texts xs spans
 texts_before xs ys [] all = refl

@@ -46,11 +46,7 @@ key_is k q =
 -- ---- look-up
 pub find_held : (k : List ℕ) (rs : List Held) → option_map (λ r. r.1) (find (has_key k) rs) ≡ found k rs
 find_held k [] = refl
-find_held k (r ∷ rs) =
-    elim (eq_by_cmp order k r.0) as (λ b. option_map (λ r. r.1) (cond b (Some r) (find (has_key k) rs)) ≡ cond b (Some r.1) (found k rs)) [
-      | true ↦ refl
-      | false ↦ find_held k rs
-    ]
+find_held k (r ∷ rs) = grind (arith, option_map, cond, find, find_held k rs)
 
 pub get_held : (k : List ℕ) (rs : List Held) → option_map (λ r. r.1) (find (has_key k) rs) ≡ map.get (map.from_entries {R = order} rs) k
 get_held k rs = find_held k rs ∙ sym (map.get-from_entries nat_list_cmp_total rs k)
@@ -65,20 +61,14 @@ dropped k [] = []
 dropped k (r ∷ rs) = cond (has_key k r) rs (r ∷ dropped k rs)
 
 later : (i : ℕ) (o : Option ℕ) → option_map (λ n. (i + 1) + n) o ≡ option_map (λ n. i + n) (option_map suc o)
-later i None = refl
-later i (Some n) = ap (λ (k : ℕ). Some k) (omega arith)
+later i x = grind (arith)
 
 placed_from : (t : Held → Bool) (i : ℕ) (rs : List Held) → position_from t i rs ≡ option_map (λ n. i + n) (place t rs)
 placed_from t i [] = refl
-placed_from t i (r ∷ rs) =
-    elim (t r) as (λ b. cond b (Some i) (position_from t (i + 1) rs) ≡ option_map (λ n. i + n) (cond b (Some 0) (option_map suc (place t rs)))) [
-      | true ↦ ap (λ (k : ℕ). Some k) (omega arith)
-      | false ↦ placed_from t (i + 1) rs ∙ later i (place t rs)
-    ]
+placed_from t i (r ∷ rs) = grind (arith, cond, option_map, suc, later, placed_from t (i + 1) rs)
 
 from_zero : (o : Option ℕ) → option_map (λ n. 0 + n) o ≡ o
-from_zero None = refl
-from_zero (Some n) = ap (λ (k : ℕ). Some k) (omega arith)
+from_zero x = grind (arith)
 
 pub position_is : (t : Held → Bool) (rs : List Held) → position t rs ≡ place t rs
 position_is t rs = position_from-zero t rs ∙ placed_from t 0 rs ∙ from_zero (place t rs)
@@ -126,11 +116,7 @@ missing_kept k q (r ∷ rs) e =
 
 distinct_dropped : (k : List ℕ) (rs : List Held) → AreDistinct rs → AreDistinct (dropped k rs)
 distinct_dropped k [] apart = tt
-distinct_dropped k (r ∷ rs) apart =
-    elim (has_key k r) as (λ b. AreDistinct (cond b rs (r ∷ dropped k rs))) [
-      | true ↦ apart.1
-      | false ↦ (missing_kept k r.0 rs apart.0, distinct_dropped k rs apart.1)
-    ]
+distinct_dropped k (r ∷ rs) apart = grind (arith, cond, missing_kept, distinct_dropped k rs apart.1)
 
 missing_pushed : (q k v : List ℕ) (rs : List Held) → eq_by_cmp order q k ≡ false → found q rs ≡ None → found q (rs ++ (k, v) ∷ []) ≡ None
 missing_pushed q k v [] e none = ap (λ b. cond b (Some v) None) e
@@ -204,21 +190,15 @@ pub rest_is : (k : List ℕ) (rs : List Held) → without (position (has_key k) 
 rest_is k rs = ap (λ o. without o rs) (position_is (has_key k) rs) ∙ without_place k rs
 
 pub distinct_put : (k v : List ℕ) (rs : List Held) → AreDistinct rs → AreDistinct (without (position (has_key k) rs) rs ++ (k, v) ∷ [])
-distinct_put k v rs apart =
-    subst (λ xs. AreDistinct (xs ++ (k, v) ∷ [])) (sym (rest_is k rs))
-    (distinct_pushed k v (dropped k rs) (distinct_dropped k rs apart) (missing_dropped k rs apart))
+distinct_put k v rs apart = grind (arith, rest_is, distinct_pushed, distinct_dropped, missing_dropped)
 
 pub map_put : (k v : List ℕ) (rs : List Held) → AreDistinct rs
     → map.from_entries {R = order} (without (position (has_key k) rs) rs ++ (k, v) ∷ []) ≡ map.insert (map.from_entries rs) k v
-map_put k v rs apart =
-    ap (λ xs. map.from_entries {R = order} (xs ++ (k, v) ∷ [])) (rest_is k rs) ∙ from_pushed k v (dropped k rs) (missing_dropped k rs apart)
-    ∙ from_dropped k v rs
+map_put k v rs apart = grind (arith, rest_is, from_pushed, missing_dropped, from_dropped)
 
 pub held_put : (k v : List ℕ) (rs : List Held) → AreDistinct rs → map.len (map.insert (map.from_entries {R = order} rs) k v)
     ≡ suc (length (without (position (has_key k) rs) rs))
-held_put k v rs apart =
-    let rest = without (position (has_key k) rs) rs in
-    ap map.len (sym (map_put k v rs apart)) ∙ held_is _ (distinct_put k v rs apart) ∙ length-append rest ((k, v) ∷ []) ∙ omega arith
+held_put k v rs apart = grind (arith, position (has_key k) rs, map_put k v rs apart, held_is _ (distinct_put k v rs apart), length-append)
 
 pub taken_put : (k v : List ℕ) (rs : List Held) → AreDistinct rs
     → bytes_taken (map.insert (map.from_entries rs) k v) ≡ sum_by size_of (without (position (has_key k) rs) rs) + size_of (k, v)

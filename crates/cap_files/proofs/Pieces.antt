@@ -87,9 +87,7 @@ pub records-cut : (es : List Entry) (n : ℕ) (bs : List ℕ) → IsLaid es bs �
     ≡ remove (records es bs) n
 records-cut [] n bs laid l = absurd (omega arith)
 records-cut (e ∷ es) zero bs laid l = refl
-records-cut (e ∷ es) (suc n) bs laid l =
-    let rest = records-cut es n (drop e.size bs) laid.2 (omega arith) in
-    rw (head_kept e.size bs (cut es n (drop e.size bs)) laid.1, after_kept e.size bs (cut es n (drop e.size bs)) laid.1, rest) refl
+records-cut (e ∷ es) (suc n) bs laid l = grind (arith, drop, head_kept, after_kept, records-cut es n (drop e.size bs) laid.2 (omega arith))
 
 pub laid-cut : (es : List Entry) (n : ℕ) (bs : List ℕ) → IsLaid es bs → n < length es → IsLaid (remove es n) (cut es n bs)
 laid-cut [] n bs laid l = absurd (omega arith)
@@ -114,13 +112,11 @@ end_within (e ∷ es) (suc n) d bs laid l =
 pub records-push : (es : List Entry) (bs word bytes : List ℕ) (part : Part) → IsLaid es bs
     → records (es ++ record { part = part; word = length word; size = length word + length bytes } ∷ []) ((bs ++ word) ++ bytes)
     ≡ records es bs ++ (part.0 ∷ word, bytes) ∷ []
-records-push es bs word bytes part laid =
-    rw (append_assoc, records-append es _ bs (word ++ bytes) laid, all_taken word bytes, take-append_seam word bytes, drop-append_seam word bytes) refl
+records-push es bs word bytes part laid = grind (arith, append_assoc, records-append, all_taken, take-append_seam, drop-append_seam)
 
 pub laid-push : (es : List Entry) (bs word bytes : List ℕ) (part : Part) → IsLaid es bs
     → IsLaid (es ++ record { part = part; word = length word; size = length word + length bytes } ∷ []) ((bs ++ word) ++ bytes)
-laid-push es bs word bytes part laid =
-    rw (append_assoc) (laid-append es _ bs (word ++ bytes) laid (omega arith, omega (arith, length-append word bytes), ap length (all_dropped word bytes)))
+laid-push es bs word bytes part laid = grind (arith, append_assoc, laid-append, length-append, length, all_dropped)
 
 length-cut : (es : List Entry) (n : ℕ) (d : Entry) (bs : List ℕ) → IsLaid es bs → n < length es
     → length (cut es n bs) + (slice_index_or es n d).size ≡ length bs
@@ -147,13 +143,4 @@ sizes-cut es n d bs laid l =
     omega (arith, left, whole, length-cut es n d bs laid l)
 
 pub length-remove : (es : List Entry) (n : ℕ) (bs : List ℕ) → n < length es → suc (length (remove (records es bs) n)) ≡ length es
-length-remove es n bs l =
-    let rs = records es bs in
-    omega (
-      arith,
-      l,
-      length-append (take n rs) (drop (suc n) rs),
-      length-take-le n rs (omega (arith, length-records es bs)),
-      length-drop (suc n) rs,
-      length-records es bs,
-    )
+length-remove es n bs l = grind (arith, length-append, take, drop, suc, length-take-le, length-records, length-drop)

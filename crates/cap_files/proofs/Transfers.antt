@@ -1,11 +1,11 @@
 -- What is known of a file after each read and write.
+use Rattle.std.proofs.Common.{arith}
 use Rattle.std.proofs.Common.{◌≡◌, ℕ, List, ◌++◌, length, take, drop, Option, Err, sym, subst, ap, ◌∙◌, append_assoc}
 use Rattle.std.proofs.Math.Seq.{take-append_seam}
 use Rattle.std.proofs.lemmas.List.{take-append-drop}
 use Rattle.std.proofs.KnownBytes.{Appends-trans, Appends-kept}
 use Rattle.std.specs.Io.KnownBytes.{Appends, Keeps}
 use Rattle.cap_files.specs.declared.folder.LoadEnd.{LoadEnd}
-use Rattle.cap_files.specs.declared.folder.LoadEnd.TheVariants.{Failed, TooLong, Memory}
 use Rattle.cap_files.specs.Transfer.{TakesMore, TakesAll}
 
 pub written_no_more : (a b c : Option (List ℕ)) (bytes left given : List ℕ) → bytes ≡ given ++ left → Appends a b given → Keeps b c
@@ -26,6 +26,4 @@ written_on a b c bytes left given after k whole before now farther = (
 -- a read that ends with an error
 pub taken_ended : (end : LoadEnd) (left rest : Option (List ℕ)) (to after : List ℕ) (all : Option (List ℕ)) → TakesMore left rest to after (Err end)
     → TakesAll all after (Err end)
-taken_ended Failed left rest to after all more = tt
-taken_ended TooLong left rest to after all more = absurd more
-taken_ended Memory left rest to after all more = tt
+taken_ended x left rest to after all more = grind (arith)

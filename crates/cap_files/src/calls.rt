@@ -1,4 +1,4 @@
-ghost use Rattle.std.specs.Prelude.{◌≡◌, ◌≤◌, ◌++◌, ◌∷◌, [], length, nat_lt, IfOk, if◌then◌else◌};
+ghost use Rattle.std.specs.Prelude.{◌≡◌, ◌≤◌, length, nat_lt, IfOk, if◌then◌else◌};
 ghost use Rattle.cap_files.specs.Calls.{no_calls, next_keep, one_more_call, faulted, with_failure, keep_at};
 
 use crate::count::raise;

@@ -1,4 +1,4 @@
-ghost use Rattle.std.specs.Prelude.{◌≡◌, ℕ, ◌≤◌, List, Option, OnErr};
+ghost use Rattle.std.specs.Prelude.{ℕ, ◌≤◌, List, Option, OnErr};
 ghost use Rattle.cap_files.specs.Counts.{Rose};
 ghost use Rattle.cap_files.specs.Sink.{Puts};
 
