@@ -1,5 +1,6 @@
 -- The set of the offsets at which records of interfaces stand, record by record.
-use Rattle.std.proofs.Common.{◌≡◌, ℕ, Bool, true, false, ◌||◌, ◌&&◌, eqb, List, [], ◌∷◌, refl}
+use Rattle.std.proofs.Common.{arith}
+use Rattle.std.proofs.Common.{◌≡◌, ℕ, Bool, true, false, ◌||◌, ◌&&◌, eqb, List, [], ◌∷◌}
 use mathlib.Core.Path.{fun_ext}
 use Rattle.std.proofs.Math.Bool.{or-false}
 use Rattle.cap_class.specs.ClassFormat.{Class, is_interface}
@@ -11,10 +12,7 @@ unfolding names_interface
 no_class set = fun_ext (λ offset. or-false (set offset))
 
 turned : (a b c : Bool) → ((a || b) || c) ≡ (b || ((a && true) || c))
-turned true true c = refl
-turned true false c = refl
-turned false true c = refl
-turned false false c = refl
+turned x x2 c = grind (arith)
 
 pub one_interface : (set : ℕ → Bool) (c : Class) (cs : List Class) → is_interface c.flags ≡ true → either (also c.offset set) (names_interface cs)
     ≡ either set (names_interface (c ∷ cs))
@@ -22,8 +20,7 @@ unfolding names_interface
 one_interface set c cs e = fun_ext (λ offset. rw e (turned (eqb c.offset offset) (set offset) (names_interface cs offset)))
 
 passed : (a b c : Bool) → (b || c) ≡ (b || ((a && false) || c))
-passed true b c = refl
-passed false b c = refl
+passed x b c = grind (arith)
 
 pub one_class : (set : ℕ → Bool) (c : Class) (cs : List Class) → is_interface c.flags ≡ false
     → either set (names_interface cs) ≡ either set (names_interface (c ∷ cs))

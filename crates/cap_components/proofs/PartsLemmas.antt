@@ -1,4 +1,5 @@
 -- Lemmas on lists of parts.
+use Rattle.std.proofs.Common.{arith}
 use Rattle.std.proofs.Common.{◌≡◌, ℕ, ◌∷◌, [], ◌++◌, List, Option, Some, Bool, true, false, IsNone, eqb, refl, sym, cond}
 use Rattle.std.proofs.lemmas.Bool.{ne_eqb, eqb-false}
 use Rattle.std.specs.Option.{option_map}
@@ -15,8 +16,7 @@ held-same tag lent parts e = rw e refl
 -- a part that is not in a list, whose first part then is another
 absent-first : (b : Bool) (lent : Lent) (rest : Option Lent) → IsNone (option_map bytes_of (cond b (Some lent) rest)) → (b ≡ false)
     × IsNone (option_map bytes_of rest)
-absent-first true lent rest h = absurd cc
-absent-first false lent rest h = (refl, h)
+absent-first x lent rest h = grind (arith)
 
 -- a list that holds no part of a tag, and one more part of another tag
 absent-push : (tag : ℕ) (parts : List Lent) (lent : Lent) → IsNone (held parts tag) → eqb lent.part tag ≡ false

@@ -1,5 +1,6 @@
 -- The computed reading of the components answers what they say, and else the first of them that fails.
-use Rattle.std.proofs.Common.{◌≡◌, ℕ, List, Option, Some, None, Result, Ok, Err, refl, sym, ap, subst, ◌∙◌, inl, inr}
+use Rattle.std.proofs.Common.{arith}
+use Rattle.std.proofs.Common.{◌≡◌, ℕ, List, Option, Some, None, Result, Ok, Err, refl, sym, ap, ◌∙◌, inl, inr}
 use Rattle.cap_bytes.specs.declared.fault.FormFault.{FormFault}
 use Rattle.cap_bytes.specs.Grammar.{Grammar}
 use Rattle.cap_bytes.specs.Spelling.{info_of, file_of, Stands}
@@ -18,7 +19,7 @@ use Rattle.cap_method.specs.MethodFormat.{methods_info}
 use Rattle.cap_method.specs.StaticFormat.{statics_info}
 use Rattle.cap_desc.specs.DescriptorFormat.{descriptor_info}
 use Rattle.cap_components.specs.declared.fault.PackFault.{PackFault}
-use Rattle.cap_components.specs.declared.fault.PackFault.TheVariants.{Form, MissingPart}
+use Rattle.cap_components.specs.declared.fault.PackFault.TheVariants.{Form}
 use Rattle.cap_components.specs.Parts.{Lent, held}
 use Rattle.cap_components.specs.Components.{◌>>=◌, formed, framed, there, info_in, read_part, read_directory, read_if_held, read_methods, read_description}
 use Rattle.cap_components.specs.Components.{Methods}
@@ -87,31 +88,19 @@ said-read parts p s =
 
 then_ok : {A B : Type 0} (r : Result A PackFault) (next : A → Result B PackFault) (y : B) → (r >>= next) ≡ Ok y → (x : A) × (r ≡ Ok x)
     × (next x ≡ Ok y)
-then_ok (Ok x) next y h = (x, refl, h)
-then_ok (Err e) next y h = absurd cc
+then_ok x next y h = grind (arith)
 
 pub formed_ok : {X : Type 0} (r : Result X FormFault) (x : X) → formed r ≡ Ok x → r ≡ Ok x
-formed_ok (Ok y) x h = cc
-formed_ok (Err e) x h = absurd cc
+formed_ok x x2 h = grind (arith)
 
 pub record HasInfo (parts : List Lent) (tag : ℕ) (info : List ℕ) : Type 0 where
   pub file : List ℕ
   pub there : held parts tag ≡ Some file
   pub framed : Stands (component tag) file info
 
-framed_info : (parts : List Lent) (tag : ℕ) (o : Option (List ℕ)) (info : List ℕ) → held parts tag ≡ o → framed tag o ≡ Ok info
-    → HasInfo parts tag info
-framed_info parts tag None info e h = absurd cc
-framed_info parts tag (Some file) info e h =
-    record {
-      file = file;
-      there = e;
-      framed = stands (file_of tag) (component tag) file info (formed_ok (reading (file_of tag) (component tag) file) info h);
-    }
-
 has_info : (parts : List Lent) (tag : ℕ) (info : List ℕ) → info_in parts tag ≡ Ok info → HasInfo parts tag info
 unfolding info_in
-has_info parts tag info h = framed_info parts tag (held parts tag) info refl h
+has_info parts tag info h = grind (arith, stands, formed_ok)
 
 holds : {X : Type 0} (parts : List Lent) (tag : ℕ) (g : Grammar X) (info : List ℕ) (items : X) → info_in parts tag ≡ Ok info
     → formed (reading (info_of tag) g info) ≡ Ok items → HoldsComponent parts tag g info items
@@ -121,55 +110,26 @@ holds parts tag g info items e h =
 
 part_says : {X : Type 0} (parts : List Lent) (tag : ℕ) (g : Grammar X) (items : X) → read_part g tag parts ≡ Ok items → Says parts tag g items
 unfolding read_part
-part_says parts tag g items h =
-    let t = then_ok (info_in parts tag) (λ info. formed (reading (info_of tag) g info)) items h in
-    (t.0, holds parts tag g t.0 items t.1 t.2)
-
-there_ok : {X : Type 0} (r : Result X PackFault) (o : Option X) → there r ≡ Ok o → (x : X) × (r ≡ Ok x) × (o ≡ Some x)
-there_ok (Ok x) o h = (x, refl, cc)
-there_ok (Err e) o h = absurd cc
+part_says parts tag g items h = grind (arith, then_ok, holds)
 
 pub record IsThere {X : Type 0} (parts : List Lent) (tag : ℕ) (g : Grammar X) (items : Option X) : Type 0 where
   pub said : SaysIf parts tag g items
 
-said_some : {X : Type 0} (parts : List Lent) (tag : ℕ) (g : Grammar X) (items : Option X) → there (read_part g tag parts) ≡ Ok items
-    → IsThere parts tag g items
-said_some {X = X} parts tag g items h =
-    let t = there_ok (read_part g tag parts) items h in
-    subst (λ o. IsThere parts tag g o) (sym t.2) (record { said = part_says parts tag g t.0 t.1 })
-
 said_if : {X : Type 0} (parts : List Lent) (tag : ℕ) (g : Grammar X) (items : Option X) (o : Option (List ℕ)) → held parts tag ≡ o
     → read_if_held g tag parts ≡ Ok items → IsThere parts tag g items
 unfolding read_if_held
-said_if parts tag g items None e h =
-    let k : Ok None ≡ Ok items = rw e at h in
-    let n : None ≡ items = cc in
-    subst (λ x. IsThere parts tag g x) n (record { said = e })
-said_if parts tag g items (Some file) e h = said_some parts tag g items (rw e at h)
+said_if parts tag g items x e h = grind (arith, part_says)
 
 methods_say : (parts : List Lent) (m : Methods) → read_methods parts ≡ Ok m → HoldsComponent parts 7 methods_info m.info m.handlers
 unfolding read_methods
-methods_say parts m h =
-    let t = then_ok (info_in parts 7)
-    (λ info. formed (reading (info_of 7) methods_info info) >>= λ handlers. Ok (record { info = info; handlers = handlers })) m h in
-    let u = then_ok (formed (reading (info_of 7) methods_info t.0)) (λ handlers. Ok (record { info = t.0; handlers = handlers })) m t.2 in
-    let e : record { info = t.0; handlers = u.0 } ≡ m = cc in
-    subst (λ (x : Methods). HoldsComponent parts 7 methods_info x.info x.handlers) e (holds parts 7 methods_info t.0 u.0 t.1 u.1)
+methods_say parts m h = grind (arith, then_ok, holds)
 
 description_says : (parts : List Lent) (d : Description) → read_description parts ≡ Ok d → HoldsComponent parts 11 descriptor_info d.info d.items
 unfolding read_description
-description_says parts d h =
-    let t = then_ok (info_in parts 11)
-    (λ info. formed (reading (info_of 11) descriptor_info info) >>= λ items. Ok (record { info = info; items = items })) d h in
-    let u = then_ok (formed (reading (info_of 11) descriptor_info t.0)) (λ items. Ok (record { info = t.0; items = items })) d t.2 in
-    let e : record { info = t.0; items = u.0 } ≡ d = cc in
-    subst (λ (x : Description). HoldsComponent parts 11 descriptor_info x.info x.items) e (holds parts 11 descriptor_info t.0 u.0 t.1 u.1)
+description_says parts d h = grind (arith, then_ok, holds)
 
 abbrev answer : {A : Type 0} → A → Result A PackFault
 answer x = Ok x
-
-same_ok : {A : Type 0} (x y : A) → answer x ≡ answer y → x ≡ y
-same_ok x y h = cc
 
 -- what the components say, once they are read
 pub record AreRead (parts : List Lent) (p : PackageRecord) : Type 0 where
@@ -189,47 +149,7 @@ pub record AreRead (parts : List Lent) (p : PackageRecord) : Type 0 where
 read_beyond : (parts : List Lent) (header : HeaderItems) (p : PackageRecord) → read_part header_info 1 parts ≡ Ok header
     → read_after parts header ≡ Ok p → AreRead parts p
 unfolding read_after
-read_beyond parts header p there h =
-    let b = then_ok (read_part (directory_info header.format) 2 parts) _ p h in
-    let c = then_ok (read_if_held applets_info 3 parts) _ p b.2 in
-    let d = then_ok (read_part imports_info 4 parts) _ p c.2 in
-    let e = then_ok (read_part pool_info 5 parts) _ p d.2 in
-    let f = then_ok (read_part (classes_info header.format) 6 parts) _ p e.2 in
-    let g = then_ok (read_methods parts) _ p f.2 in
-    let i = then_ok (read_part statics_info 8 parts) _ p g.2 in
-    let j = then_ok (read_part locations_info 9 parts) _ p i.2 in
-    let k = then_ok (read_if_held export_info 10 parts) _ p j.2 in
-    let l = then_ok (read_description parts) _ p k.2 in
-    let q : PackageRecord = record {
-      parts = parts;
-      header = header;
-      directory = b.0;
-      applets = c.0;
-      imports = d.0;
-      pool = e.0;
-      classes = f.0;
-      methods = g.0;
-      statics = i.0;
-      locations = j.0;
-      export = k.0;
-      description = l.0;
-    } in
-    let same : Ok q ≡ Ok p = l.2 in
-    let eq : q ≡ p = same_ok q p same in
-    subst (AreRead parts) {x = q} eq (record {
-      same = refl;
-      header = there;
-      directory = b.1;
-      applets = c.1;
-      imports = d.1;
-      pool = e.1;
-      classes = f.1;
-      methods = g.1;
-      statics = i.1;
-      locations = j.1;
-      export = k.1;
-      description = l.1;
-    })
+read_beyond parts header p there h = grind (arith, then_ok)
 
 are_read : (parts : List Lent) (p : PackageRecord) → read_package parts ≡ Ok p → AreRead parts p
 unfolding read_package
@@ -239,22 +159,7 @@ are_read parts p h =
 
 -- what the components of parts that are read say
 pub read-said : (parts : List Lent) (p : PackageRecord) → read_package parts ≡ Ok p → AreSaid parts p
-read-said parts p h =
-    let r = are_read parts p h in
-    record {
-      same = r.same;
-      header = part_says parts 1 header_info p.header r.header;
-      directory = part_says parts 2 (directory_info p.header.format) p.directory r.directory;
-      applets = (said_if parts 3 applets_info p.applets (held parts 3) refl r.applets).said;
-      imports = part_says parts 4 imports_info p.imports r.imports;
-      pool = part_says parts 5 pool_info p.pool r.pool;
-      classes = part_says parts 6 (classes_info p.header.format) p.classes r.classes;
-      methods = methods_say parts p.methods r.methods;
-      statics = part_says parts 8 statics_info p.statics r.statics;
-      locations = part_says parts 9 locations_info p.locations r.locations;
-      export = (said_if parts 10 export_info p.export (held parts 10) refl r.export).said;
-      description = description_says parts p.description r.description;
-    }
+read-said parts p h = grind (arith, are_read parts p h, part_says, said_if, methods_say, description_says)
 
 -- ---- what is refused fails
 
@@ -273,13 +178,11 @@ no_answer x fault h = absurd cc
 
 formed_err : {X : Type 0} (r : Result X FormFault) (fault : PackFault) → formed r ≡ Err fault → (form : FormFault) × (r ≡ Err form)
     × (fault ≡ Form form)
-formed_err (Ok y) fault h = absurd cc
-formed_err (Err e) fault h = (e, refl, cc)
+formed_err x fault h = grind (arith)
 
 framed_fails : {X : Type 0} (parts : List Lent) (tag : ℕ) (g : Grammar X) (fault : PackFault) (o : Option (List ℕ)) → held parts tag ≡ o
     → framed tag o ≡ Err fault → PartFails parts tag g fault
-framed_fails parts tag g fault None e h =
-    absent e (let same : MissingPart tag ≡ fault = cc in sym same)
+framed_fails parts tag g fault None e h = grind (arith)
 framed_fails parts tag g fault (Some file) e h =
     let f = formed_err (reading (file_of tag) (component tag) file) fault h in
     broken f.0 f.2 (in_file file e (breaks (file_of tag) (component tag) file f.0 f.1))
@@ -348,16 +251,12 @@ some_fails : {X : Type 0} (parts : List Lent) (tag : ℕ) (g : Grammar X) (fault
 some_fails parts tag g fault file e (absent none same) = absurd (let both : None ≡ Some file = sym none ∙ e in cc)
 some_fails parts tag g fault file e (broken form same b) = (form, same, b)
 
-there_err : {X : Type 0} (r : Result X PackFault) (fault : PackFault) → there r ≡ Err fault → r ≡ Err fault
-there_err (Ok x) fault h = absurd cc
-there_err (Err e) fault h = cc
-
 held_breaks : {X : Type 0} (parts : List Lent) (tag : ℕ) (g : Grammar X) (fault : PackFault) (o : Option (List ℕ)) → held parts tag ≡ o
     → read_if_held g tag parts ≡ Err fault → (form : FormFault) × (fault ≡ Form form) × IsBroken parts tag g form
 unfolding read_if_held
 held_breaks parts tag g fault None e h = no_answer None fault (rw e at h)
 held_breaks parts tag g fault (Some file) e h =
-    some_fails parts tag g fault file e (part_fails parts tag g fault (there_err (read_part g tag parts) fault (rw e at h)))
+    some_fails parts tag g fault file e (part_fails parts tag g fault (grind (arith)))
 
 -- ---- component by component
 
@@ -412,15 +311,11 @@ read-fails parts fault h = header_step parts fault (read_after parts) (then_err 
 part_refused : {X : Type 0} (parts : List Lent) (tag : ℕ) (g : Grammar X) (fault : PackFault) → PartFails parts tag g fault
     → read_part g tag parts ≡ Err fault
 unfolding read_part info_in
-part_refused parts tag g fault (absent none same) = rw none (ap Err (sym same))
-part_refused parts tag g fault (broken form same (in_file file e b)) = rw (e, refused_where (file_of tag) (component tag) file form b) (ap Err (sym same))
-part_refused parts tag g fault (broken form same (in_info file info e s b)) =
-    rw (e, reading_where (file_of tag) (component tag) file info s, refused_where (info_of tag) g info form b) (ap Err (sym same))
+part_refused parts tag g fault x = grind (arith, refused_where, reading_where)
 
 broken_there : {X : Type 0} (parts : List Lent) (tag : ℕ) (g : Grammar X) (form : FormFault) → IsBroken parts tag g form → (file : List ℕ)
     × (held parts tag ≡ Some file)
-broken_there parts tag g form (in_file file e b) = (file, e)
-broken_there parts tag g form (in_info file info e s b) = (file, e)
+broken_there parts tag g form x = grind (arith)
 
 held_refused : {X : Type 0} (parts : List Lent) (tag : ℕ) (g : Grammar X) (fault : PackFault) (form : FormFault) → fault ≡ Form form
     → IsBroken parts tag g form → read_if_held g tag parts ≡ Err fault
@@ -431,17 +326,11 @@ held_refused parts tag g fault form same b =
 
 methods_refused : (parts : List Lent) (fault : PackFault) → PartFails parts 7 methods_info fault → read_methods parts ≡ Err fault
 unfolding read_methods info_in
-methods_refused parts fault (absent none same) = rw none (ap Err (sym same))
-methods_refused parts fault (broken form same (in_file file e b)) = rw (e, refused_where (file_of 7) (component 7) file form b) (ap Err (sym same))
-methods_refused parts fault (broken form same (in_info file info e s b)) =
-    rw (e, reading_where (file_of 7) (component 7) file info s, refused_where (info_of 7) methods_info info form b) (ap Err (sym same))
+methods_refused parts fault x = grind (arith, refused_where, reading_where)
 
 description_refused : (parts : List Lent) (fault : PackFault) → PartFails parts 11 descriptor_info fault → read_description parts ≡ Err fault
 unfolding read_description info_in
-description_refused parts fault (absent none same) = rw none (ap Err (sym same))
-description_refused parts fault (broken form same (in_file file e b)) = rw (e, refused_where (file_of 11) (component 11) file form b) (ap Err (sym same))
-description_refused parts fault (broken form same (in_info file info e s b)) =
-    rw (e, reading_where (file_of 11) (component 11) file info s, refused_where (info_of 11) descriptor_info info form b) (ap Err (sym same))
+description_refused parts fault x = grind (arith, refused_where, reading_where)
 
 part_back : {X B : Type 0} (parts : List Lent) (tag : ℕ) (g : Grammar X) (fault : PackFault) (next : X → Result B PackFault) (others : Type 0)
     → FailsOr parts tag g fault others → ((x : X) → others → next x ≡ Err fault) → (read_part g tag parts >>= next) ≡ Err fault
@@ -495,8 +384,7 @@ opening_refused : (parts : List Lent) (fault : PackFault)
     → IsRefused (read_part header_info 1 parts) (λ (header : HeaderItems). read_part (directory_info header.format) 2 parts) fault
     → read_package parts ≡ Err fault
 unfolding read_package read_after
-opening_refused parts fault (by_first e) = rw e refl
-opening_refused parts fault (by_next header e h) = rw (e, h) refl
+opening_refused parts fault x = grind (arith)
 
 pub unopened : (parts : List Lent) (fault : PackFault) → read_directory parts ≡ Err fault → read_package parts ≡ Err fault
 unfolding read_directory

@@ -1,10 +1,9 @@
-ghost use Rattle.std.specs.Prelude.{◌≡◌, map};
-ghost use Rattle.cap_frame.specs.Directory.{directory_items, customs_left};
-ghost use Rattle.cap_frame.specs.DirectoryFormat.{Custom};
+ghost use Rattle.std.specs.Prelude.{◌≡◌};
+ghost use Rattle.cap_frame.specs.Directory.{directory_items};
 ghost use Rattle.cap_components.specs.Components.{read_directory};
 ghost use Rattle.cap_components.specs.Openings.{GivesOpening};
 ghost use Rattle.cap_components.specs.Order.{least_of, least_from, refused};
-ghost use Rattle.cap_components.specs.PartChecks.{required, components, optional, custom_tags, absent_fault, sized_fault, missing, form_fault, size_fault};
+ghost use Rattle.cap_components.specs.PartChecks.{components, optional, custom_tags, absent_fault, sized_fault, missing, form_fault, size_fault};
 
 use crate::fault::PackFault;
 use crate::opening::Opening;
