@@ -1,15 +1,14 @@
 -- A climb over the superclasses of a class that looks at the first package-visible list of each package.
 use Rattle.std.proofs.Common.{◌≡◌, ◌≢◌, ℕ, ◌+◌, ◌<◌, ◌≤◌, ◌==◌, Bool, true, false, List, [], ◌∷◌, length, refl, sym}
-use Rattle.std.proofs.Common.{◌∙◌, ap, subst, arith, All, Some, None, get_or, set, ◌⊎◌, inl, inr, slice_get, take, IsSomeAnd, IfSome, Option}
+use Rattle.std.proofs.Common.{◌∙◌, ap, subst, arith, All, Some, None, get_or, set, ◌⊎◌, inl, inr, slice_get, take}
 use Rattle.std.proofs.lemmas.Bool.Decides.{nat_tests, eqb_tells}
 use Rattle.std.proofs.lemmas.Bool.{true≢false}
-use Rattle.std.proofs.lemmas.List.Elements.{All-get_or, All-more}
+use Rattle.std.proofs.lemmas.List.Elements.{All-more}
 use Rattle.std.proofs.lemmas.List.{take_all, get_or_default, get_or-set_same, get_or-set_other}
 use Rattle.jc_base.proofs.Climbs.{chain-front}
-use Rattle.jc_base.specs.declared.record.ClassRec.{ClassRec}
 use Rattle.jc_base.specs.declared.record.MethodRec.{MethodRec}
 use Rattle.jc_base.specs.Class.{ClassTable, IsNextOnChain, IsEndOfChain, chain, list_of}
-use Rattle.jc_base.specs.Linked.{AreLinkedClasses, IsLinkedClass}
+use Rattle.jc_base.specs.Linked.{AreLinkedClasses}
 use Rattle.jc_base.specs.Dispatch.{HasBody, package_of, visible_of, nearest_of, visible_in}
 
 same : (n : ℕ) → (n == n) ≡ true
@@ -52,8 +51,7 @@ module _ (t : ClassTable) (methods : List MethodRec) (c : ℕ) where
 
   mark-met : (seen : List Bool) (at : ℕ) (cs : List ℕ) → chain t at ≡ at ∷ cs → Climbs seen at → Met seen at → (b : Bool)
       → get_or seen (package_of t at) false ≡ b → All (HasBody methods) (visible_in t (package_of t at) c)
-  mark-met seen at cs e k m true h = k.met (package_of t at) h
-  mark-met seen at cs e k m false h = subst (All (HasBody methods)) (sym (visible-here seen at cs e k h)) (m.bodies h)
+  mark-met seen at cs e k m x h = grind (arith, visible-here)
 
   pub met-more : (seen : List Bool) (at : ℕ) (cs : List ℕ) → chain t at ≡ at ∷ cs → Climbs seen at → Met seen at →
       (home : ℕ) → get_or (set seen (package_of t at) true) home false ≡ true → All (HasBody methods) (visible_in t home c)
@@ -65,16 +63,10 @@ module _ (t : ClassTable) (methods : List MethodRec) (c : ℕ) where
 
   not_seen : (seen : List Bool) (at home : ℕ) → package_of t at < length seen → get_or (set seen (package_of t at) true) home false ≡ false
       → package_of t at ≢ home
-  not_seen seen at home inside h is =
-      true≢false (sym (get_or-set_same seen (package_of t at) true false inside) ∙ ap (λ n. get_or (set seen (package_of t at) true) n false) is ∙ h)
+  not_seen seen at home inside h is = grind (arith, true≢false, get_or-set_same, get_or, set)
 
   pub Climbs-next : (seen : List Bool) (at p : ℕ) → IsNextOnChain t at p → Climbs seen at → Met seen at → Climbs (set seen (package_of t at) true) p
-  Climbs-next seen at p next k m = record {
-    met = met-more seen at (chain t p) next.chain_is k m;
-    rest = λ home h.
-        let ne : package_of t at ≢ home = not_seen seen at home m.inside h in
-        k.rest home (sym (get_or-set_other seen (package_of t at) home true false (λ e. ne (sym e))) ∙ h) ∙ nearest-above at p home next.chain_is ne;
-  }
+  Climbs-next seen at p next k m = grind (arith, met-more, not_seen, get_or-set_other, nearest-above)
 
   pub Climbs-end : (seen : List Bool) (at : ℕ) → IsEndOfChain t at → Climbs seen at → Met seen at → (home : ℕ)
       → All (HasBody methods) (visible_in t home c)
@@ -103,28 +95,19 @@ module _ (t : ClassTable) (methods : List MethodRec) (c : ℕ) where
 
     pub Climbs-refuses : Climbs seen at → ((get_or seen home d ≡ false → All (HasBody methods) (visible_of t at)) → ⊥)
         → ((h : ℕ) → All (HasBody methods) (visible_in t h c)) → ⊥
-    Climbs-refuses k refused all =
-        refused (λ e. subst (All (HasBody methods)) (visible-here seen at (chain-front t at).0 (chain-front t at).1 k (read_at ∙ e))
-        (all (package_of t at)))
+    Climbs-refuses k refused all = grind (arith, chain-front t at, visible-here, read_at)
 
     pub Climbs-step : (p : ℕ) → IsNextOnChain t at p → Climbs seen at → (get_or seen home d ≡ false → All (HasBody methods) (visible_of t at))
         → Climbs (set seen home true) p
     Climbs-step p next k h = subst (λ n. Climbs (set seen n true) p) (sym is) (Climbs-next seen at p next k (Met-read h))
 
--- an entry without a body, and a list with one
-HasBody-not : (methods : List MethodRec) (n : ℕ) (m : MethodRec) → slice_get methods n ≡ Some m → m.is_abstract ≡ true → HasBody methods n → ⊥
-HasBody-not methods n m e h b = true≢false (sym h ∙ subst (λ o. IsSomeAnd o (λ k. k.is_abstract ≡ false)) e b)
-
-HasBody-read : (methods : List MethodRec) (n : ℕ) (m : MethodRec) → slice_get methods n ≡ Some m → m.is_abstract ≡ false → HasBody methods n
-HasBody-read methods n m e h = subst (λ o. IsSomeAnd o (λ k. k.is_abstract ≡ false)) (sym e) h
-
 module _ (methods : List MethodRec) (list : List ℕ) (i d : ℕ) (m : MethodRec) (inside : i < length list)
     (read : slice_get methods (get_or list i d) ≡ Some m) where
   pub bodies-none : m.is_abstract ≡ true → All (HasBody methods) list → ⊥
-  bodies-none h all = HasBody-not methods (get_or list i d) m read h (All-get_or (HasBody methods) list i d inside all)
+  bodies-none h all = grind (arith, get_or, true≢false)
 
   pub bodies-more : m.is_abstract ≡ false → All (HasBody methods) (take i list) → All (HasBody methods) (take (i + 1) list)
-  bodies-more h all = All-more (HasBody methods) list i d inside all (HasBody-read methods (get_or list i d) m read h)
+  bodies-more h all = All-more (HasBody methods) list i d inside all (grind (arith))
 
 pub bodies-all : (methods : List MethodRec) (list : List ℕ) (i : ℕ) → length list ≤ i → All (HasBody methods) (take i list)
     → All (HasBody methods) list
@@ -132,21 +115,5 @@ bodies-all methods list i h all = subst (All (HasBody methods)) (take_all i list
 
 -- ---- what holds of the classes of some packages holds of them among more
 
-linked_by : (p q : ℕ) (t : ClassTable) (methods : List MethodRec) (c : ℕ) (o : Option ClassRec) → p ≤ q → IfSome o (IsLinkedClass p t methods c)
-    → IfSome o (IsLinkedClass q t methods c)
-linked_by p q t methods c None le h = tt
-linked_by p q t methods c (Some r) le h =
-    let home : r.package < p = h.home in
-    record {
-      home = omega arith;
-      earlier = h.earlier;
-      cells = h.cells;
-      size = h.size;
-      own = h.own;
-      public = h.public;
-      visible = h.visible;
-      implements = h.implements;
-    }
-
 pub linked_more : (p q : ℕ) (t : ClassTable) (methods : List MethodRec) → p ≤ q → AreLinkedClasses p t methods → AreLinkedClasses q t methods
-linked_more p q t methods le h c = linked_by p q t methods c (slice_get t.records c) le (h c)
+linked_more p q t methods le h c = grind (arith, slice_get)

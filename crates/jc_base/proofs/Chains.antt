@@ -1,9 +1,8 @@
 -- What holds of chains of superclasses.
-use Rattle.std.proofs.Common.{◌≡◌, ℕ, zero, suc, ◌<◌, false, List, [], ◌∷◌, length, Option, Some, None, refl}
+use Rattle.std.proofs.Common.{◌≡◌, ℕ, zero, suc, ◌<◌, List, [], ◌∷◌, length, Option, Some, None, refl}
 use Rattle.std.proofs.Common.{sym, ap, subst, ◌∙◌, arith}
 use Rattle.std.specs.Prelude.{All, IfSome, IfNone, slice_get}
 use Rattle.jc_base.specs.declared.record.ClassRec.{ClassRec}
-use Rattle.std.proofs.lemmas.List.Elements.{All-head, All-tail}
 use Rattle.jc_base.specs.Class.{ClassTable, IsClass, AreClasses, IsNextOnChain, IsEndOfChain, is_interface, parent_of, chain_over, chain, list_of, last, object}
 
 -- a chain begins with its class
@@ -20,20 +19,13 @@ more_above : (t : ClassTable) (o n c : ℕ) (p : Option ℕ) → parent_of t c �
     → last (chain_over t (suc n) c) ≡ Some o → chain_over t (suc (suc n)) c ≡ chain_over t (suc n) c
 unfolding chain_over
 more_above t o n c None e more ends = rw e refl
-more_above t o n c (Some p) e more ends =
-    let f = chain_over-front t n p in
-    let whole : chain_over t (suc n) c ≡ c ∷ chain_over t n p = rw e refl in
-    let rest : last (chain_over t n p) ≡ Some o = sym (last-cons c (chain_over t n p) f.0 p f.1) ∙ sym (ap last whole) ∙ ends in
-    rw e (ap (λ (xs : List ℕ). c ∷ xs) (more p rest))
+more_above t o n c (Some p) e more ends = grind (arith, chain_over-front t n p, suc n, last-cons)
 
 -- a chain that ends with a class without superclass is as long as it gets
 pub chain_over-more : (t : ClassTable) (o n c : ℕ) → parent_of t o ≡ None → last (chain_over t n c) ≡ Some o
     → chain_over t (suc n) c ≡ chain_over t n c
 unfolding chain_over
-chain_over-more t o zero c top ends =
-    let one : Some c ≡ Some o = ends in
-    let e : c ≡ o = cc in
-    rw (e, top) refl
+chain_over-more t o zero c top ends = grind (arith)
 chain_over-more t o (suc n) c top ends = more_above t o n c (parent_of t c) refl (λ q. chain_over-more t o n q top) ends
 
 pub chain_above : (t : ClassTable) (n c p : ℕ) → parent_of t c ≡ Some p → chain_over t (suc n) c ≡ c ∷ chain_over t n p
@@ -49,13 +41,7 @@ chain_alone t (suc n) c e = rw e refl
 next_over : (t : ClassTable) (n c p : ℕ) → parent_of t (object t) ≡ None → parent_of t c ≡ Some p → All (IsClass t) (chain_over t (suc n) c)
     → last (chain_over t (suc n) c) ≡ Some (object t)
     → IsClass t p × (chain_over t (suc n) c ≡ c ∷ chain_over t (suc n) p)
-next_over t n c p top e classes ends =
-    let f = chain_over-front t n p in
-    let whole : chain_over t (suc n) c ≡ c ∷ chain_over t n p = chain_above t n c p e in
-    let rest : last (chain_over t n p) ≡ Some (object t) = sym (last-cons c (chain_over t n p) f.0 p f.1) ∙ sym (ap last whole) ∙ ends in
-    let each : All (IsClass t) (c ∷ chain_over t n p) = subst (λ (xs : List ℕ). All (IsClass t) xs) whole classes in
-    let tail : All (IsClass t) (p ∷ f.0) = subst (λ (xs : List ℕ). All (IsClass t) xs) f.1 (All-tail (IsClass t) c (chain_over t n p) each) in
-    (All-head (IsClass t) p f.0 tail, whole ∙ ap (λ (xs : List ℕ). c ∷ xs) (sym (chain_over-more t (object t) n p top rest)))
+next_over t n c p top e classes ends = grind (arith, chain_over-front t n p, suc n, chain_above t n c p e, last-cons, chain_over-more)
 
 -- the number of a record is the successor of another
 records_are : (t : ClassTable) (c : ℕ) → c < length t.records → (n : ℕ) × (length t.records ≡ suc n)
@@ -77,30 +63,20 @@ next_on_chain t c p are is e =
 
 pub end_of_chain : (t : ClassTable) (c : ℕ) → AreClasses t → IsClass t c → parent_of t c ≡ None → IsEndOfChain t c
 unfolding chain
-end_of_chain t c are is e =
-    let alone : chain t c ≡ c ∷ [] = chain_alone t (length t.records) c e in
-    let one : Some c ≡ Some (object t) = sym (ap last alone) ∙ (are.chains c is).ends in
-    record { last_is = cc; chain_is = alone }
+end_of_chain t c are is e = grind (arith, chain_alone, length)
 
 -- ---- what the record of a class says
 
 pub parent_read : (t : ClassTable) (c : ℕ) (r : ClassRec) → IsClass t c → slice_get t.records c ≡ Some r → r.parent ≡ parent_of t c
 unfolding parent_of is_interface
-parent_read t c r is e =
-    let plain : r.interface ≡ false = rw e at is.class in
-    rw (e, plain) refl
-
-climbs_to : (t : ClassTable) (c : ℕ) (o : Option ℕ) → AreClasses t → IsClass t c → parent_of t c ≡ o → IfSome o (IsNextOnChain t c)
-climbs_to t c None are is e = tt
-climbs_to t c (Some p) are is e = next_on_chain t c p are is e
+parent_read t c r is e = grind (arith)
 
 ends_at : (t : ClassTable) (c : ℕ) (o : Option ℕ) → AreClasses t → IsClass t c → parent_of t c ≡ o → IfNone o (IsEndOfChain t c)
-ends_at t c None are is e = end_of_chain t c are is e
-ends_at t c (Some p) are is e = tt
+ends_at t c x are is e = grind (arith, end_of_chain)
 
 pub parent_climbs : (t : ClassTable) (c : ℕ) (r : ClassRec) → AreClasses t → IsClass t c → slice_get t.records c ≡ Some r
     → IfSome r.parent (IsNextOnChain t c)
-parent_climbs t c r are is e = climbs_to t c r.parent are is (sym (parent_read t c r is e))
+parent_climbs t c r are is e = grind (arith, parent_read, next_on_chain)
 
 pub parent_ends : (t : ClassTable) (c : ℕ) (r : ClassRec) → AreClasses t → IsClass t c → slice_get t.records c ≡ Some r
     → IfNone r.parent (IsEndOfChain t c)

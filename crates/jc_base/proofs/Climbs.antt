@@ -12,8 +12,7 @@ use Rattle.jc_base.specs.Order.{is_on_chain}
 use Rattle.jc_base.proofs.Chains.{chain_over-front, chain_alone, next_on_chain, end_of_chain}
 
 list_of-length : (f : ℕ → List ℕ) (n : ℕ) (o : Option ℕ) → ((p : ℕ) → length (f p) ≤ n) → length (list_of f o) ≤ n
-list_of-length f n None short = omega arith
-list_of-length f n (Some p) short = short p
+list_of-length f n x short = grind (arith)
 
 chain_over-length : (t : ClassTable) (n c : ℕ) → length (chain_over t n c) ≤ suc n
 unfolding chain_over
@@ -57,9 +56,7 @@ step : (t : ClassTable) (are : AreClasses t) (P : ℕ → Type 0) → ((c : ℕ)
     → ((c p : ℕ) → parent_of t c ≡ Some p → IsNextOnChain t c p → P p → P c)
     → (c : ℕ) (o : Option ℕ) → parent_of t c ≡ o → ((p : ℕ) → length (chain t p) < length (chain t c) → P p) → P c
 step t are P ends next c None e before = ends c e (chain-alone t c e)
-step t are P ends next c (Some p) e before =
-    let link = next_on_chain t c p are (parent_of-class t c p e) e in
-    next c p e link (before p (omega (arith, ap length link.chain_is)))
+step t are P ends next c (Some p) e before = grind (arith, next_on_chain t c p are (parent_of-class t c p e) e, length)
 
 climb_over : (t : ClassTable) (are : AreClasses t) (P : ℕ → Type 0) → ((c : ℕ) → parent_of t c ≡ None → chain t c ≡ c ∷ [] → P c)
     → ((c p : ℕ) → parent_of t c ≡ Some p → IsNextOnChain t c p → P p → P c) → (n c : ℕ) → length (chain t c) ≤ n → P c
@@ -84,13 +81,10 @@ on_chain-alone t d c e = rw e refl
 
 pub on_chain-here : (t : ClassTable) (c : ℕ) → is_on_chain t c c ≡ true
 unfolding is_on_chain
-on_chain-here t c =
-    let f = chain-front t c in
-    rw (f.1, eq-eqb c c refl) refl
+on_chain-here t c = grind (arith, chain-front t c, eq-eqb c c refl)
 
 only : (b : Bool) → (b || false) ≡ true → b ≡ true
-only true e = refl
-only false e = absurd (false≢true e)
+only x e = grind (arith, false≢true)
 
 -- the class on the chain of a class that has no superclass
 pub on_alone : (t : ClassTable) (d c : ℕ) → chain t c ≡ c ∷ [] → is_on_chain t d c ≡ true → c ≡ d
@@ -162,8 +156,7 @@ height_least t (suc n) = omega (arith, height_least t n)
 
 height-is : (t : ClassTable) (c : ℕ) (o : Option ℕ) → parent_of t c ≡ o → length (chain t c) ≤ height t
 unfolding height
-height-is t c None e = omega (arith, ap length (chain-alone t c e), height_least t (length t.records), chain-not_empty t (object t))
-height-is t c (Some p) e = height_over t (length t.records) c (parent_of-class t c p e).number
+height-is t c x e = grind (arith, length, chain-alone, height_least, chain-not_empty, height_over, parent_of-class)
 
 -- no chain has more classes than the height
 pub chain-height : (t : ClassTable) (c : ℕ) → length (chain t c) ≤ height t

@@ -1,25 +1,23 @@
 -- A class is concrete exactly where it is computed so: the packages of its chain have all its package-visible lists.
-use Rattle.std.proofs.Common.{◌≡◌, ◌<◌, ◌↔◌, ℕ, ◌==◌, Bool, true, false, not, List, length, Option, Some, None, refl, subst, arith}
-use Rattle.std.specs.Prelude.{All, IsTrue, IsSomeAnd, find, slice_get, nat_lt}
+use Rattle.std.proofs.Common.{◌≡◌, ◌↔◌, ℕ, ◌==◌, Bool, true, false, not, List, length, Option, Some, None, refl, subst, arith}
+use Rattle.std.specs.Prelude.{All, IsTrue, IsSomeAnd, find, slice_get}
 use Rattle.std.specs.List.{list_all}
 use Rattle.std.proofs.lemmas.Bool.{false≢true, eqb-true, not-true, not_from_false, and_parts, and_from}
 use Rattle.std.proofs.lemmas.Bool.Decides.{nat_tests}
 use Rattle.std.proofs.lemmas.List.Elements.{All-nil}
 use Rattle.jc_base.specs.declared.record.MethodRec.{MethodRec}
-use Rattle.jc_base.specs.Class.{ClassTable, is_interface, chain, list_of}
-use Rattle.jc_base.specs.Dispatch.{HasBody, IsConcrete, has_body, has_body_in, all_have_bodies, is_concrete, package_of, public_of, visible_of, nearest_of}
+use Rattle.jc_base.specs.Class.{ClassTable, chain, list_of}
+use Rattle.jc_base.specs.Dispatch.{HasBody, IsConcrete, has_body, has_body_in, all_have_bodies, is_concrete, package_of, visible_of, nearest_of}
 use Rattle.jc_base.specs.Dispatch.{visible_in}
 use Rattle.jc_base.specs.Laws.{ConcreteDecides}
 use Rattle.jc_base.proofs.Eaching.{Each-at, Each-from_All}
 use Rattle.jc_base.proofs.Tests.{All-from_test, test-from_All, found-passes, same_truth}
 
 body-sound : (o : Option MethodRec) → has_body_in o ≡ true → IsSomeAnd o (λ m. m.is_abstract ≡ false)
-body-sound None h = absurd (false≢true h)
-body-sound (Some m) h = not-true m.is_abstract h
+body-sound x h = grind (arith, false≢true, not-true)
 
 body-complete : (o : Option MethodRec) → IsSomeAnd o (λ m. m.is_abstract ≡ false) → has_body_in o ≡ true
-body-complete None h = absurd h
-body-complete (Some m) h = not_from_false m.is_abstract h
+body-complete x h = grind (arith, not_from_false)
 
 module _ (t : ClassTable) (methods : List MethodRec) (c : ℕ) where
   bodies-sound : (list : List ℕ) → all_have_bodies methods list ≡ true → All (HasBody methods) list
@@ -54,25 +52,11 @@ module _ (t : ClassTable) (methods : List MethodRec) (c : ℕ) where
 
   pub concrete-sound : is_concrete t methods c ≡ true → IsConcrete t methods c
   unfolding is_concrete
-  concrete-sound h =
-      let one = and_parts (nat_lt c (length t.records)) _ h in
-      let two = and_parts (not (is_interface t c)) _ one.1 in
-      let three = and_parts (all_have_bodies methods (public_of t c)) _ two.1 in
-      let below : c < length t.records = grind (arith, nat_tests, one.0) in
-      record {
-        class = record { number = below; class = not-true (is_interface t c) two.0 };
-        public = bodies-sound (public_of t c) three.0;
-        visible = visible-sound three.1;
-      }
+  concrete-sound h = grind (arith, and_parts, length, not, nat_tests, not-true, bodies-sound, visible-sound)
 
   concrete-complete : IsConcrete t methods c → is_concrete t methods c ≡ true
   unfolding is_concrete
-  concrete-complete is =
-      let below : c < length t.records = is.class.number in
-      let number : nat_lt c (length t.records) ≡ true = grind (arith, nat_tests, below) in
-      and_from (nat_lt c (length t.records)) _ number
-      (and_from (not (is_interface t c)) _ (not_from_false (is_interface t c) is.class.class)
-      (and_from (all_have_bodies methods (public_of t c)) _ (bodies-complete (public_of t c) is.public) (visible-complete is.visible)))
+  concrete-complete is = grind (arith, length, nat_tests, and_from, not, not_from_false, bodies-complete, visible-complete)
 
   pub concrete-is : (b : Bool) → IsTrue b ↔ IsConcrete t methods c → b ≡ is_concrete t methods c
   concrete-is b decided = same_truth b (is_concrete t methods c) (λ h. concrete-complete (decided.0 h)) (λ h. decided.1 (concrete-sound h))

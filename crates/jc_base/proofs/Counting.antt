@@ -1,5 +1,5 @@
 -- Where one test passes what another does, and one element more, it counts more elements.
-use Rattle.std.proofs.Common.{◌≡◌, ℕ, ◌+◌, ◌<◌, ◌≤◌, inl, inr, Bool, true, false, cond, List, [], ◌∷◌, refl, ap, ◌∙◌, arith}
+use Rattle.std.proofs.Common.{◌≡◌, ℕ, ◌+◌, ◌<◌, ◌≤◌, inl, inr, Bool, true, false, cond, List, [], ◌∷◌, ap, ◌∙◌, arith}
 use Rattle.std.specs.Prelude.{Contains, count_by}
 use Rattle.std.specs.List.{range_with_len}
 use Rattle.std.proofs.lemmas.List.Sums.{sum_by-cons, count_by-le-length}
@@ -10,9 +10,7 @@ count-cons : (p : ℕ → Bool) (x : ℕ) (xs : List ℕ) → count_by p (x ∷ 
 count-cons p x xs = sum_by-cons (λ y. cond (p y) 1 0) x xs
 
 one-le : (b d : Bool) → (b ≡ true → d ≡ true) → cond {A = ℕ} b 1 0 ≤ cond {A = ℕ} d 1 0
-one-le true d h = let e : d ≡ true = h refl in rw e (omega arith)
-one-le false true h = omega arith
-one-le false false h = omega arith
+one-le x d h = grind (arith)
 
 count-le : (p q : ℕ → Bool) (xs : List ℕ) → ((x : ℕ) → p x ≡ true → q x ≡ true) → count_by p xs ≤ count_by q xs
 count-le p q [] h = omega arith
@@ -33,9 +31,7 @@ count-less p q (x ∷ xs) y h at lacks has = elim (Contains-append_cases (x ∷ 
 ]
 
 pub number-among : (n c : ℕ) → c < n → Contains (range_with_len 0 n) c
-number-among n c h =
-    let same : 0 + c ≡ c = omega arith in
-    (c, omega (arith, length-range_with_len 0 n), get_or-range_with_len 0 n c c h ∙ same)
+number-among n c h = grind (arith, length-range_with_len 0 n, get_or-range_with_len 0 n c c h)
 
 pub count-most : (p : ℕ → Bool) (n : ℕ) → count_by p (range_with_len 0 n) ≤ n
 count-most p n = omega (arith, count_by-le-length p (range_with_len 0 n), length-range_with_len 0 n)

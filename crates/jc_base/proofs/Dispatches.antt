@@ -1,5 +1,5 @@
 -- The cells of an instance and the methods that it runs, from what holds of each class record.
-use Rattle.std.proofs.Common.{◌≡◌, ℕ, ◌+◌, ◌-◌, ◌<◌, ◌≤◌, ◌⊎◌, inl, inr, Bool, true, false, List, [], ◌∷◌, ◌++◌}
+use Rattle.std.proofs.Common.{◌≡◌, ℕ, ◌+◌, ◌-◌, ◌≤◌, ◌⊎◌, inl, inr, Bool, true, false, List, [], ◌∷◌, ◌++◌}
 use Rattle.std.proofs.Common.{length, reverse, Option, Some, None, refl, sym, ap, subst, ◌∙◌, arith}
 use Rattle.std.specs.Prelude.{◌==◌, nat_lt, IfSome, IsSomeAnd, slice_get, flat_map, option_and_then}
 use Rattle.std.proofs.lemmas.Bool.{eqb-true, eq-eqb}
@@ -23,8 +23,7 @@ use Rattle.jc_base.proofs.Climbs.{climb, chain-front, on_alone, on_next}
 
 pub cells-alone : (t : ClassTable) (c : ℕ) → chain t c ≡ c ∷ [] → cells_of t c ≡ own_cells t c
 unfolding cells_of
-cells-alone t c alone =
-    ap (λ (xs : List ℕ). flat_map (own_cells t) (reverse xs)) alone ∙ flat_map-cons (own_cells t) c [] ∙ append-nil (own_cells t c)
+cells-alone t c alone = grind (arith, reverse, flat_map-cons, append-nil)
 
 -- the cells of the superclass come first, then those of the class's own fields
 pub cells-next : (t : ClassTable) (c p : ℕ) → IsNextOnChain t c p → cells_of t c ≡ cells_of t p ++ own_cells t c
@@ -40,10 +39,7 @@ count_of : (packages : ℕ) (t : ClassTable) (methods : List MethodRec) (c : ℕ
     → IfSome o (IsLinkedClass packages t methods c)
     → cell_count t c ≡ cells_above t (parent_of t c) + length (own_cells t c)
 unfolding cell_count own_cells parent_of
-count_of packages t methods c None e is = rw e refl
-count_of packages t methods c (Some r) e is =
-    let cells : r.cells ≡ cells_above t (parent_of t c) + length r.own = is.cells in
-    rw e (rw e at cells)
+count_of packages t methods c x e is = grind (arith, length)
 
 count_is : (packages : ℕ) (t : ClassTable) (methods : List MethodRec) → AreLinkedClasses packages t methods → (c : ℕ)
     → cell_count t c ≡ cells_above t (parent_of t c) + length (own_cells t c)
@@ -70,15 +66,10 @@ count_read t c r e = rw e refl
 
 no_record : (c p : ℕ) (t : ClassTable) → slice_get t.records c ≡ None → parent_of t c ≡ Some p → ⊥
 unfolding parent_of
-no_record c p t e link =
-    let none : None ≡ Some p = rw e at link in
-    cc
+no_record c p t e link = grind (arith)
 
 earlier_of : (t : ClassTable) (n : ℕ) (o : Option ℕ) (p : ℕ) → o ≡ Some p → IfSome o (λ q. package_of t q ≤ n) → package_of t p ≤ n
-earlier_of t n None p e h = absurd cc
-earlier_of t n (Some q) p e h =
-    let same : q ≡ p = cc in
-    subst (λ (x : ℕ). package_of t x ≤ n) same h
+earlier_of t n x p e h = grind (arith)
 
 pub package_read : (t : ClassTable) (c : ℕ) (r : ClassRec) → slice_get t.records c ≡ Some r → package_of t c ≡ r.package
 unfolding package_of
@@ -95,9 +86,7 @@ visible_read t c r e = rw e refl
 package_before : (packages : ℕ) (t : ClassTable) (methods : List MethodRec) (c p : ℕ) (o : Option ClassRec) → slice_get t.records c ≡ o
     → IfSome o (IsLinkedClass packages t methods c)
     → parent_of t c ≡ Some p → package_of t p ≤ package_of t c
-package_before packages t methods c p None e is link = absurd (no_record c p t e link)
-package_before packages t methods c p (Some r) e is link =
-    omega (arith, package_read t c r e, earlier_of t r.package (parent_of t c) p link is.earlier)
+package_before packages t methods c p x e is link = grind (arith, no_record, package_read, earlier_of)
 
 -- the packages along a chain of superclasses fall
 pub packages-fall : (packages : ℕ) (t : ClassTable) (methods : List MethodRec) → AreClasses t → AreLinkedClasses packages t methods → (r c : ℕ)
@@ -111,9 +100,7 @@ packages-fall packages t methods are linked = climb t are (λ r. (c : ℕ) → i
 
 nearest-here : (t : ClassTable) (home c : ℕ) → package_of t c ≡ home → visible_in t home c ≡ visible_of t c
 unfolding visible_in nearest_of
-nearest-here t home c e =
-    let f = chain-front t c in
-    rw (f.1, eq-eqb (package_of t c) home e) refl
+nearest-here t home c e = grind (arith, chain-front t c, eq-eqb (package_of t c) home e)
 
 nearest-next : (t : ClassTable) (home c p : ℕ) → IsNextOnChain t c p → (package_of t c == home) ≡ false → visible_in t home c ≡ visible_in t home p
 unfolding visible_in nearest_of
@@ -190,9 +177,7 @@ unfolding visible_of
 nothing_visible t r e = rw e refl
 
 none_at : (xs : List ℕ) (token n : ℕ) → xs ≡ [] → slice_get xs token ≡ Some n → ⊥
-none_at xs token n e at =
-    let none : None ≡ Some n = ap (λ (ys : List ℕ). slice_get ys token) (sym e) ∙ at in
-    cc
+none_at xs token n e at = grind (arith)
 
 has_list : (packages : ℕ) (t : ClassTable) (methods : List MethodRec) (r : ℕ) → AreLinkedClasses packages t methods
     → (slice_get t.records r ≡ None) ⊎ HasLists t methods r
@@ -246,13 +231,7 @@ visible_next : (packages : ℕ) (t : ClassTable) (methods : List MethodRec) (hom
     → IsNextOnChain t r p → parent_of t r ≡ Some p
     → home ≤ package_of t p → package_of t p ≤ package_of t r → (package_of t r == home) ≡ b
     → Runs t methods p (visible_in t home p) token n → Runs t methods r (visible_in t home r) token n
-visible_next packages t methods home r p token n false linked next link low high e up =
-    subst (λ (xs : List ℕ). Runs t methods r xs token n) (sym (nearest-next t home r p next e)) (record {
-      method = up.method;
-      found = up.found;
-      signature = up.signature;
-      inherited = inherits_too t r p (slice_get methods up.method) link up.inherited;
-    })
+visible_next packages t methods home r p token n false linked next link low high e up = grind (arith, nearest-next, inherits_too)
 visible_next packages t methods home r p token n true linked next link low high e up =
     let here : package_of t r ≡ home = eqb-true (package_of t r) home e in
     let above : package_of t p ≡ home = omega arith in
@@ -296,14 +275,7 @@ dispatch_by : (t : ClassTable) (methods : List MethodRec) (c token r n : ℕ) (b
     → (slice_get (visible_of t c) (token - 128) ≡ Some n → Runs t methods r (visible_in t (package_of t c) r) (token - 128) n)
     → entry_at t c token ≡ Some n → Dispatches t methods c token r n
 unfolding entry_at dispatched
-dispatch_by t methods c token r n true e public visible entry =
-    let own : slice_get (public_of t c) token ≡ Some n = rw e at entry in
-    let run = public own in
-    record { method = run.method; found = rw e run.found; signature = run.signature; inherited = run.inherited }
-dispatch_by t methods c token r n false e public visible entry =
-    let own : slice_get (visible_of t c) (token - 128) ≡ Some n = rw e at entry in
-    let run = visible own in
-    record { method = run.method; found = rw e run.found; signature = run.signature; inherited = run.inherited }
+dispatch_by t methods c token r n x e public visible entry = grind (arith)
 
 dispatches : (packages : ℕ) (t : ClassTable) (methods : List MethodRec) → AreClasses t → AreLinkedClasses packages t methods → (r c token n : ℕ)
     → is_on_chain t c r ≡ true
@@ -315,9 +287,7 @@ dispatches packages t methods are linked r c token n on entry =
 
 pub on_chain-from_Below : (t : ClassTable) → AreClasses t → (r c : ℕ) → Below t (Class r) (Class c) → is_on_chain t c r ≡ true
 unfolding is_below
-on_chain-from_Below t are r c below =
-    let on : is_below t (Class r) (Class c) ≡ true = is_below-from_Below t are below in
-    on
+on_chain-from_Below t are r c below = grind (arith, is_below-from_Below)
 
 -- below a class each object runs a method for each entry of the class
 pub are_dispatched : (packages : ℕ) (t : ClassTable) (methods : List MethodRec) → AreClasses t → AreLinkedClasses packages t methods

@@ -10,7 +10,7 @@ use Rattle.jc_base.specs.declared.record.MethodRec.{MethodRec}
 use Rattle.jc_base.specs.declared.visible_bodies.VisibleBodies.{VisibleBodies}
 use Rattle.jc_base.specs.Class.{ClassTable, IsClass, AreClasses, IsNextOnChain, IsEndOfChain, parent_of, list_of}
 use Rattle.jc_base.specs.Dispatch.{HasBody, IsConcrete, package_of, visible_of, visible_in, nearest_of}
-use Rattle.jc_base.specs.Linked.{AreLinkedClasses, IsLinkedClass}
+use Rattle.jc_base.specs.Linked.{AreLinkedClasses}
 use Rattle.jc_base.specs.ByClass.{AllHaveBodies, OthersHaveBodies, IsKnownOf, AreConcrete, AreKnown, AreFilledBelow, IsFilled, IsFilledOnce}
 use Rattle.jc_base.specs.ByClass.{IsClimb, LeadsDown, known_at}
 use Rattle.jc_base.proofs.Lists.{IfSome-is, slice_get-some, slice_get-set_here, slice_get-set_other}
@@ -36,11 +36,7 @@ each-pushed P (y ∷ ys) x n e all h (suc c) =
 module _ (t : ClassTable) (methods : List MethodRec) where
   -- a superclass is of the same package or of an earlier one
   earlier : AreLinkedClasses 16 t methods → (c p : ℕ) → parent_of t c ≡ Some p → package_of t p ≤ package_of t c
-  earlier links c p e =
-      let r = slice_get-some t.records c (parent_of-class t c p e).number in
-      let l : IsLinkedClass 16 t methods c r.0 = IfSome-is (IsLinkedClass 16 t methods c) (slice_get t.records c) r.0 (links c) r.1 in
-      let up : package_of t p ≤ r.0.package = IfSome-is (λ q. package_of t q ≤ r.0.package) (parent_of t c) p l.earlier e in
-      subst (λ (n : ℕ). package_of t p ≤ n) (sym (package_read t c r.0 r.1)) up
+  earlier links c p e = grind (arith, slice_get-some t.records c (parent_of-class t c p e).number, package_read)
 
   -- no class on a chain is of a later package than the chain's first
   none_later : AreClasses t → AreLinkedClasses 16 t methods → (c home : ℕ) → package_of t c < home → nearest_of t home c ≡ None
@@ -56,8 +52,7 @@ module _ (t : ClassTable) (methods : List MethodRec) where
 
   pub others_top : (c : ℕ) → IsEndOfChain t c → OthersHaveBodies t methods c
   unfolding visible_in
-  others_top c end home ne =
-      subst (λ o. All (HasBody methods) (list_of (visible_of t) o)) (sym (nearest-end t methods c c home end.chain_is ne)) (All-nil (HasBody methods))
+  others_top c end home ne = grind (arith, nearest-end)
 
   pub others_same : (c p : ℕ) → IsNextOnChain t c p → package_of t p ≡ package_of t c
       → OthersHaveBodies t methods p ↔ OthersHaveBodies t methods c
@@ -88,37 +83,24 @@ module _ (t : ClassTable) (methods : List MethodRec) where
     known_is = IfSome-is (IsKnownOf t methods p) (known_at slots p) k (are.right p) at
 
     pub others_kept : IsNextOnChain t c p → package_of t p ≡ package_of t c → IsTrue k.others ↔ OthersHaveBodies t methods c
-    others_kept next e =
-        let same = others_same c p next e in
-        ((λ h. same.0 (known_is.others.0 h)), (λ h. known_is.others.1 (same.1 h)))
+    others_kept next e = grind (arith, others_same, known_is)
 
     pub others_more : AreClasses t → AreLinkedClasses 16 t methods → IsNextOnChain t c p → parent_of t c ≡ Some p
         → package_of t p ≢ package_of t c → IsTrue k.all ↔ OthersHaveBodies t methods c
-    others_more are links next e apart =
-        let same = others_apart are links c p next e apart in
-        ((λ h. same.0 (known_is.all.0 h)), (λ h. known_is.all.1 (same.1 h)))
+    others_more are links next e apart = grind (arith, others_apart, known_is)
 
   own_is : (c : ℕ) → visible_in t (package_of t c) c ≡ visible_of t c
   unfolding visible_in
   own_is c = let f = chain-front t c in ap (list_of (visible_of t)) (nearest-here t methods c c f.0 f.1)
 
   all_of : (c : ℕ) → OthersHaveBodies t methods c → All (HasBody methods) (visible_of t c) → AllHaveBodies t methods c
-  all_of c others own home = elim (dec_eq (package_of t c) home) [
-    | inl is ↦ subst (λ n. All (HasBody methods) (visible_in t n c)) is (subst (All (HasBody methods)) (sym (own_is c)) own)
-    | inr ne ↦ others home ne
-  ]
+  all_of c others own home = grind (arith, dec_eq, own_is)
 
   -- the lists of a class are those of other packages and its own
   pub known_made : (c : ℕ) (others all : Bool) → IsTrue others ↔ OthersHaveBodies t methods c
       → IsTrue all ↔ (IsTrue others × All (HasBody methods) (visible_of t c))
       → IsKnownOf t methods c (record { others = others; all = all })
-  known_made c others all o v = record {
-    others = o;
-    all = (
-      (λ h. let two = v.0 h in all_of c (o.0 two.0) two.1),
-      (λ h. v.1 (o.1 (λ home ne. h home), subst (All (HasBody methods)) (own_is c) (h (package_of t c)))),
-    );
-  }
+  known_made c others all o v = grind (arith, own_is c, all_of)
 
   -- ---- slots
 
@@ -161,9 +143,7 @@ module _ (t : ClassTable) (methods : List MethodRec) where
   -- one class further up
   pub climbed : (c a : ℕ) (path : List ℕ) (above next : Option ℕ) → above ≡ Some a → IsClass t a → parent_of t a ≡ next
       → LeadsDown t c above (reverse path) → LeadsDown t c next (reverse (path ++ (a ∷ [])))
-  climbed c a path above next e is up leads =
-      subst (LeadsDown t c next) (sym (reverse-append path (a ∷ [])))
-      (is, up, subst (λ (o : Option ℕ). LeadsDown t c o (reverse path)) e leads)
+  climbed c a path above next e is up leads = grind (arith, reverse-append, reverse)
 
   -- ---- down again
 
@@ -178,9 +158,7 @@ module _ (t : ClassTable) (methods : List MethodRec) where
 
   module _ (first slots : List (Option VisibleBodies)) (c x : ℕ) (path rest : List ℕ) (e : path ≡ rest ++ (x ∷ [])) (d : IsDescent first slots c path) where
     next_down : LeadsDown t c d.climb.above (x ∷ reverse rest)
-    next_down =
-        subst (LeadsDown t c d.climb.above) (reverse-append rest (x ∷ []))
-        (subst (λ (xs : List ℕ). LeadsDown t c d.climb.above (reverse xs)) e d.climb.leads)
+    next_down = grind (arith, climb, reverse-append, reverse)
 
     pub descent_class : IsClass t x
     descent_class = next_down.0
@@ -233,24 +211,16 @@ module _ (t : ClassTable) (methods : List MethodRec) where
   -- an interface is no class
   pub more_passed : (slots : List (Option VisibleBodies)) (n : ℕ) → (IsClass t n → ⊥) → AreFilledBelow t methods slots n
       → AreFilledBelow t methods slots (n + 1)
-  more_passed slots n none are = record {
-    slots_known = are.slots_known;
-    filled = λ c h is. elim (cases_lt c n) [
-      | inl lt ↦ are.filled c lt is
-      | inr le ↦ let e : c ≡ n = omega arith in absurd (none (subst (IsClass t) e is))
-    ];
-  }
+  more_passed slots n none are = grind (arith, cases_lt)
 
 -- a climb that ends where a slot is filled, or at the end of the chain
 pub climb_met : (t : ClassTable) (slots : List (Option VisibleBodies)) (c a : ℕ) (path : List ℕ) (above : Option ℕ) → above ≡ Some a
     → IsFilled slots a → LeadsDown t c above (reverse path) → IsClimb t slots c path
-climb_met t slots c a path above e filled leads =
-    record { above = above; leads = leads; made = subst (λ (o : Option ℕ). IfSome o (IsFilled slots)) (sym e) filled }
+climb_met t slots c a path above e filled leads = grind (arith)
 
 pub climb_ends : (t : ClassTable) (slots : List (Option VisibleBodies)) (c : ℕ) (path : List ℕ) (above : Option ℕ) → above ≡ None
     → LeadsDown t c above (reverse path) → IsClimb t slots c path
-climb_ends t slots c path above e leads =
-    record { above = above; leads = leads; made = subst (λ (o : Option ℕ). IfSome o (IsFilled slots)) (sym e) tt }
+climb_ends t slots c path above e leads = grind (arith)
 
 pub ruleset climbs = (climb_met, climb_ends, climbed)
 

@@ -1,9 +1,9 @@
 -- Whether a class implements an interface is decided, and what an interface extends comes to an end.
-use Rattle.std.proofs.Common.{◌≡◌, ◌<◌, ◌≤◌, inl, inr, ℕ, ◌==◌, Bool, true, false, List, length, Option, Some, None, refl, subst, arith}
+use Rattle.std.proofs.Common.{◌≡◌, ◌<◌, ◌≤◌, ℕ, ◌==◌, Bool, true, false, List, length, Option, Some, refl, arith}
 use Rattle.std.specs.Prelude.{All, Contains, IfSome, MatchBool, slice_get}
 use Rattle.std.specs.List.{list_any, range_with_len}
 use Rattle.std.proofs.lemmas.Bool.{eqb-true, eq-eqb, false_from_ne_true, or_cases, or_left, or_right}
-use Rattle.std.proofs.lemmas.List.Elements.{All-contains, All-map, All-nil, All-weaker}
+use Rattle.std.proofs.lemmas.List.Elements.{All-map, All-nil, All-weaker}
 use Rattle.std.proofs.lemmas.Option.{slice_get_within}
 use Rattle.jc_base.specs.declared.record.Iface.{Iface}
 use Rattle.jc_base.specs.declared.record.ClassRec.{ClassRec}
@@ -24,28 +24,20 @@ use Rattle.jc_base.proofs.Subtypes.{below_class}
 
 -- ---- what extends another
 
-from-record : (t : ClassTable) (i j : ℕ) (o : Option ClassRec) → slice_get t.records i ≡ o → Contains (extended_in o) j → i < length t.records
-from-record t i j None e h = absurd (omega (arith, h.1))
-from-record t i j (Some r) e h = slice_get_within t.records i r e
-
 pub extends-from : (t : ClassTable) (i j : ℕ) → Contains (extended t i) j → i < length t.records
 unfolding extended
-extends-from t i j h = from-record t i j (slice_get t.records i) refl h
+extends-from t i j h = grind (arith, slice_get_within)
 
 leads-decided : (t : ClassTable) (i j : ℕ) → Leads (extended t) i j → leads_below (extended t) (length t.records) i j ≡ true
 leads-decided t i j h = leads-complete (extended t) (length t.records) i j (extends-from t) h
 
 or_extends-sound : (t : ClassTable) (i j : ℕ) → is_or_extends t i j ≡ true → IsOrExtends t i j
 unfolding is_or_extends
-or_extends-sound t i j h = elim (or_cases (i == j) (leads_below (extended t) (length t.records) i j) h) [
-  | inl same ↦ inl (eqb-true i j same)
-  | inr more ↦ inr (leads-sound (extended t) (length t.records) i j more)
-]
+or_extends-sound t i j h = grind (arith, or_cases, length, eqb-true, leads-sound)
 
 or_extends-complete : (t : ClassTable) (i j : ℕ) → IsOrExtends t i j → is_or_extends t i j ≡ true
 unfolding is_or_extends
-or_extends-complete t i j (inl same) = or_left (i == j) (leads_below (extended t) (length t.records) i j) (eq-eqb i j same)
-or_extends-complete t i j (inr more) = or_right (i == j) (leads_below (extended t) (length t.records) i j) (leads-decided t i j more)
+or_extends-complete t i j x = grind (arith, or_left, length, eq-eqb, or_right, leads-decided)
 
 pub extends-decides : (t : ClassTable) → ExtendsDecides t
 extends-decides t = λ i j. (or_extends-sound t i j, or_extends-complete t i j)
@@ -61,9 +53,7 @@ on_chain-among t c a among = test-from_some (λ x. x == a) (chain t c) a among (
 
 among-on_chain : (t : ClassTable) (c a : ℕ) → is_on_chain t a c ≡ true → IsAmong a (chain t c)
 unfolding is_on_chain
-among-on_chain t c a on =
-    let some = some-from_test (λ x. x == a) (chain t c) on in
-    subst (λ x. IsAmong x (chain t c)) (eqb-true some.0 a some.2) some.1
+among-on_chain t c a on = grind (arith, some-from_test, eqb-true)
 
 implements-sound : (t : ClassTable) → AreClasses t → (c j : ℕ) → implements t c j ≡ true → Implements t c j
 unfolding implements
@@ -101,9 +91,7 @@ extended-inside_by t methods r false e is = rw e (All-nil (λ j. j < length t.re
 
 inside_by : (packages : ℕ) (t : ClassTable) (methods : List MethodRec) (i j : ℕ) (o : Option ClassRec) → slice_get t.records i ≡ o
     → IfSome o (IsLinkedClass packages t methods i) → Contains (extended_in o) j → j < length t.records
-inside_by packages t methods i j None e is h = absurd (omega (arith, h.1))
-inside_by packages t methods i j (Some r) e is h =
-    All-contains (λ k. k < length t.records) (extended_in (Some r)) j (extended-inside_by t methods r r.interface refl is.implements) h
+inside_by packages t methods i j x e is h = grind (arith, length, extended-inside_by)
 
 extends-inside : (packages : ℕ) (t : ClassTable) (methods : List MethodRec) → AreLinkedClasses packages t methods → (i j : ℕ)
     → Contains (extended t i) j → j < length t.records

@@ -1,13 +1,13 @@
 -- The computed join is the least type above both, and a type rises seldom.
 use Rattle.std.proofs.Common.{◌≡◌, ℕ, ◌+◌, ◌<◌, ◌≤◌, ◌⊎◌, inl, inr, Bool, true, false, ◌&&◌, length, Some, refl, sym, ap, subst}
 use Rattle.std.proofs.Common.{◌∙◌, arith}
-use Rattle.std.specs.Prelude.{◌==◌, if◌then◌else◌}
+use Rattle.std.specs.Prelude.{if◌then◌else◌}
 use Rattle.std.proofs.lemmas.Bool.{false≢true, true≢false, eqb-true, and_parts}
 use Rattle.jc_base.specs.declared.ty.Ty.{Ty}
 use Rattle.jc_base.specs.declared.ty.Ty.TheVariants.{Bottom, Short, IntHigh, IntLow, Null, Class, ArrBool, ArrByte, ArrShort, ArrInt, ArrRef, Fresh, Top}
 use Rattle.jc_base.specs.Class.{ClassTable, IsClass, AreClasses, parent_of, height, object}
 use Rattle.jc_base.specs.Order.{Below, same, joined, nothing, anything, null_object, null_array, subclass, array_object, array_array, IsArray, of_booleans}
-use Rattle.jc_base.specs.Order.{of_bytes, of_shorts, of_ints, of_references, IsJoin, IsKnown, is_below, is_on_chain, is_reference, is_above_arrays, common}
+use Rattle.jc_base.specs.Order.{of_bytes, of_shorts, of_ints, of_references, IsJoin, IsKnown, is_below, is_reference, is_above_arrays, common}
 use Rattle.jc_base.specs.Order.{join_of, rises_left}
 use Rattle.jc_base.proofs.Chains.{next_on_chain}
 use Rattle.jc_base.proofs.Climbs.{on_chain-here, on_chain-object, on_chain-class, parent_of-class, chain-height, chain-not_empty, chain-alone}
@@ -19,17 +19,12 @@ use Rattle.jc_base.proofs.Subtypes.{is_below-refl, is_below-top, is_below-from_B
 above_classes : (t : ClassTable) → AreClasses t → (c d n : ℕ) (u : Ty) → IsNearest t c d n → is_below t (Class c) u ≡ true
     → is_below t (Class d) u ≡ true → is_below t (Class n) u ≡ true
 unfolding is_below
-above_classes t are c d n (Class e) near p q = near.least e p q
-above_classes t are c d n Top near p q = refl
-above_classes t are c d n u near p q = absurd (false≢true p)
+above_classes t are c d n u near p q = grind (arith, false≢true)
 
 above_references : (t : ClassTable) → AreClasses t → (c d n : ℕ) (u : Ty) → IsNearest t c d n → is_below t (ArrRef c) u ≡ true
     → is_below t (ArrRef d) u ≡ true → is_below t (ArrRef n) u ≡ true
 unfolding is_below
-above_references t are c d n (ArrRef e) near p q = near.least e p q
-above_references t are c d n (Class e) near p q = p
-above_references t are c d n Top near p q = refl
-above_references t are c d n u near p q = absurd (false≢true p)
+above_references t are c d n u near p q = grind (arith, false≢true)
 
 join_of_classes : (t : ClassTable) → AreClasses t → (c d : ℕ) → IsClass t c → IsClass t d → IsJoin t (Class c) (Class d) (Class (common t c d))
 join_of_classes t are c d c_is d_is =
@@ -71,31 +66,19 @@ data Sort : Ty → Type 0 where
 
 single_short : (t : ClassTable) (u : Ty) → is_below t Short u ≡ true → (u ≡ Short) ⊎ (u ≡ Top)
 unfolding is_below
-single_short t Short h = inl refl
-single_short t Top h = inr refl
-single_short t u h = absurd (false≢true h)
+single_short t u h = grind (arith, false≢true)
 
 single_high : (t : ClassTable) (u : Ty) → is_below t IntHigh u ≡ true → (u ≡ IntHigh) ⊎ (u ≡ Top)
 unfolding is_below
-single_high t IntHigh h = inl refl
-single_high t Top h = inr refl
-single_high t u h = absurd (false≢true h)
+single_high t u h = grind (arith, false≢true)
 
 single_low : (t : ClassTable) (u : Ty) → is_below t IntLow u ≡ true → (u ≡ IntLow) ⊎ (u ≡ Top)
 unfolding is_below
-single_low t IntLow h = inl refl
-single_low t Top h = inr refl
-single_low t u h = absurd (false≢true h)
+single_low t u h = grind (arith, false≢true)
 
 single_fresh : (p c : ℕ) (t : ClassTable) (u : Ty) → is_below t (Fresh p c) u ≡ true → (u ≡ Fresh p c) ⊎ (u ≡ Top)
 unfolding is_below
-single_fresh p c t (Fresh q d) h =
-    let e = and_parts (p == q) (c == d) h in
-    let place : p ≡ q = eqb-true p q e.0 in
-    let class : c ≡ d = eqb-true c d e.1 in
-    inl (rw (place, class) refl)
-single_fresh p c t Top h = inr refl
-single_fresh p c t u h = absurd (false≢true h)
+single_fresh p c t u h = grind (arith, and_parts, eqb-true, false≢true)
 
 sort_of : (a : Ty) → Sort a
 sort_of Bottom = bottom
@@ -109,9 +92,7 @@ sort_of a = object_or_array refl
 
 null_is_below : (t : ClassTable) (b : Ty) → is_reference b ≡ true → is_below t Null b ≡ true
 unfolding is_below
-null_is_below t Null h = refl
-null_is_below t Top h = refl
-null_is_below t b h = h
+null_is_below t b h = grind (arith)
 
 -- what is above two types that do not compare and are not both references is Top
 only_top : (t : ClassTable) (a b u : Ty) → Sort a → Sort b → is_below t a b ≡ false → is_below t b a ≡ false
@@ -119,25 +100,16 @@ only_top : (t : ClassTable) (a b u : Ty) → Sort a → Sort b → is_below t a 
     → is_below t a u ≡ true → is_below t b u ≡ true → u ≡ Top
 only_top t a b u bottom sb ab ba r p q = absurd (true≢false (sym (bottom_below t b) ∙ ab))
 only_top t a b u top sb ab ba r p q = absurd (true≢false (sym (is_below-top t b) ∙ ba))
-only_top t a b u (single only) sb ab ba r p q = elim (only t u p) [
-  | inl e ↦ absurd (true≢false (sym (subst (λ (x : Ty). is_below t b x ≡ true) e q) ∙ ba))
-  | inr e ↦ e
-]
+only_top t a b u (single only) sb ab ba r p q = grind (arith, true≢false)
 only_top t a b u null bottom ab ba r p q = absurd (true≢false (sym (bottom_below t a) ∙ ba))
 only_top t a b u null top ab ba r p q = absurd (true≢false (sym (is_below-top t a) ∙ ab))
 only_top t a b u null null ab ba r p q = absurd (true≢false (sym (is_below-refl t Null) ∙ ab))
-only_top t a b u null (single only) ab ba r p q = elim (only t u q) [
-  | inl e ↦ absurd (true≢false (sym (subst (λ (x : Ty). is_below t Null x ≡ true) e p) ∙ ab))
-  | inr e ↦ e
-]
+only_top t a b u null (single only) ab ba r p q = grind (arith, true≢false)
 only_top t a b u null (object_or_array h) ab ba r p q = absurd (true≢false (sym (null_is_below t b h) ∙ ab))
 only_top t a b u (object_or_array h) bottom ab ba r p q = absurd (true≢false (sym (bottom_below t a) ∙ ba))
 only_top t a b u (object_or_array h) top ab ba r p q = absurd (true≢false (sym (is_below-top t a) ∙ ab))
 only_top t a b u (object_or_array h) null ab ba r p q = absurd (true≢false (sym (null_is_below t a h) ∙ ba))
-only_top t a b u (object_or_array h) (single only) ab ba r p q = elim (only t u q) [
-  | inl e ↦ absurd (true≢false (sym (subst (λ (x : Ty). is_below t a x ≡ true) e p) ∙ ab))
-  | inr e ↦ e
-]
+only_top t a b u (object_or_array h) (single only) ab ba r p q = grind (arith, true≢false)
 only_top t a b u (object_or_array h) (object_or_array k) ab ba r p q = absurd (true≢false (sym (ap (λ (x : Bool). x && is_reference b) h ∙ k) ∙ r))
 
 -- how the references stand to one another
@@ -149,23 +121,19 @@ data Reference : Ty → Type 0 where
 
 above_booleans : (t : ClassTable) (u : Ty) → is_below t ArrBool u ≡ true → (u ≡ ArrBool) ⊎ (is_above_arrays t u ≡ true)
 unfolding is_below
-above_booleans t ArrBool h = inl refl
-above_booleans t u h = inr h
+above_booleans t u h = grind (arith)
 
 above_bytes : (t : ClassTable) (u : Ty) → is_below t ArrByte u ≡ true → (u ≡ ArrByte) ⊎ (is_above_arrays t u ≡ true)
 unfolding is_below
-above_bytes t ArrByte h = inl refl
-above_bytes t u h = inr h
+above_bytes t u h = grind (arith)
 
 above_shorts : (t : ClassTable) (u : Ty) → is_below t ArrShort u ≡ true → (u ≡ ArrShort) ⊎ (is_above_arrays t u ≡ true)
 unfolding is_below
-above_shorts t ArrShort h = inl refl
-above_shorts t u h = inr h
+above_shorts t u h = grind (arith)
 
 above_ints : (t : ClassTable) (u : Ty) → is_below t ArrInt u ≡ true → (u ≡ ArrInt) ⊎ (is_above_arrays t u ≡ true)
 unfolding is_below
-above_ints t ArrInt h = inl refl
-above_ints t u h = inr h
+above_ints t u h = grind (arith)
 
 reference_of : (a : Ty) → is_reference a ≡ true → Reference a
 reference_of (Class c) h = class
@@ -179,32 +147,19 @@ reference_of a h = absurd (false≢true h)
 -- what is above every array is above object
 object_is_below : (t : ClassTable) (u : Ty) → is_above_arrays t u ≡ true → is_below t (Class (object t)) u ≡ true
 unfolding is_below
-object_is_below t (Class d) h = subst (λ (x : ℕ). is_on_chain t x (object t) ≡ true) (sym (eqb-true d (object t) h)) (on_chain-here t (object t))
-object_is_below t Top h = refl
-object_is_below t u h = absurd (false≢true h)
+object_is_below t u h = grind (arith, eqb-true, on_chain-here, false≢true)
 
 -- what is above a class and an array is above every array
 above_class_array : (t : ClassTable) (c d : ℕ) (u : Ty) → is_below t (Class c) u ≡ true → is_below t (ArrRef d) u ≡ true
     → is_above_arrays t u ≡ true
 unfolding is_below
-above_class_array t c d (Class e) p q = q
-above_class_array t c d Top p q = refl
-above_class_array t c d u p q = absurd (false≢true p)
+above_class_array t c d u p q = grind (arith, false≢true)
 
 above_both : (t : ClassTable) (a b u : Ty) → AreOthers a b → Reference a → Reference b → is_below t a b ≡ false → is_below t b a ≡ false
     → is_below t a u ≡ true → is_below t b u ≡ true → is_above_arrays t u ≡ true
-above_both t a b u others (primitive k only) rb ab ba p q = elim (only t u p) [
-  | inl e ↦ absurd (true≢false (sym (subst (λ (x : Ty). is_below t b x ≡ true) e q) ∙ ba))
-  | inr h ↦ h
-]
-above_both t a b u others class (primitive k only) ab ba p q = elim (only t u q) [
-  | inl e ↦ absurd (true≢false (sym (subst (λ (x : Ty). is_below t a x ≡ true) e p) ∙ ab))
-  | inr h ↦ h
-]
-above_both t a b u others references (primitive k only) ab ba p q = elim (only t u q) [
-  | inl e ↦ absurd (true≢false (sym (subst (λ (x : Ty). is_below t a x ≡ true) e p) ∙ ab))
-  | inr h ↦ h
-]
+above_both t a b u others (primitive k only) rb ab ba p q = grind (arith, true≢false)
+above_both t a b u others class (primitive k only) ab ba p q = grind (arith, true≢false)
+above_both t a b u others references (primitive k only) ab ba p q = grind (arith, true≢false)
 above_both t (Class c) (ArrRef d) u others class references ab ba p q = above_class_array t c d u p q
 above_both t (ArrRef d) (Class c) u others references class ab ba p q = above_class_array t c d u q p
 above_both t a b u others class class ab ba p q = absurd others
@@ -244,10 +199,7 @@ others_is t are a b others ka kb false false false ab ba r =
 
 others_known : (t : ClassTable) → AreClasses t → (a b : Ty) → IsKnown t a → IsKnown t b → (x y z : Bool)
     → IsKnown t (if x then b else if y then a else if z then Class (object t) else Top)
-others_known t are a b ka kb true y z = kb
-others_known t are a b ka kb false true z = ka
-others_known t are a b ka kb false false true = are.objects
-others_known t are a b ka kb false false false = tt
+others_known t are a b ka kb x y z = grind (arith)
 
 -- ---- the join
 
@@ -267,17 +219,11 @@ join_of-known t are a b ka kb = others_known t are a b ka kb (is_below t a b) (i
 
 rises-most : (t : ClassTable) (b : Ty) → (b ≡ Bottom) ⊎ (rises_left t b ≤ height t + 2)
 unfolding rises_left
-rises-most t Bottom = inl refl
-rises-most t (Class c) = inr (omega (arith, chain-height t c))
-rises-most t (ArrRef c) = inr (omega (arith, chain-height t c))
-rises-most t b = inr (omega arith)
+rises-most t b = grind (arith, chain-height)
 
 rises-least : (t : ClassTable) (a : Ty) → (a ≡ Top) ⊎ (0 < rises_left t a)
 unfolding rises_left
-rises-least t Top = inl refl
-rises-least t (Class c) = inr (omega (arith, chain-not_empty t c))
-rises-least t (ArrRef c) = inr (omega (arith, chain-not_empty t c))
-rises-least t a = inr (omega arith)
+rises-least t a = grind (arith, chain-not_empty)
 
 null_falls : (t : ClassTable) {b : Ty} → IsArray b → rises_left t b < rises_left t Null
 unfolding rises_left
@@ -286,8 +232,7 @@ null_falls t k = omega (arith, chain-height t (object t), chain-not_empty t (obj
 
 array_falls : (t : ClassTable) → AreClasses t → {a : Ty} → IsArray a → rises_left t (Class (object t)) < rises_left t a
 unfolding rises_left
-array_falls t are (of_references {c}) = omega (arith, ap length (chain-alone t (object t) are.object_ends), chain-not_empty t c)
-array_falls t are k = omega (arith, ap length (chain-alone t (object t) are.object_ends))
+array_falls t are k = grind (arith, length, chain-alone, chain-not_empty)
 
 class_falls : (t : ClassTable) → AreClasses t → (c p : ℕ) → parent_of t c ≡ Some p → rises_left t (Class p) < rises_left t (Class c)
 unfolding rises_left
@@ -300,24 +245,19 @@ null_class_falls t c = omega (arith, chain-height t c)
 array_array_falls : (t : ClassTable) (c d : ℕ) → (Class c ≡ Class d) ⊎ (rises_left t (Class d) < rises_left t (Class c)) → (ArrRef c ≡ ArrRef d)
     ⊎ (rises_left t (ArrRef d) < rises_left t (ArrRef c))
 unfolding rises_left
-array_array_falls t c d (inl e) = let n : c ≡ d = cc in inl (ap (λ (x : ℕ). ArrRef x) n)
-array_array_falls t c d (inr lt) = inr (omega arith)
+array_array_falls t c d x = grind (arith)
 
 bottom_falls : (t : ClassTable) (b : Ty) → (b ≡ Bottom) ⊎ (rises_left t b ≤ height t + 2) → (Bottom ≡ b) ⊎ (rises_left t b < rises_left t Bottom)
 unfolding rises_left
-bottom_falls t b (inl e) = inl (sym e)
-bottom_falls t b (inr le) = inr (omega arith)
+bottom_falls t b x = grind (arith)
 
 top_falls : (t : ClassTable) (a : Ty) → (a ≡ Top) ⊎ (0 < rises_left t a) → (a ≡ Top) ⊎ (rises_left t Top < rises_left t a)
 unfolding rises_left
-top_falls t a (inl e) = inl e
-top_falls t a (inr lt) = inr lt
+top_falls t a x = grind (arith)
 
 falls-joined : (t : ClassTable) (a b c : Ty) → (a ≡ b) ⊎ (rises_left t b < rises_left t a) → (b ≡ c) ⊎ (rises_left t c < rises_left t b)
     → (a ≡ c) ⊎ (rises_left t c < rises_left t a)
-falls-joined t a b c (inl e) second = subst (λ (x : Ty). (x ≡ c) ⊎ (rises_left t c < rises_left t x)) (sym e) second
-falls-joined t a b c (inr lt) (inl e) = inr (subst (λ (x : Ty). rises_left t x < rises_left t a) e lt)
-falls-joined t a b c (inr lt) (inr le) = inr (omega arith)
+falls-joined t a b c x second = grind (arith)
 
 -- along the order a type stays or the number of rises that are left falls
 pub rises-falls : (t : ClassTable) → AreClasses t → {a b : Ty} → Below t a b → (a ≡ b) ⊎ (rises_left t b < rises_left t a)

@@ -1,5 +1,5 @@
 -- Numbers that lead to others, and the test that computes it.
-use Rattle.std.proofs.Common.{◌≡◌, ℕ, zero, suc, ◌<◌, ◌⊎◌, inl, inr, true, List, [], ◌∷◌, get_or, subst, arith}
+use Rattle.std.proofs.Common.{◌≡◌, ℕ, zero, suc, ◌<◌, ◌⊎◌, inl, inr, true, List, [], ◌∷◌, get_or, arith}
 use Rattle.std.specs.Prelude.{◌==◌, ◌&&◌, Contains}
 use Rattle.std.specs.List.{list_any}
 use Rattle.std.proofs.lemmas.Bool.{eqb-true, eq-eqb, false≢true, cases_lt, or_left, or_right, and_from, and_parts, or_cases}
@@ -14,9 +14,6 @@ any-contains (x ∷ xs) b e = elim (or_cases (x == b) (list_any (λ y. y == b) x
   | inr more ↦ Contains-append_right (x ∷ []) xs b (any-contains xs b more)
 ]
 
-pub contains-any : (xs : List ℕ) (b : ℕ) → Contains xs b → list_any (λ x. x == b) xs ≡ true
-contains-any xs b c = list_any_at (λ x. x == b) xs c.0 b c.1 (eq-eqb (get_or xs c.0 b) b c.2)
-
 -- ---- what leads to a number, and that to another
 
 pub Leads-join : {next : ℕ → List ℕ} {a b c : ℕ} → Leads next a b → Leads next b c → Leads next a c
@@ -24,9 +21,7 @@ Leads-join (at_once h) more = further h more
 Leads-join (further h rest) more = further h (Leads-join rest more)
 
 no-step : {xs : List ℕ} {b : ℕ} → xs ≡ [] → Contains xs b → ⊥
-no-step {b = b} e h =
-    let none : Contains [] b = subst (λ (ys : List ℕ). Contains ys b) e h in
-    absurd (omega (arith, none.1))
+no-step {b = b} e h = grind (arith)
 
 -- where each step of one kind is one of another
 pub Leads-along : {f g : ℕ → List ℕ} {a b : ℕ} → ((x y : ℕ) → Contains (f x) y → Contains (g x) y) → Leads f a b → Leads g a b
@@ -56,14 +51,13 @@ leads-sound next (suc n) a b e = elim (or_cases (leads_below next n a b) (leads_
 
 leads-step : (next : ℕ → List ℕ) (n a b : ℕ) → Contains (next a) b → leads_below next n a b ≡ true
 unfolding leads_below
-leads-step next zero a b h = contains-any (next a) b h
+leads-step next zero a b h = grind (arith, list_any_at, eq-eqb, get_or)
 leads-step next (suc n) a b h = or_left (leads_below next n a b) (leads_below next n a n && leads_below next n n b) (leads-step next n a b h)
 
 -- to n and from there
 over : (next : ℕ → List ℕ) (n a b : ℕ) → leads_below next n a n ≡ true → leads_below next n n b ≡ true → leads_below next (suc n) a b ≡ true
 unfolding leads_below
-over next n a b e f =
-    or_right (leads_below next n a b) (leads_below next n a n && leads_below next n n b) (and_from (leads_below next n a n) (leads_below next n n b) e f)
+over next n a b e f = grind (arith, or_right, and_from)
 
 below : (next : ℕ → List ℕ) (n a b : ℕ) → leads_below next n a b ≡ true → leads_below next (suc n) a b ≡ true
 unfolding leads_below
@@ -73,10 +67,7 @@ below next n a b e = or_left (leads_below next n a b) (leads_below next n a n &&
 parts : (next : ℕ → List ℕ) (n a b : ℕ) → leads_below next (suc n) a b ≡ true → (leads_below next n a b ≡ true)
     ⊎ ((leads_below next n a n ≡ true) × (leads_below next n n b ≡ true))
 unfolding leads_below
-parts next n a b e = elim (or_cases (leads_below next n a b) (leads_below next n a n && leads_below next n n b) e) [
-  | inl h ↦ inl h
-  | inr h ↦ inr (and_parts (leads_below next n a n) (leads_below next n n b) h)
-]
+parts next n a b e = grind (arith, or_cases, and_parts)
 
 -- to n, and from n
 to_last : (next : ℕ → List ℕ) (n a : ℕ) → leads_below next (suc n) a n ≡ true → leads_below next n a n ≡ true

@@ -1,9 +1,8 @@
 -- Reading what holds of the elements of a list at one of them.
-use Rattle.std.proofs.Common.{◌≡◌, ℕ, zero, suc, ◌+◌, ◌-◌, ◌<◌, ◌≤◌, List, [], ◌∷◌, ◌++◌, length, reverse, Option, Some, drop, take}
-use Rattle.std.proofs.Common.{None, sym, ap, subst, arith, refl, set}
+use Rattle.std.proofs.Common.{◌≡◌, ℕ, zero, suc, ◌+◌, ◌<◌, ◌≤◌, List, [], ◌∷◌, ◌++◌, length, reverse, Option, Some, drop, take}
+use Rattle.std.proofs.Common.{sym, ap, subst, arith, refl, set}
 use Rattle.std.specs.Prelude.{All, IfSome, slice_get, sum_by, IsSomeAnd}
 use Rattle.jc_base.specs.declared.ty.Kind.{Kind}
-use Rattle.jc_base.specs.declared.ty.Kind.TheVariants.{Int}
 use Rattle.jc_base.specs.declared.record.StaticRec.{StaticRec}
 use Rattle.jc_base.specs.Cell.{width}
 use Rattle.std.proofs.lemmas.List.{length-reverse, reverse-reverse, get_or-reverse}
@@ -19,15 +18,11 @@ All-slice_get P (y ∷ ys) zero x all e =
 All-slice_get P (y ∷ ys) (suc n) x all e = All-slice_get P ys n x (All-tail P y ys all) e
 
 pub IfSome-is : {X : Type 0} (P : X → Type 0) (o : Option X) (x : X) → IfSome o P → o ≡ Some x → P x
-IfSome-is P None x h e = absurd cc
-IfSome-is P (Some y) x h e =
-    let same : y ≡ x = cc in
-    subst P same h
+IfSome-is x x2 x22 h e = grind (arith)
 
 -- a value of which something holds
 pub IsSomeAnd-some : {X : Type 0} (P : X → Type 0) (o : Option X) → IsSomeAnd o P → (x : X) × (o ≡ Some x) × P x
-IsSomeAnd-some P (Some x) h = (x, refl, h)
-IsSomeAnd-some P None h = absurd h
+IsSomeAnd-some x x2 h = grind (arith)
 
 pub IsSomeAnd-from : {X : Type 0} (P : X → Type 0) (o : Option X) (x : X) → o ≡ Some x → P x → IsSomeAnd o P
 IsSomeAnd-from {X} P o x e h = subst (λ (p : Option X). IsSomeAnd p P) (sym e) h
@@ -45,9 +40,7 @@ slice_get-front (y ∷ xs) ys zero x e = e
 slice_get-front (y ∷ xs) ys (suc n) x e = slice_get-front xs ys n x e
 
 pub slice_get-farther : {X : Type 0} (xs ys : List X) (k n : ℕ) → n ≡ length xs + k → slice_get (xs ++ ys) n ≡ slice_get ys k
-slice_get-farther [] ys k n e =
-    let same : n ≡ k = omega arith in
-    ap (slice_get ys) same
+slice_get-farther [] ys k n e = grind (arith)
 slice_get-farther (x ∷ xs) ys k zero e = absurd (omega arith)
 slice_get-farther (x ∷ xs) ys k (suc n) e =
     let less : n ≡ length xs + k = omega arith in
@@ -73,16 +66,13 @@ slice_get-set_other (y ∷ ys) (suc i) (suc j) x ne = slice_get-set_other ys i j
 
 -- what holds of each element, last first
 pub All-reverse : {X : Type 0} (P : X → Type 0) (xs : List X) → All P xs → All P (reverse xs)
-All-reverse P xs all k d lt =
-    let inside : k < length xs = omega (arith, lt, length-reverse xs) in
-    subst P (sym (get_or-reverse xs k d inside)) (all (length xs - 1 - k) d (omega arith))
+All-reverse P xs all k d lt = grind (arith, length, length-reverse, get_or-reverse)
 
 pub All-turned : {X : Type 0} (P : X → Type 0) (xs : List X) → All P (reverse xs) → All P xs
 All-turned P xs all = subst (All P) (reverse-reverse xs) (All-reverse P (reverse xs) all)
 
 one_at_least : (k : Kind) → 1 ≤ width k
-one_at_least Int = omega arith
-one_at_least kind = omega arith
+one_at_least kind = grind (arith)
 
 -- each static field takes a cell
 pub statics_fit : (fs : List StaticRec) → length fs ≤ sum_by (λ f. width f.kind) fs

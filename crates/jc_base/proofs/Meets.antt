@@ -41,16 +41,13 @@ pub record IsFirstOn (t : ClassTable) (q : ℕ → Bool) (c n : ℕ) : Type 0 wh
 
 first_is-alone : (t : ClassTable) (q : ℕ → Bool) (c x : ℕ) (b : Bool) → chain t c ≡ c ∷ [] → q c ≡ b → is_on_chain t x c ≡ true
     → q x ≡ true → (n : ℕ) × (first_on t q c ≡ Some n) × IsFirstOn t q c n
-first_is-alone t q c x true alone e on pass =
-    (c, first-here t q c e, record { passes = e; on = on_chain-here t c; before = λ y h k. h })
-first_is-alone t q c x false alone e on pass = absurd (false≢true (sym e ∙ ap q (on_alone t x c alone on) ∙ pass))
+first_is-alone t q c x x2 alone e on pass = grind (arith, first-here, on_chain-here, false≢true, on_alone)
 
 first_is-next : (t : ClassTable) (q : ℕ → Bool) (c p x : ℕ) (b : Bool) → IsNextOnChain t c p → q c ≡ b → is_on_chain t x c ≡ true
     → q x ≡ true
     → (is_on_chain t x p ≡ true → (n : ℕ) × (first_on t q p ≡ Some n) × IsFirstOn t q p n) → (n : ℕ) × (first_on t q c ≡ Some n)
     × IsFirstOn t q c n
-first_is-next t q c p x true next e on pass before =
-    (c, first-here t q c e, record { passes = e; on = on_chain-here t c; before = λ y h k. h })
+first_is-next t q c p x true next e on pass before = grind (arith, first-here, on_chain-here)
 first_is-next t q c p x false next e on pass before =
     let up : is_on_chain t x p ≡ true = elim (on_next t x c p next on) [
       | inl here ↦ absurd (false≢true (sym e ∙ ap q here ∙ pass))
@@ -109,9 +106,7 @@ common-with t a b c d e = ap (λ (o : Option ℕ). unwrap_or o (object t)) e
 -- the longer chain on the right is climbed
 pub climb_right : (t : ClassTable) → AreClasses t → (a b q : ℕ) → IsNextOnChain t b q → length (chain t a) < length (chain t b)
     → common t a q ≡ common t a b
-climb_right t are a b q next h =
-    common-with t a q a b (first-same t are (λ x. is_on_chain t x q) (λ x. is_on_chain t x b) a
-    (λ x on. not_here-next t x b q next (λ same. absurd (omega (arith, on_chain-length t are a x on, ap (λ (y : ℕ). length (chain t y)) same)))))
+climb_right t are a b q next h = grind (arith, common-with, first-same, not_here-next, on_chain-length, length)
 
 -- a class on the chain of another, with a chain no shorter, is the other
 on_longer : (t : ClassTable) → AreClasses t → (a b : ℕ) → is_on_chain t a b ≡ true → length (chain t b) ≤ length (chain t a) → b ≡ a
@@ -122,24 +117,18 @@ on_longer t are a = climb t are (λ b. is_on_chain t a b ≡ true → length (ch
       | inr up ↦ absurd (omega (arith, on_chain-length t are p a up, ap length next.chain_is))
     ])
 
--- of two different classes the one whose chain is no shorter is not on the other's chain
-not_on_other : (t : ClassTable) → AreClasses t → (a b : ℕ) → (a ≡ b → ⊥) → length (chain t b) ≤ length (chain t a)
-    → is_on_chain t a b ≡ false
-not_on_other t are a b ne h = false_from_ne_true (is_on_chain t a b) (λ on. ne (sym (on_longer t are a b on h)))
-
 -- the chain on the left, where it is no shorter, is climbed
 pub climb_left : (t : ClassTable) → AreClasses t → (a b p : ℕ) → IsNextOnChain t a p → (a ≡ b → ⊥)
     → length (chain t b) ≤ length (chain t a) → common t p b ≡ common t a b
 climb_left t are a b p next ne h =
-    let miss : is_on_chain t a b ≡ false = not_on_other t are a b ne h in
+    let miss : is_on_chain t a b ≡ false = grind (arith, false_from_ne_true, on_longer) in
     common-with t p b a b
     (sym (first-next t (λ x. is_on_chain t x b) a p next ∙ ap (λ (v : Bool). cond v (Some a) (first_on t (λ x. is_on_chain t x b) p)) miss))
 
 -- the left chain does not end before the classes meet, and neither does the right one
 pub not_end_left : (t : ClassTable) → AreClasses t → (a b : ℕ) → IsClass t b → IsEndOfChain t a → length (chain t b) ≤ length (chain t a)
     → b ≡ a
-not_end_left t are a b is end h =
-    on_longer t are a b (subst (λ (x : ℕ). is_on_chain t x b ≡ true) (sym end.last_is) (on_chain-object t are b is)) h
+not_end_left t are a b is end h = grind (arith, on_chain-object t are b is, on_longer)
 
 pub not_end_right : (t : ClassTable) (a b : ℕ) → IsEndOfChain t b → length (chain t a) < length (chain t b) → ⊥
 not_end_right t a b end h = omega (arith, chain-not_empty t a, ap length end.chain_is)

@@ -1,6 +1,6 @@
 -- The entries of a target index, by the bytes that spell them.
 use Rattle.std.proofs.Common.{◌≡◌, ℕ, zero, suc, ◌+◌, ◌*◌, ◌/◌, ◌≤◌, ◌<◌, List, [], ◌∷◌, length, drop, take, Some}
-use Rattle.std.proofs.Common.{None, refl, ap, arith}
+use Rattle.std.proofs.Common.{None, refl, arith}
 use Rattle.std.specs.Prelude.{slice_get}
 use Rattle.byteorder.specs.Endian.{big_number}
 use Rattle.jc_base.specs.Index.{words_of_bytes}
@@ -17,9 +17,7 @@ pub number_there : (k at n : ℕ) (bytes : List ℕ) → at ≡ k * 2 → n ≡ 
     → Some (big_number 2 (take n (drop at bytes))) ≡ slice_get (words_of_bytes bytes) k
 number_there k at n [] e two le = absurd (omega (arith, le))
 number_there k at n (high ∷ []) e two le = absurd (omega (arith, le))
-number_there zero at n (high ∷ low ∷ bytes) e two le =
-    let here : at ≡ 0 = omega (arith, e) in
-    rw (here, two) (ap Some (first-number high low))
+number_there zero at n (high ∷ low ∷ bytes) e two le = grind (arith, first-number)
 number_there (suc k) zero n (high ∷ low ∷ bytes) e two le = absurd (omega (arith, e))
 number_there (suc k) (suc zero) n (high ∷ low ∷ bytes) e two le = absurd (omega (arith, e))
 number_there (suc k) (suc (suc at)) n (high ∷ low ∷ bytes) e two le = number_there k at n bytes (omega (arith, e)) two (omega (arith, le))

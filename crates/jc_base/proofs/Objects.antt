@@ -1,4 +1,5 @@
 -- Every class is below object, an instance begins with what its superclasses have, and runs a method at their public tokens.
+use Rattle.std.proofs.Common.{arith}
 use Rattle.std.proofs.Common.{ℕ, List}
 use Rattle.jc_base.specs.declared.ty.Ty.TheVariants.{Class}
 use Rattle.jc_base.specs.declared.record.MethodRec.{MethodRec}
@@ -19,9 +20,7 @@ pub classes-are_objects : (t : ClassTable) → AreClasses t → ClassesAreObject
 classes-are_objects t are = object-above t are
 
 pub instances-extend : (t : ClassTable) → AreClasses t → InstancesExtend t
-instances-extend t are = λ c d below.
-    let cells = cells-on_chain t are c d (on_chain-from_Below t are c d below) in
-    record { more = cells.0; whole = cells.1 }
+instances-extend t are = grind (arith, cells-on_chain, on_chain-from_Below)
 
 pub public-methods_run : (packages : ℕ) (t : ClassTable) (methods : List MethodRec) → AreClasses t → AreLinkedClasses packages t methods
     → PublicMethodsRun t methods

@@ -1,5 +1,5 @@
 -- The order of types and its joins, and types that are declared.
-use Rattle.jc_base.specs.declared.ty.Ty.TheVariants.{Bottom, Null, Fresh, Top}
+use Rattle.std.proofs.Common.{arith}
 use Rattle.jc_base.specs.Class.{ClassTable, AreClasses}
 use Rattle.jc_base.specs.Laws.{IsOrderOfTypes, DeclaredAreKnown}
 use Rattle.jc_base.proofs.Subtypes.{below_decided}
@@ -17,8 +17,4 @@ order-of-types t are = record {
 }
 
 pub declared-known : (t : ClassTable) → DeclaredAreKnown t
-declared-known t Bottom h = absurd h
-declared-known t Null h = absurd h
-declared-known t (Fresh place c) h = absurd h
-declared-known t Top h = absurd h
-declared-known t ty h = h
+declared-known t ty h = grind (arith)

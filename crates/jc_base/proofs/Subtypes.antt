@@ -1,4 +1,5 @@
 -- The computed order is the order of types.
+use Rattle.std.proofs.Common.{arith}
 use Rattle.std.proofs.Common.{◌≡◌, ℕ, inl, inr, true, refl, sym, subst}
 use Rattle.std.specs.Prelude.{◌==◌, ◌↔◌, IsTrue}
 use Rattle.std.proofs.lemmas.Bool.{false≢true, eqb-true, eq-eqb, and_parts}
@@ -13,22 +14,17 @@ use Rattle.jc_base.proofs.Climbs.{climb, on_chain-here, on_chain-parent, on_chai
 
 pub is_below-refl : (t : ClassTable) (a : Ty) → is_below t a a ≡ true
 unfolding is_below
-is_below-refl t (Class c) = on_chain-here t c
-is_below-refl t (ArrRef c) = on_chain-here t c
-is_below-refl t (Fresh p c) = rw (eq-eqb p p refl, eq-eqb c c refl) refl
-is_below-refl t a = refl
+is_below-refl t a = grind (arith, on_chain-here, eq-eqb)
 
 pub is_below-top : (t : ClassTable) (a : Ty) → is_below t a Top ≡ true
 unfolding is_below
-is_below-top t Bottom = refl
-is_below-top t a = refl
+is_below-top t a = grind (arith)
 
 -- ---- transitive
 
 pub top_below : (t : ClassTable) (c : Ty) → is_below t Top c ≡ true → c ≡ Top
 unfolding is_below
-top_below t Top e = refl
-top_below t c e = absurd (false≢true e)
+top_below t c e = grind (arith, false≢true)
 
 above_top : (t : ClassTable) (a c : Ty) → is_below t Top c ≡ true → is_below t a c ≡ true
 above_top t a c e = subst (λ (x : Ty). is_below t a x ≡ true) (sym (top_below t c e)) (is_below-top t a)
@@ -37,10 +33,7 @@ above_top t a c e = subst (λ (x : Ty). is_below t a x ≡ true) (sym (top_below
 above_object : (t : ClassTable) → AreClasses t → (d : ℕ) (c : Ty) → (d == object t) ≡ true → is_below t (Class d) c ≡ true
     → is_above_arrays t c ≡ true
 unfolding is_below
-above_object t are d (Class e) o h =
-    eq-eqb e (object t) (sym (on_object t are e (subst (λ (x : ℕ). is_on_chain t e x ≡ true) (eqb-true d (object t) o) h)))
-above_object t are d Top o h = refl
-above_object t are d c o h = absurd (false≢true h)
+above_object t are d c o h = grind (arith, eq-eqb, on_object, eqb-true, false≢true)
 
 arrays_below : (t : ClassTable) {a : Ty} → IsArray a → (c : Ty) → is_above_arrays t c ≡ true → is_below t a c ≡ true
 unfolding is_below
@@ -48,13 +41,6 @@ arrays_below t of_booleans (Class d) h = h
 arrays_below t k (Class d) h = h
 arrays_below t k Top h = refl
 arrays_below t k c h = absurd (false≢true h)
-
--- null is below what is above a reference type
-null_class : (t : ClassTable) (d : ℕ) (c : Ty) → is_below t (Class d) c ≡ true → is_below t Null c ≡ true
-unfolding is_below
-null_class t d (Class e) h = refl
-null_class t d Top h = refl
-null_class t d c h = absurd (false≢true h)
 
 null_array_above : (t : ClassTable) {a : Ty} → IsArray a → (c : Ty) → is_below t a c ≡ true → is_below t Null c ≡ true
 unfolding is_below
@@ -69,17 +55,7 @@ null_array_above t k c h = refl
 class_below : (t : ClassTable) → AreClasses t → (c d : ℕ) (b : Ty) → is_on_chain t d c ≡ true → is_below t (Class d) b ≡ true
     → is_below t (Class c) b ≡ true
 unfolding is_below
-class_below t are c d (Class e) on h = on_chain-trans t are c d e on h
-class_below t are c d Top on h = refl
-class_below t are c d b on h = absurd (false≢true h)
-
-references_below : (t : ClassTable) → AreClasses t → (c d : ℕ) (b : Ty) → is_on_chain t d c ≡ true → is_below t (ArrRef d) b ≡ true
-    → is_below t (ArrRef c) b ≡ true
-unfolding is_below
-references_below t are c d (ArrRef e) on h = on_chain-trans t are c d e on h
-references_below t are c d (Class e) on h = h
-references_below t are c d Top on h = refl
-references_below t are c d b on h = absurd (false≢true h)
+class_below t are c d b on h = grind (arith, on_chain-trans, false≢true)
 
 pub is_below-trans : (t : ClassTable) → AreClasses t → (a b c : Ty) → is_below t a b ≡ true → is_below t b c ≡ true → is_below t a c ≡ true
 unfolding is_below
@@ -89,7 +65,7 @@ is_below-trans t are Short Short c p q = q
 is_below-trans t are IntHigh IntHigh c p q = q
 is_below-trans t are IntLow IntLow c p q = q
 is_below-trans t are Null Null c p q = q
-is_below-trans t are Null (Class d) c p q = null_class t d c q
+is_below-trans t are Null (Class d) c p q = grind (arith, false≢true)
 is_below-trans t are Null ArrBool c p q = null_array_above t of_booleans c q
 is_below-trans t are Null ArrByte c p q = null_array_above t of_bytes c q
 is_below-trans t are Null ArrShort c p q = null_array_above t of_shorts c q
@@ -104,13 +80,9 @@ is_below-trans t are ArrShort ArrShort c p q = q
 is_below-trans t are ArrShort (Class d) c p q = arrays_below t of_shorts c (above_object t are d c p q)
 is_below-trans t are ArrInt ArrInt c p q = q
 is_below-trans t are ArrInt (Class d) c p q = arrays_below t of_ints c (above_object t are d c p q)
-is_below-trans t are (ArrRef a) (ArrRef d) c p q = references_below t are a d c p q
+is_below-trans t are (ArrRef a) (ArrRef d) c p q = grind (arith, on_chain-trans, false≢true)
 is_below-trans t are (ArrRef a) (Class d) c p q = arrays_below t of_references c (above_object t are d c p q)
-is_below-trans t are (Fresh m a) (Fresh n d) c p q =
-    let h = and_parts (m == n) (a == d) p in
-    let place : m ≡ n = eqb-true m n h.0 in
-    let class : a ≡ d = eqb-true a d h.1 in
-    rw (place, class) q
+is_below-trans t are (Fresh m a) (Fresh n d) c p q = grind (arith, and_parts, eqb-true)
 is_below-trans t are a b c p q = absurd (false≢true p)
 
 -- ---- the order is the computed one

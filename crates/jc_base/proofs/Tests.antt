@@ -1,5 +1,6 @@
 -- Tests of each element of a list, and of one, decide facts of them.
-use Rattle.std.proofs.Common.{◌≡◌, inl, inr, Bool, true, false, List, [], ◌∷◌, Some, refl, subst, sym}
+use Rattle.std.proofs.Common.{arith}
+use Rattle.std.proofs.Common.{◌≡◌, inl, inr, Bool, true, List, [], ◌∷◌, Some, refl, subst, sym}
 use Rattle.std.specs.Prelude.{All, find}
 use Rattle.std.specs.List.{list_all, list_any}
 use Rattle.std.proofs.lemmas.Bool.{false≢true, or_cases, and_parts, or_left, or_right, and_from}
@@ -34,13 +35,7 @@ test-from_some p (y ∷ ys) x (inr later) h = or_right (p y) (list_any p ys) (te
 found-by : {X : Type 0} (p : X → Bool) (x : X) (xs : List X) (a : X) (b : Bool) → p x ≡ b
     → (find p xs ≡ Some a → (p a ≡ true) × IsAmong a xs) → find p (x ∷ xs) ≡ Some a
     → (p a ≡ true) × IsAmong a (x ∷ xs)
-found-by p x xs a true e rest h =
-    let here : Some x ≡ Some a = rw e at h in
-    let same : x ≡ a = cc in
-    (subst (λ y. p y ≡ true) same e, inl same)
-found-by p x xs a false e rest h =
-    let later = rest (rw e at h) in
-    (later.0, inr later.1)
+found-by p x xs a x2 e rest h = grind (arith)
 
 -- what a search finds passes the test, and is one of the elements
 pub found-passes : {X : Type 0} (p : X → Bool) (xs : List X) (a : X) → find p xs ≡ Some a → (p a ≡ true) × IsAmong a xs
@@ -48,6 +43,4 @@ found-passes p [] a h = absurd cc
 found-passes p (x ∷ xs) a h = found-by p x xs a (p x) refl (found-passes p xs a) h
 
 pub same_truth : (b d : Bool) → (b ≡ true → d ≡ true) → (d ≡ true → b ≡ true) → b ≡ d
-same_truth true d f g = sym (f refl)
-same_truth false true f g = g refl
-same_truth false false f g = refl
+same_truth x d f g = grind (arith)

@@ -1,5 +1,5 @@
 ghost use Rattle.std.specs.Prelude.{◌≡◌, ◌+◌, ◌==◌, ◌&&◌, ◌↔◌, ◌≤◌, length, IsTrue};
-ghost use Rattle.jc_base.specs.Class.{IsClass, chain, height, object};
+ghost use Rattle.jc_base.specs.Class.{IsClass, chain, height};
 ghost use Rattle.jc_base.specs.Order.{Below, IsJoin, IsKnown, StaysOrRises, IsAntisymmetric, IsMonotone, rises_left, is_below, is_on_chain, is_reference, is_above_arrays, common, join_of, join_of_others};
 
 use crate::class::Classes;
