@@ -9,7 +9,7 @@ use Rattle.jc_decode.specs.declared.layout.Layout.{Layout}
 use Rattle.jc_decode.specs.declared.insn.CodeEnd.{CodeEnd}
 use Rattle.jc_decode.specs.declared.insn.Insn.{Insn}
 use Rattle.jc_decode.specs.Layout.{operand_width, total_width, layout_of}
-use Rattle.jc_decode.specs.Decoding.{◌>>=◌, or_cut, within_bytes, keys_rise, pairs_end}
+use Rattle.jc_decode.specs.Decoding.{◌>>=◌, or_cut, within_bytes, pairs_end}
 use Rattle.jc_decode.specs.Decoding.{pair_width, range_end, range_count, bad_operand, operand_at}
 use Rattle.jc_decode.specs.Decoding.{table_end, end_of_cases, decoded, Begins, IsWithin}
 
@@ -28,13 +28,9 @@ reached-ok xs end e h = grind arith
 pub reached-within : (xs : List ℕ) (end : ℕ) → end ≤ length xs → within_bytes xs end ≡ Ok end
 reached-within xs end h = grind arith
 
--- a table ends after its beginning, and within the bytes
-pub keys_rise-ok : (key : Operand) (xs : List ℕ) (table end : ℕ) (o : Option ℕ) (e : ℕ) → keys_rise key xs table end o ≡ Ok e → e ≡ end
-keys_rise-ok key xs table end v e h = grind (arith)
-
 pub pairs_end-ok : (key : Operand) (xs : List ℕ) (table count e : ℕ) → pairs_end key xs table count ≡ Ok e
     → (e ≡ table + pair_width key * count) × (e ≤ length xs)
-pairs_end-ok key xs table count e h = grind (arith, bind-ok, keys_rise-ok, reached-ok)
+pairs_end-ok key xs table count e h = grind (arith, bind-ok, reached-ok)
 
 pub range_end-ok : (bound : Operand) (xs : List ℕ) (table : ℕ) (low high : ℤ) (e : ℕ) → range_end bound xs table low high ≡ Ok e
     → (e ≡ table + 2 * range_count low high) × (e ≤ length xs)

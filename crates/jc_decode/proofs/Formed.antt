@@ -2,9 +2,6 @@
 use Rattle.std.proofs.Common.{◌≡◌, ◌∙◌, ◌<◌, ◌≤◌, ◌+◌, ◌-◌, ◌/◌, ◌%◌, ℕ, zero, suc, Bool, true, false, cond, Result, Ok}
 use Rattle.std.proofs.Common.{Err, refl, sym, ap, arith}
 use Rattle.std.specs.Prelude.{ℤ, pos, unsigned_abs, not, ◌&&◌, ◌||◌, ◌==◌, nat_le, map, replicate}
-use Rattle.std.proofs.Common.{subst}
-use Rattle.std.proofs.Common.{rules}
-use Rattle.std.specs.Prelude.{negsuc}
 use Rattle.std.specs.List.{range_with_len}
 use Rattle.std.proofs.lemmas.Bool.{eqb-true, not-true, or_parts, and_parts}
 use Rattle.std.proofs.lemmas.Bool.Decides.{nat_tests}
@@ -69,9 +66,6 @@ absent-is x v h a = grind (arith)
 pub absent-allows : (o : Operand) → is_absent o ≡ true → Allows o (pos 0)
 absent-allows x h = grind (arith)
 
-byte-is : (o : Operand) (v : ℤ) → is_byte o ≡ true → Allows o v → pos (unsigned_abs v) ≡ v
-byte-is x v h a = grind (arith)
-
 pub byte-allows : (o : Operand) (r : ℕ) → is_byte o ≡ true → r < 256 → Allows o (pos r)
 byte-allows U1 r h lt = (lt, refl)
 byte-allows _ r h lt = absurd (cc)
@@ -91,7 +85,7 @@ record IsNamed (i : Insn) : Type 0 where
   pub z : i.z ≡ pos 0
 
 IsNamed-allowed : (i : Insn) (r : Result Layout CodeEnd) → has_byte r ≡ true → AllowsBy i r → IsNamed i
-IsNamed-allowed i y h a = grind (arith, and_parts, byte-is, absent-is)
+IsNamed-allowed i y h a = grind (arith, and_parts, absent-is)
 
 AllowsBy-none : (i : Insn) (r : Result Layout CodeEnd) → has_none r ≡ true → i.x ≡ pos 0 → i.y ≡ pos 0 → i.z ≡ pos 0 → AllowsBy i r
 AllowsBy-none i y h x y2 z = grind (arith, and_parts, absent-allows)
@@ -110,23 +104,11 @@ is_short n op =
     && ((cond (is_load_n (first_short op + n)) (21 + (first_short op + n - 24) / 4) (40 + (first_short op + n - 43) / 4) == op)
     && (cond (is_load_n (first_short op + n)) ((first_short op + n - 24) % 4) ((first_short op + n - 43) % 4) == n)))
 
-is_short-all0 : map (is_short 0) (range_with_len 0 256) ≡ replicate 256 true
-is_short-all0 = refl
-
-is_short-all1 : map (is_short 1) (range_with_len 0 256) ≡ replicate 256 true
-is_short-all1 = refl
-
-is_short-all2 : map (is_short 2) (range_with_len 0 256) ≡ replicate 256 true
-is_short-all2 = refl
-
-is_short-all3 : map (is_short 3) (range_with_len 0 256) ≡ replicate 256 true
-is_short-all3 = refl
-
 is_short-at : (n op : ℕ) → n ≤ 3 → op < 256 → is_short n op ≡ true
-is_short-at zero op few h = passed-at (is_short 0) is_short-all0 op h
-is_short-at (suc zero) op few h = passed-at (is_short 1) is_short-all1 op h
-is_short-at (suc (suc zero)) op few h = passed-at (is_short 2) is_short-all2 op h
-is_short-at (suc (suc (suc zero))) op few h = passed-at (is_short 3) is_short-all3 op h
+is_short-at zero op few h = grind (arith, passed-at)
+is_short-at (suc zero) op few h = grind (arith, passed-at)
+is_short-at (suc (suc zero)) op few h = grind (arith, passed-at)
+is_short-at (suc (suc (suc zero))) op few h = grind (arith, passed-at)
 is_short-at (suc (suc (suc (suc n)))) op few h = absurd (omega arith)
 
 IsShort-at : (op n : ℕ) → op < 256 → names_register op ≡ true → n ≤ 3 → IsShort op n (first_short op + n)

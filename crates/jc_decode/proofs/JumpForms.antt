@@ -1,7 +1,7 @@
 -- Jumps in their forms, and switches with another default.
 use Rattle.std.proofs.Common.{◌≡◌, ◌∙◌, ◌<◌, ◌+◌, ◌-◌, ℕ, Bool, true, false, cond, Result, Ok, Err, refl, sym, arith}
 use Rattle.std.specs.Prelude.{ℤ, pos, FitsSigned, not, ◌&&◌, ◌||◌, ◌==◌, map, replicate}
-use Rattle.std.specs.Int.{w8, w16}
+use Rattle.std.specs.Int.{w16}
 use Rattle.std.specs.List.{range_with_len}
 use Rattle.std.proofs.lemmas.Bool.Decides.{nat_tests}
 use Rattle.std.proofs.lemmas.Int.{ints}
@@ -72,11 +72,8 @@ IsJump-form : (two : Bool) (op : ℕ) → is_wide_jump op ≡ true → IsJump tw
 IsJump-form two op h =
     grind (arith, or-rest (is_wide_jump op) _ (is_jump-at two op h) h, cond two op (op - 56), and_parts, not-true, eqb-true)
 
-near-fits : (d : ℤ) → is_near d ≡ true → FitsSigned w8 d
-near-fits d h = grind (arith, ints)
-
 offset-allows : (two : Bool) (o : Operand) (d : ℤ) → is_offset two o ≡ true → (two ≡ false → is_near d ≡ true) → FitsSigned w16 d → Allows o d
-offset-allows two y d h near fits = grind (arith, near-fits)
+offset-allows two y d h near fits = grind (arith, ints)
 
 pub jump-allowed : (op : ℕ) (two : Bool) (d : ℤ) → is_wide_jump op ≡ true → (two ≡ false → is_near d ≡ true) → FitsSigned w16 d
     → IsAllowed (jump_to op two d)

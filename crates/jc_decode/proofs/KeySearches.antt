@@ -116,9 +116,6 @@ bits-apart a b fits_a fits_b apart = by_test (cast_unsigned w32 a == cast_unsign
           | inr more ↦ absurd (omega (arith, ints, more, same))
         ]
 
-same-bits : (a b : ℤ) → a ≡ b → (cast_unsigned w32 a == cast_unsigned w32 b) ≡ true
-same-bits a b e = rw e (grind (arith, nat_tests))
-
 module _ (f : ℕ → Case) (count : ℕ) (fits : (n : ℕ) → n < count → FitsSigned w32 (f n).key) (key : ℤ) (fits_key : FitsSigned w32 key) where
   pub no-case : ((n : ℕ) → n < count → ((f n).key <ℤ key) ⊎ (key <ℤ (f n).key)) → find (has_key key) (map f (range_with_len 0 count)) ≡ None
   no-case apart = grind (arith, find-nowhere, bits-apart)
@@ -126,7 +123,7 @@ module _ (f : ℕ → Case) (count : ℕ) (fits : (n : ℕ) → n < count → Fi
   pub one-case : (m : ℕ) → m < count → (f m).key ≡ key → ((n : ℕ) → n < m → (f n).key <ℤ key)
       → find (has_key key) (map f (range_with_len 0 count)) ≡ Some (f m)
   one-case m inside same before =
-      find-here (has_key key) f 0 count m (omega arith) (omega (arith, inside)) (same-bits (f m).key key same)
+      find-here (has_key key) f 0 count m (omega arith) (omega (arith, inside)) (grind (arith, nat_tests))
       (λ n lo hi. bits-apart (f n).key key (fits n (omega (arith, hi, inside))) fits_key (inl (before n hi)))
 
 -- each key before one is lesser

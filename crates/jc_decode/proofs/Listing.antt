@@ -14,9 +14,6 @@ listed-same : (at : ℕ) (r : Result Insn CodeEnd) (f g : ℕ → List Placed)
     → ((i : Insn) → r ≡ Ok i → f (at + i.len) ≡ g (at + i.len)) → listed at r f ≡ listed at r g
 listed-same at y f g same = grind (arith)
 
-listed-none : (at : ℕ) (r : Result Insn CodeEnd) (f : ℕ → List Placed) → ((i : Insn) → r ≡ Ok i → ⊥) → listed at r f ≡ []
-listed-none at y f never = grind (arith)
-
 -- past the end nothing is decoded
 none_past : (code : List ℕ) (at : ℕ) → length code ≤ at → (i : Insn) → decoded code at ≡ Ok i → ⊥
 none_past code at past i h = let w = IsWithin-decoded code at i h in omega (arith, w.one, w.reaches)
@@ -24,7 +21,7 @@ none_past code at past i h = let w = IsWithin-decoded code at i h in omega (arit
 -- where as many instructions are allowed as bytes are left, one more changes nothing
 at_most-enough : (n : ℕ) (code : List ℕ) (at : ℕ) → length code ≤ at + n → at_most (suc n) code at ≡ at_most n code at
 unfolding at_most
-at_most-enough zero code at h = listed-none at (decoded code at) (at_most zero code) (none_past code at (omega arith))
+at_most-enough zero code at h = grind (arith, zero, none_past)
 at_most-enough (suc n) code at h =
     listed-same at (decoded code at) (at_most (suc n) code) (at_most n code)
     (λ i e. let w = IsWithin-decoded code at i e in at_most-enough n code (at + i.len) (omega (arith, w.one)))

@@ -21,8 +21,8 @@ use Rattle.jc_decode.specs.declared.insn.CodeEnd.{CodeEnd}
 use Rattle.jc_decode.specs.declared.insn.Insn.{Insn}
 use Rattle.jc_decode.specs.Layout.{operand_width, total_width}
 use Rattle.cap_bytes.specs.Bytes.{AreBytes}
-use Rattle.jc_decode.specs.Decoding.{value, operand_number, operand_at, end_of_cases, decoded, Begins}
-use Rattle.jc_decode.specs.Encoding.{bits, operand_bytes, table_bytes, encoding, encoding_by}
+use Rattle.jc_decode.specs.Decoding.{operand_at, end_of_cases, decoded, Begins}
+use Rattle.jc_decode.specs.Encoding.{operand_bytes, table_bytes, encoding, encoding_by}
 use Rattle.jc_decode.proofs.Decoded.{Begins-decoded, from_bind, or_cut-ok, ok-same, table_end-ok}
 use Rattle.jc_decode.proofs.Ranges.{number_of-fits, allowed-value}
 
@@ -81,17 +81,10 @@ number_at-bytes w at n xs bytes h = by_reach (nat_le (at + w) (length xs)) refl 
         ap (big_bytes w) (sym e) ∙ bytes-number w 0 (drop at xs) (AreBytes-drop at xs bytes) room
     by_reach false reach h = absurd (cc)
 
-number_of-bytes : (o : Operand) (at n : ℕ) (xs : List ℕ) → AreBytes xs → operand_number o xs at ≡ Some n
-    → big_bytes (operand_width o) n ≡ take (operand_width o) (drop at xs)
-number_of-bytes x at n xs bytes h = grind (arith, number_at-bytes)
-
-bits-same : (o : Operand) (n : ℕ) → n < 256 ^ operand_width o → bits o (value o n) ≡ n
-bits-same x n h = grind (arith, of_z-to_z)
-
 -- an operand that is read is written as its bytes
 pub operand-bytes : (o : Operand) (xs : List ℕ) (at : ℕ) (v : ℤ) → AreBytes xs → operand_at o xs at ≡ Ok v
     → operand_bytes o v ≡ take (operand_width o) (drop at xs)
-operand-bytes o xs at v bytes h = grind (arith, from_bind, or_cut-ok, bits-same, number_of-fits, allowed-value, number_of-bytes)
+operand-bytes o xs at v bytes h = grind (arith, from_bind, or_cut-ok, number_of-fits, allowed-value, number_at-bytes, of_z-to_z)
 
 -- two parts of a list, one after the other
 pub take-more : (xs : List ℕ) (at m n : ℕ) → take (m + n) (drop at xs) ≡ take m (drop at xs) ++ take n (drop (at + m) xs)

@@ -46,15 +46,12 @@ number_of-fits SwapWords xs at n bytes h = number_at-fits 1 at n xs bytes h
 number_of-fits ArrayType xs at n bytes h = number_at-fits 1 at n xs bytes h
 number_of-fits TestedType xs at n bytes h = number_at-fits 1 at n xs bytes h
 
-value-fits : (o : Operand) (n : ℕ) → n < 256 ^ operand_width o → FitsOperand o (value o n)
-value-fits x n h = grind (arith, sfits_to_z)
-
 pub allowed-value : (o : Operand) (b : Bool) (n : ℕ) (v : ℤ) → cond b (Ok (value o n)) (Err (BadOperand n)) ≡ Ok v → value o n ≡ v
 allowed-value o y n v h = grind (arith)
 
 -- an operand that is read lies in the range of its form
 pub FitsOperand-read : (o : Operand) (xs : List ℕ) (at : ℕ) (v : ℤ) → AreBytes xs → operand_at o xs at ≡ Ok v → FitsOperand o v
-FitsOperand-read o xs at v bytes h = grind (arith, from_bind, allowed-value, value-fits, number_of-fits, or_cut-ok)
+FitsOperand-read o xs at v bytes h = grind (arith, from_bind, allowed-value, number_of-fits, or_cut-ok, sfits_to_z)
 
 -- the operands of an instruction that is decoded lie in the ranges of its layout
 pub FitsLayout-decoded : (xs : List ℕ) (at : ℕ) (i : Insn) → AreBytes xs → decoded xs at ≡ Ok i → FitsLayout i (layout_of i.op)

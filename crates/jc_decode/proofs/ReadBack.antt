@@ -22,7 +22,7 @@ use Rattle.jc_decode.specs.Layout.{operand_width, total_width, layout_of}
 use Rattle.jc_decode.specs.Decoding.{value, operand_number, operand_at, within_bytes, bad_operand, key_at}
 use Rattle.jc_decode.specs.Decoding.{rises, pair_width, range_count, range_end, allows}
 use Rattle.jc_decode.specs.Decoding.{pairs_end, end_of_cases, table_end, FitsOperand, Begins}
-use Rattle.jc_decode.specs.Cases.{cases_in, range_case, pair_case, offset_at, is_table, HasTable}
+use Rattle.jc_decode.specs.Cases.{cases_in, pair_case, offset_at, is_table, HasTable}
 use Rattle.jc_decode.specs.Encoding.{bits, operand_bytes, Allows, AllowsBy, IsAllowed, head_bytes}
 use Rattle.jc_decode.specs.Encoding.{table_bytes, encoding, encoding_by, sized, ReadsBack}
 use Rattle.jc_decode.proofs.Decoded.{decoded-Begins, reached-within, reached-ok, pairs_end-ok, range_end-ok, from_bind}
@@ -39,10 +39,6 @@ number-back w n ys pre post at here place fits =
     let rest : drop at ys ≡ big_bytes w n ++ post = rw (here, place) (drop-append_seam pre (big_bytes w n ++ post)) in
     number_at-reached w at ys len ∙ ap Some (ap (big_number w) rest ∙ big_from-bytes w n post ∙ mod-eq_of_lt fits)
 
--- the number that an operand is written as fits its bytes, and means the operand
-bits-fit : (o : Operand) (v : ℤ) → FitsOperand o v → bits o v < 256 ^ operand_width o
-bits-fit x v h = grind (arith)
-
 value-bits : (o : Operand) (v : ℤ) → FitsOperand o v → value o (bits o v) ≡ v
 value-bits x v h = grind (arith, to_z-of_z)
 
@@ -58,7 +54,7 @@ pub operand-back : (o : Operand) (v : ℤ) (ys pre post : List ℕ) (at : ℕ) �
     → Allows o v
     → operand_at o ys at ≡ Ok v
 operand-back o v ys pre post at here place allowed =
-    let number = number-back (operand_width o) (bits o v) ys pre post at here place (bits-fit o v allowed.0) in
+    let number = number-back (operand_width o) (bits o v) ys pre post at here place (grind (arith)) in
     let read = number_of-back o (bits o v) ys at number (bits-absent o v) in
     let yes : allows o (bits o v) ≡ true = search (rules, allowed.1) in
     rw (read, yes, value-bits o v allowed.0) refl
@@ -124,10 +120,6 @@ offset_at-alike : (xs ys : List ℕ) (t u m a : ℕ) → Alike xs t ys u m → a
 offset_at-alike xs ys t u m a alike inside =
     ap (λ (r : Result ℤ CodeEnd). result_unwrap_or r (pos 0)) (operand_at-alike S2 (t + a) (u + a) xs ys (Alike-part xs t ys u m a 2 alike inside))
 
-range_case-alike : (xs ys : List ℕ) (t u m count n : ℕ) (low : ℤ) → Alike xs t ys u m → m ≡ 2 * count → n < count
-    → range_case xs t low n ≡ range_case ys u low n
-range_case-alike xs ys t u m count n low a size h = grind (arith, offset_at-alike)
-
 pair_case-alike : (xs ys : List ℕ) (t u m count n : ℕ) (key : Operand) → Alike xs t ys u m → m ≡ pair_width key * count → n < count
     → pair_case xs t key n ≡ pair_case ys u key n
 pair_case-alike xs ys t u m count n key a size h =
@@ -140,9 +132,7 @@ pair_case-alike xs ys t u m count n key a size h =
 pub cases_in-alike : (k : Cases) (xs ys : List ℕ) (t u m : ℕ) (i j : Insn) → i.y ≡ j.y → i.z ≡ j.z → Alike xs t ys u m → FitsTable k i.y i.z m
     → cases_in k xs t i ≡ cases_in k ys u j
 cases_in-alike NoCases xs ys t u m i j y z a size = refl
-cases_in-alike Range xs ys t u m i j y z a size =
-    rw (← y, ← z) (map-alike (range_case xs t i.y) (range_case ys u i.y) 0 (range_count i.y i.z)
-    (λ n low high. range_case-alike xs ys t u m (range_count i.y i.z) n i.y a size (omega arith)))
+cases_in-alike Range xs ys t u m i j y z a size = grind (arith, map-alike, offset_at-alike)
 cases_in-alike (Pairs key) xs ys t u m i j y z a size =
     rw (← y) (map-alike (pair_case xs t key) (pair_case ys u key) 0 (unsigned_abs i.y)
     (λ n low high. pair_case-alike xs ys t u m (unsigned_abs i.y) n key a size (omega arith)))

@@ -59,9 +59,6 @@ reached-past xs end h = rw (lt-leb end (length xs) h) refl
 
 -- ---- bytes that are there
 
-number_at-past : (w at : ℕ) (xs : List ℕ) → length xs < at + w → number_at w at xs ≡ None
-number_at-past w at xs h = rw (lt-leb (at + w) (length xs) h) refl
-
 -- where no number is the bytes end before it
 number_at-none : (w at : ℕ) (xs : List ℕ) → number_at w at xs ≡ None → length xs < at + w
 number_at-none w at xs h = by_test (nat_le (at + w) (length xs)) refl h
@@ -156,15 +153,9 @@ no-layout xs at op e bytes there h = by_opcode (opcode op) refl h
 
 -- ---- operands
 
-number_of-none : (o : Operand) (xs : List ℕ) (at : ℕ) → at + operand_width o ≤ length xs → operand_number o xs at ≡ None → ⊥
-number_of-none x xs at h none = grind (arith, number_at-none)
-
 -- what may be forbidden is one byte
 forbidden-byte : (o : Operand) (xs : List ℕ) (at n : ℕ) → operand_number o xs at ≡ Some n → allows o n ≡ false → number_at 1 at xs ≡ Some n
 forbidden-byte x xs at n h refused = grind (arith)
-
-byte-forbidden : (o : Operand) (xs : List ℕ) (at n : ℕ) → number_at 1 at xs ≡ Some n → allows o n ≡ false → operand_number o xs at ≡ Some n
-byte-forbidden x xs at n h refused = grind (arith)
 
 -- an operand whose bytes are there fails where it is forbidden
 record Forbidden (o : Operand) (xs : List ℕ) (at : ℕ) (e : CodeEnd) : Type 0 where
@@ -184,14 +175,11 @@ operand_at-failed o xs at e inside h = by_number (operand_number o xs at) refl h
 
     by_number : (m : Option ℕ) → operand_number o xs at ≡ m → (or_cut m >>= (λ n. cond (allows o n) (Ok (value o n)) (Err (BadOperand n))))
         ≡ Err e → Forbidden o xs at e
-    by_number x none h = grind (arith, number_of-none)
-
-allows_all-allows : (o : Operand) (n : ℕ) → allows_all o ≡ true → allows o n ≡ false → ⊥
-allows_all-allows x n all refused = grind (arith)
+    by_number x none h = grind (arith, number_at-none)
 
 never-failed : (o : Operand) (xs : List ℕ) (at : ℕ) (e : CodeEnd) → at + operand_width o ≤ length xs → allows_all o ≡ true
     → operand_at o xs at ≡ Err e → ⊥
-never-failed o xs at e inside all h = let f = operand_at-failed o xs at e inside h in allows_all-allows o f.byte all f.not_allowed
+never-failed o xs at e inside all h = grind (arith, operand_at-failed)
 
 -- ---- tables
 
@@ -363,33 +351,22 @@ range-end-turned : (bound : Operand) (xs : List ℕ) (t : ℕ) (low high : ℤ) 
     ≡ Some b → range_end bound xs t low high ≡ Err (BadOperand b)
 range-end-turned bound xs t low high b turned there = grind (arith, less-test, bad-byte-is)
 
-range-end-cut : (bound : Operand) (xs : List ℕ) (t : ℕ) (low high : ℤ) → low ≤ℤ high → length xs < t + 2 * range_count low high
-    → range_end bound xs t low high ≡ Err Cut
-range-end-cut bound xs t low high order far = let e = most-test low high order in rw e (reached-past xs _ far)
-
-pairs-end-cut : (key : Operand) (xs : List ℕ) (t count : ℕ) → length xs < t + pair_width key * count → pairs_end key xs t count ≡ Err Cut
-pairs-end-cut key xs t count far = rw (reached-past xs (t + pair_width key * count) far) refl
-
-pairs-end-falls : (key : Operand) (xs : List ℕ) (t count n b : ℕ) → t + pair_width key * count ≤ length xs → IsFirstFall key xs t count n
-    → number_at 1 (t + pair_width key * n) xs ≡ Some b → pairs_end key xs t count ≡ Err (BadOperand b)
-pairs-end-falls key xs t count n b inside fall there = grind (arith, reached-within, found-FirstFall, bad-byte-is)
-
 -- what is refused so is not decoded, for that reason
 pub RefusesBytes-decoded : (xs : List ℕ) (at : ℕ) (e : CodeEnd) → RefusesBytes xs at e → decoded xs at ≡ Err e
 unfolding decoded
-RefusesBytes-decoded xs at _ (nothing_there past) = rw (number_at-past 1 at xs (omega (arith, past))) refl
+RefusesBytes-decoded xs at _ (nothing_there past) = grind (arith, lt-leb, length)
 RefusesBytes-decoded xs at _ (left_out op there out) = grind (arith, layout_of-left_out)
 RefusesBytes-decoded xs at _ (unused op there low high) = rw (there, layout_of-unused op low high) refl
 RefusesBytes-decoded xs at _ (operands_cut l begun far) = rw (begun.opcode, begun.layout, reached-past xs (at + 1 + total_width l) far) refl
-RefusesBytes-decoded xs at _ (forbidden l b begun inside there refused) = grind (arith, reached-within, byte-forbidden)
+RefusesBytes-decoded xs at _ (forbidden l b begun inside there refused) = grind (arith, reached-within)
 RefusesBytes-decoded xs at _ (bounds_turned l low high b has is turned there) =
     let place : at + 1 + operand_width l.x + operand_width l.y ≡ at + 1 + total_width l - operand_width l.z = omega arith in
     let named : number_at 1 (at + 1 + total_width l - operand_width l.z) xs ≡ Some b = ap (λ (p : ℕ). number_at 1 p xs) (sym place) ∙ there in
     decoded-table xs at l low high (BadOperand b) has (rw is (range-end-turned l.z xs (at + 1 + total_width l) low high b turned named))
-RefusesBytes-decoded xs at _ (range_cut l low high has is order far) = grind (arith, decoded-table, range-end-cut)
-RefusesBytes-decoded xs at _ (pairs_cut l key count z has is far) = grind (arith, decoded-table, pairs-end-cut)
+RefusesBytes-decoded xs at _ (range_cut l low high has is order far) = grind (arith, decoded-table, most-test, reached-past)
+RefusesBytes-decoded xs at _ (pairs_cut l key count z has is far) = grind (arith, decoded-table, reached-past)
 RefusesBytes-decoded xs at _ (key_falls l key count z n b has is inside fall there) =
-    decoded-table xs at l count z (BadOperand b) has (rw is (pairs-end-falls key xs (at + 1 + total_width l) (unsigned_abs count) n b inside fall there))
+    decoded-table xs at l count z (BadOperand b) has (rw is (grind (arith, reached-within, found-FirstFall, bad-byte-is)))
 
 pub refused-answer : (xs : List ℕ) (at : ℕ) (r : Result Insn CodeEnd) → AreBytes xs → r ≡ decoded xs at → IfErr r (RefusesBytes xs at)
 refused-answer xs at z bytes h = grind (arith, decoded-RefusesBytes)

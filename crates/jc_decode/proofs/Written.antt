@@ -52,17 +52,13 @@ length-two offset = length-bytes_high_first 2 (cast_unsigned w16 offset)
 length-written : (xs : List ℕ) (p : ℕ) (offset : ℤ) → Written xs p offset → length (with_offset xs p offset) ≡ length xs
 length-written xs p offset w = grind (arith, length-append, length-two, length-take, length-drop)
 
-before-written : (xs : List ℕ) (p : ℕ) (offset : ℤ) (k : ℕ) → Written xs p offset → k < p → slice_index (with_offset xs p offset) k
-    ≡ slice_index xs k
-before-written xs p offset k w h = grind (arith, get_or_append_left, length-take, get_or-take)
-
 after-written : (xs : List ℕ) (p : ℕ) (offset : ℤ) (k : ℕ) → Written xs p offset → p + 2 ≤ k → slice_index (with_offset xs p offset) k
     ≡ slice_index xs k
 after-written xs p offset k w h = grind (arith, length-take, get_or-append_right, length-two, get_or-drop, slice_index)
 
 -- what does not meet the offset is as it was
 alike-before : (xs : List ℕ) (p : ℕ) (offset : ℤ) (a m : ℕ) → Written xs p offset → a + m ≤ p → Alike (with_offset xs p offset) a xs a m
-alike-before xs p offset a m w h = grind (arith, before-written, length-written)
+alike-before xs p offset a m w h = grind (arith, length-written, get_or_append_left, length-take, get_or-take)
 
 alike-after : (xs : List ℕ) (p : ℕ) (offset : ℤ) (a m : ℕ) → Written xs p offset → p + 2 ≤ a → a + m ≤ length xs
     → Alike (with_offset xs p offset) a xs a m

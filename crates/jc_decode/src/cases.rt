@@ -1,6 +1,4 @@
-ghost use Rattle.std.specs.Prelude.{Ok, ◌≤ℤ◌, map, unsigned_abs, FitsSigned, ◌≡◌, ◌+◌, ◌*◌, ◌^◌, ◌<◌, ◌≤◌, IsTrue, length, slice_get};
-ghost use Rattle.jc_decode.specs.Layout.{operand_width};
-ghost use Rattle.std.specs.List.{range_with_len};
+ghost use Rattle.std.specs.Prelude.{Ok, ◌≤ℤ◌, unsigned_abs, FitsSigned, ◌≡◌, ◌+◌, ◌*◌, ◌<◌, ◌≤◌, length, slice_get};
 ghost use Rattle.std.specs.Int.{w16};
 ghost use Rattle.jc_decode.specs.Decoding.{decoded, pair_width, range_count};
 ghost use Rattle.jc_decode.specs.Cases.{offset_at, cases, range_case, pair_case, HasTable, is_switch};

@@ -1,8 +1,7 @@
 ghost use Rattle.std.specs.Prelude.{◌≤ℤ◌, IsTrue, ◌≡◌, ◌+◌, ◌*◌, ◌^◌, ◌<◌, ◌≤◌, ◌-◌, length, IfOk, IfErr, Ok, Err};
 ghost use Rattle.cap_bytes.specs.Number.{number_at};
 ghost use Rattle.jc_decode.specs.Layout.{layout_of, one, operand_width};
-ghost use Rattle.cap_bytes.specs.Bytes.{AreBytes};
-ghost use Rattle.jc_decode.specs.Decoding.{allows, or_cut, within_bytes, bad_operand, operand_at, pair_width, key_at, rises, pairs_end, table_end, decoded, decoded_as, decoded_by, is_tested, with_operands_or, Begins, FitsLayout, FitsOperand, IsWithin};
+ghost use Rattle.jc_decode.specs.Decoding.{allows, or_cut, within_bytes, bad_operand, operand_at, pair_width, key_at, rises, pairs_end, table_end, decoded, decoded_as, decoded_by, is_tested, with_operands_or, Begins, FitsLayout, IsWithin};
 ghost use Rattle.jc_decode.specs.Cases.{cases, is_table_switch, KeysRise};
 ghost use Rattle.jc_decode.specs.Refusal.{RefusesBytes};
 ghost use Rattle.jc_decode.specs.Encoding.{IsAllowed};
