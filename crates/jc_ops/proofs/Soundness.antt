@@ -1,27 +1,25 @@
 -- What the operation of an instruction speaks of is in the world.
 use Rattle.std.proofs.Common.{◌≡◌, ℕ, ◌+◌, ◌/◌, ◌%◌, ◌<◌, ◌≤◌, ◌==◌, ◌&&◌, not, if◌then◌else◌, cond, zero, suc}
-use Rattle.std.proofs.Common.{Bool, true, false, List, [], ◌∷◌, ◌++◌, length, Option, Some, None, IfSome, IsSomeAnd, Result, Ok, Err, IfOk, slice_get}
-use Rattle.std.proofs.Common.{slice_index_or, filter, All, Contains, refl, sym, ◌∙◌, subst, arith}
-use Rattle.std.specs.List.{range_with_len}
+use Rattle.std.proofs.Common.{Bool, true, false, List, [], ◌∷◌, ◌++◌, length, Option, Some, None, IfSome, IsSomeAnd, Result, Ok, IfOk, slice_get}
+use Rattle.std.proofs.Common.{slice_index_or, filter, All, Contains, refl, sym, subst, arith}
 use Rattle.std.proofs.lemmas.Bool.Decides.{nat_tests}
 use Rattle.std.proofs.lemmas.Bool.{and_parts, not-true, eqb-true, eqb-false, or_parts}
 use Rattle.jc_base.specs.declared.ty.Ty.{Ty}
 use Rattle.jc_base.specs.declared.ty.Ty.TheVariants.{IntLow, Class, ArrBool, ArrByte, ArrShort, ArrInt, ArrRef}
 use Rattle.jc_base.specs.declared.ty.Kind.{Kind}
 use Rattle.jc_base.specs.declared.record.Member.{Member}
-use Rattle.jc_base.specs.declared.record.Member.TheVariants.{ClassOf, Field, Static, Virtual, Super, StaticCall}
+use Rattle.jc_base.specs.declared.record.Member.TheVariants.{Field, Static, Virtual, Super, StaticCall}
 use Rattle.jc_base.specs.declared.record.MethodRec.{MethodRec}
 use Rattle.jc_base.specs.Class.{IsClass, is_interface, object, parent_of}
 use Rattle.jc_base.specs.Order.{joined, same, subclass, IsArray, of_booleans, of_bytes, of_shorts, of_ints, of_references}
-use Rattle.jc_base.specs.Cell.{IsDeclared, IsOfKind}
-use Rattle.jc_base.specs.Dispatch.{is_concrete, entry_at, cells_of, public_of, visible_of}
+use Rattle.jc_base.specs.Cell.{IsDeclared}
+use Rattle.jc_base.specs.Dispatch.{entry_at, cells_of, public_of, visible_of}
 use Rattle.jc_base.specs.Laws.{ConcreteDecides}
-use Rattle.jc_base.specs.Linked.{IsInherited, IsMember, IsMethod, IsStatic, list_at, lacks_code}
+use Rattle.jc_base.specs.Linked.{IsInherited, IsMember, IsMethod, list_at, lacks_code}
 use Rattle.jc_base.specs.World.{Linked, IsWorld, member_at}
 use Rattle.jc_base.proofs.Lists.{All-slice_get}
 use Rattle.jc_decode.specs.declared.insn.Insn.{Insn}
 use Rattle.jc_ops.specs.declared.fault.RuleFault.{RuleFault}
-use Rattle.jc_ops.specs.declared.fault.RuleFault.TheVariants.{BadMember, NotConcrete, Mismatch}
 use Rattle.jc_ops.specs.declared.want.Want.{Want}
 use Rattle.jc_ops.specs.declared.want.Want.TheVariants.{Value, Receiver}
 use Rattle.jc_ops.specs.declared.operation.Sort.{Sort}
@@ -37,8 +35,8 @@ use Rattle.jc_ops.specs.declared.row.Row.{Row}
 use Rattle.jc_ops.specs.declared.row.Row.TheVariants as rows
 use Rattle.jc_ops.specs.Row.{table, row_at, unused, by_sort, by_width, by_kind, first_four, by_register, literals, binaries, orders_all, branching}
 use Rattle.jc_ops.specs.Resolve.{byte_of, short_of, taken_if, on, same_kind, static_field, instance_field, callee_if, entry_callee, virtual_callee}
-use Rattle.jc_ops.specs.Resolve.{own_receiver, special_callee, static_callee, is_described, passes_test, described, only, described_callee, interface_callee}
-use Rattle.jc_ops.specs.Resolve.{callee, class_type, array_of, tested_type, returns, returned, result_type, result_returned, new_object, resolved, Resolves}
+use Rattle.jc_ops.specs.Resolve.{own_receiver, special_callee, static_callee, described, only, described_callee, interface_callee}
+use Rattle.jc_ops.specs.Resolve.{callee, class_type, array_of, tested_type, returns, result_returned, new_object, resolved, Resolves}
 use Rattle.jc_ops.specs.Sound.{IsKnownWant, IsStaticOf, IsFieldOf, IsReceiverOf, IsCalleeOf, IsNamedType, IsResult, IsSound, OperationsAreSound}
 use Rattle.jc_ops.proofs.Members.{argument_room, entry-inherits, super-inherits, static-known, cells-declared}
 
@@ -87,17 +85,14 @@ row-fine n = fine-at table n table-fine
 -- ---- tests
 
 taken-sound : {X : Type 0} (P : X → Type 0) (b : Bool) (pool : ℕ) (x : X) → (b ≡ true → P x) → IfOk (taken_if b pool x) P
-taken-sound P true pool x h = h refl
-taken-sound P false pool x h = tt
+taken-sound x x2 pool x22 h = grind (arith)
 
 on-sound : {X : Type 0} (P : Operation → Type 0) (op : X → Operation) (r : Result X RuleFault) → IfOk r (λ x. P (op x)) → IfOk (on op r) P
-on-sound P op (Ok x) h = h
-on-sound P op (Err fault) h = tt
+on-sound x op x2 h = grind (arith)
 
 if-sound : {X : Type 0} (P : X → Type 0) (b : Bool) (r s : Result X RuleFault) → (b ≡ true → IfOk r P) → (b ≡ false → IfOk s P)
     → IfOk (if b then r else s) P
-if-sound P true r s h k = h refl
-if-sound P false r s h k = k refl
+if-sound x x2 r s h k = grind (arith)
 
 -- ---- the only one of a search
 
@@ -120,12 +115,7 @@ only-passes p xs n h = at (filter p xs) refl h
 described-is : (methods : List MethodRec) (c token n : ℕ) (m : MethodRec) → only (described methods c token) ≡ Some n
     → slice_get methods n ≡ Some m → (m.class ≡ c) × (m.token ≡ token)
 unfolding described
-described-is methods c token n m h e =
-    let p : passes_test (is_described c token) (slice_get methods n) ≡ true = only-passes (λ n. passes_test (is_described c token) (slice_get methods n))
-    (range_with_len 0 (length methods)) n h in
-    let q : is_described c token m ≡ true = subst (λ o. passes_test (is_described c token) o ≡ true) e p in
-    let r = and_parts (m.class == c) (m.token == token) q in
-    (eqb-true m.class c r.0, eqb-true m.token token r.1)
+described-is methods c token n m h e = grind (arith, slice_get, only-passes, length, and_parts, eqb-true)
 
 module _ (w : Linked) (is : IsWorld w) (decides : ConcreteDecides w.classes w.methods) where
   method-is : (n : ℕ) (m : MethodRec) → slice_get w.methods n ≡ Some m → IsMethod w.infos w.pools w.classes m
@@ -135,14 +125,7 @@ module _ (w : Linked) (is : IsWorld w) (decides : ConcreteDecides w.classes w.me
 
   static-sound : (pool : ℕ) (k : Kind) (o : Option Member) → IfSome o (IsMember w.classes w.methods w.statics)
       → IfOk (static_field pool k o) (IsStaticOf w)
-  static-sound pool k (Some (Static slot kind ty)) (i, f, lt, at, slot_of) =
-      let static : IsStatic (length w.infos) w.classes w.arrays f = static-known w is f i lt at in
-      taken-sound (IsStaticOf w) (same_kind k kind) pool (record { slot = slot; kind = kind; ty = ty }) (λ b. record {
-        there = (i, f, lt, at, slot_of);
-        kind = subst (λ x. IsOfKind x ty) slot_of.kind (subst (IsOfKind f.kind) slot_of.ty static.kind);
-        ty = subst (IsDeclared w.classes) slot_of.ty static.ty;
-      })
-  static-sound pool k _ h = tt
+  static-sound pool k x h = grind (arith, length, static-known, taken-sound)
 
   field-sound : (pool : ℕ) (k : Kind) (o : Option Member) → IfSome o (IsMember w.classes w.methods w.statics)
       → IfOk (instance_field w.classes pool k o) (IsFieldOf w)
@@ -159,9 +142,7 @@ module _ (w : Linked) (is : IsWorld w) (decides : ConcreteDecides w.classes w.me
   callee-by : (test : MethodRec → Bool) (pool n : ℕ) (o : Option MethodRec) (receiver : MethodRec → Option Want) (choice : Choice)
       → ((m : MethodRec) → o ≡ Some m → test m ≡ true → IsCalleeOf w (record { method = n; receiver = receiver m; choice = choice }))
       → IfOk (callee_if test pool n o receiver choice) (IsCalleeOf w)
-  callee-by test pool n None receiver choice h = tt
-  callee-by test pool n (Some m) receiver choice h =
-      taken-sound (IsCalleeOf w) (test m) pool (record { method = n; receiver = receiver m; choice = choice }) (λ b. h m refl b)
+  callee-by test pool n x receiver choice h = grind (arith, taken-sound)
 
   of_some : (P : MethodRec → Type 0) (o : Option MethodRec) (m : MethodRec) → o ≡ Some m → IsSomeAnd o P → P m
   of_some P o m e h = subst (λ x. IsSomeAnd x P) e h
@@ -194,8 +175,7 @@ module _ (w : Linked) (is : IsWorld w) (decides : ConcreteDecides w.classes w.me
       has_body a b false alike h = refl
 
   virtual-sound : (pool : ℕ) (o : Option Member) → IfSome o (IsMember w.classes w.methods w.statics) → IfOk (virtual_callee w pool o) (IsCalleeOf w)
-  virtual-sound pool (Some (Virtual c token)) h = entry-sound pool c token (entry_at w.classes c token) refl h.0
-  virtual-sound pool _ h = tt
+  virtual-sound pool x h = grind (arith, entry-sound)
 
   super-sound : (pool c n : ℕ) (o : Option ℕ) → parent_of w.classes c ≡ o → IsClass w.classes c
       → IsSomeAnd o (λ p. Contains (public_of w.classes p ++ visible_of w.classes p) n)
@@ -225,8 +205,7 @@ module _ (w : Linked) (is : IsWorld w) (decides : ConcreteDecides w.classes w.me
   own-receives m false e h = (e, h, same)
 
   own-known : (m : MethodRec) (b : Bool) → IsClass w.classes m.class → IsKnownWant w.classes (if b then Receiver m.class else Value (Class m.class))
-  own-known m true h = h
-  own-known m false h = h
+  own-known m x h = grind (arith)
 
   own-sound : (pool n : ℕ) → IfOk (special_callee w pool (Some (StaticCall n))) (IsCalleeOf w)
   own-sound pool n =
@@ -244,9 +223,7 @@ module _ (w : Linked) (is : IsWorld w) (decides : ConcreteDecides w.classes w.me
       })
 
   special-sound : (pool : ℕ) (o : Option Member) → IfSome o (IsMember w.classes w.methods w.statics) → IfOk (special_callee w pool o) (IsCalleeOf w)
-  special-sound pool (Some (Super c n)) h = super-sound pool c n (parent_of w.classes c) refl h.0 h.1
-  special-sound pool (Some (StaticCall n)) h = own-sound pool n
-  special-sound pool _ h = tt
+  special-sound pool x h = grind (arith, super-sound, own-sound)
 
   static_call-sound : (pool : ℕ) (o : Option Member) → IfOk (static_callee w pool o) (IsCalleeOf w)
   static_call-sound pool (Some (StaticCall n)) =
@@ -270,25 +247,10 @@ module _ (w : Linked) (is : IsWorld w) (decides : ConcreteDecides w.classes w.me
 
   described-sound : (pool nargs c token : ℕ) (o : Option ℕ) → nargs ≤ 255 → is_interface w.classes c ≡ true
       → only (described w.methods c token) ≡ o → IfOk (described_callee w pool nargs c token o) (IsCalleeOf w)
-  described-sound pool nargs c token None few interface e = tt
-  described-sound pool nargs c token (Some n) few interface e =
-      callee-by (λ m. nargs == length m.sig.args + 1) pool n (slice_get w.methods n) (λ m. Some (Value (Class (object w.classes))))
-      (choices.Interface c token nargs) (λ m q b.
-      let names = described-is w.methods c token n m e q in
-      let words : nargs ≡ length m.sig.args + 1 = eqb-true nargs (length m.sig.args + 1) b in
-      record {
-        rec = m;
-        is_method = q;
-        chosen = record { interface = interface; described_is = e; class = names.0; token_is = names.1; words_are = words; receiver_is = refl };
-        known = is.roles.objects;
-        room = omega (arith, words, few);
-      })
+  described-sound pool nargs c token x few interface e = grind (arith, callee-by, length, slice_get, described-is, eqb-true)
 
   interface-sound : (pool nargs token : ℕ) (o : Option Member) → nargs ≤ 255 → IfOk (interface_callee w pool nargs token o) (IsCalleeOf w)
-  interface-sound pool nargs token (Some (ClassOf c)) few =
-      if-sound (IsCalleeOf w) (is_interface w.classes c) (described_callee w pool nargs c token (only (described w.methods c token))) (Err (BadMember pool))
-      (λ interface. described-sound pool nargs c token (only (described w.methods c token)) few interface refl) (λ q. tt)
-  interface-sound pool nargs token _ few = tt
+  interface-sound pool nargs token x few = grind (arith, if-sound, described-sound)
 
   -- the entry of a pool
   all_at : (pools : List (List Member)) (home : ℕ) → All (All (IsMember w.classes w.methods w.statics)) pools
@@ -305,76 +267,41 @@ module _ (w : Linked) (is : IsWorld w) (decides : ConcreteDecides w.classes w.me
       at (Some m) e = All-slice_get (IsMember w.classes w.methods w.statics) (list_at w.pools home) pool m (all_at w.pools home is.members) e
 
   callee-sound : (home : ℕ) (i : Insn) (by : Invocation) → IfOk (callee w home i by) (IsCalleeOf w)
-  callee-sound home i invocations.Virtual = virtual-sound (short_of i.x) (member_at w home (short_of i.x)) (member-at home (short_of i.x))
-  callee-sound home i invocations.Special = special-sound (short_of i.x) (member_at w home (short_of i.x)) (member-at home (short_of i.x))
-  callee-sound home i invocations.Static = static_call-sound (short_of i.x) (member_at w home (short_of i.x))
-  callee-sound home i invocations.Interface = interface-sound (short_of i.y) (byte_of i.x) (byte_of i.z) (member_at w home (short_of i.y)) (omega arith)
+  callee-sound home i x = grind (arith, virtual-sound, member-at, special-sound, static_call-sound, interface-sound)
 
   -- ---- types
 
   class-sound : (P : Ty → Type 0) (make : ℕ → Ty) (pool : ℕ) (o : Option Member) → ((c : ℕ) → c < length w.classes.records → P (make c))
       → IfSome o (IsMember w.classes w.methods w.statics) → IfOk (class_type make pool o) P
-  class-sound P make pool (Some (ClassOf c)) g h = g c h
-  class-sound P make pool _ g h = tt
+  class-sound x make pool x2 g h = grind (arith)
 
   array_if : (P : Ty → Type 0) (b : Bool) (x y : Ty) → P x → P y → P (if b then x else y)
-  array_if P true x y h k = h
-  array_if P false x y h k = k
+  array_if x x2 x22 y h k = grind (arith)
 
   array-of : (P : Ty → Type 0) → P ArrBool → P ArrByte → P ArrShort → P ArrInt → (atype : ℕ) → P (array_of atype)
-  array-of P of_bool of_byte of_short of_int atype =
-      array_if P (atype == 10) ArrBool (if atype == 11 then ArrByte else if atype == 12 then ArrShort else ArrInt) of_bool
-      (array_if P (atype == 11) ArrByte (if atype == 12 then ArrShort else ArrInt) of_byte (array_if P (atype == 12) ArrShort ArrInt of_short of_int))
+  array-of P of_bool of_byte of_short of_int atype = grind (arith, array_if)
 
   tested-sound : (atype pool : ℕ) (o : Option Member) → IfSome o (IsMember w.classes w.methods w.statics)
       → IfOk (tested_type atype pool o) (IsNamedType w.classes)
-  tested-sound atype pool o h =
-      if-sound (IsNamedType w.classes) (atype == 0) (class_type Class pool o) (if atype == 14 then class_type ArrRef pool o else Ok (array_of atype))
-      (λ q. class-sound (IsNamedType w.classes) Class pool o (λ c lt. lt) h)
-      (λ q. if-sound (IsNamedType w.classes) (atype == 14) (class_type ArrRef pool o) (Ok (array_of atype))
-      (λ r. class-sound (IsNamedType w.classes) ArrRef pool o (λ c lt. lt) h) (λ r. array-of (IsNamedType w.classes) tt tt tt tt atype))
+  tested-sound atype pool o h = grind (arith, if-sound, class-sound, array-of)
 
   low-unreturned : (sort : Option Sort) → returns sort (Some IntLow) ≡ false
-  low-unreturned None = refl
-  low-unreturned (Some sorts.Reference) = refl
-  low-unreturned (Some sorts.Short) = refl
-  low-unreturned (Some sorts.Int) = refl
+  low-unreturned x = grind (arith)
 
   result-is : (sort : Option Sort) (result : Option Ty) → IfSome result (IsDeclared w.classes) → returns sort result ≡ true
       → IfSome result (IsResult w.classes)
-  result-is sort None h q = tt
-  result-is sort (Some ty) h q = record {
-    declared = h;
-    no_low = λ e. let never : false ≡ true = sym (low-unreturned sort) ∙ subst (λ x. returns sort (Some x) ≡ true) e q in absurd (cc);
-  }
+  result-is sort x h q = grind (arith, low-unreturned)
 
   return-sound : (sort : Option Sort) (result : Option Ty) → IfSome result (IsDeclared w.classes)
       → IfOk (result_returned w.classes sort result) (λ r. (r ≡ result) × IfSome r (IsResult w.classes))
-  return-sound sort result h =
-      if-sound (λ r. (r ≡ result) × IfSome r (IsResult w.classes)) (returns sort result) (Ok result)
-      (Err (Mismatch (returned w.classes sort) (result_type result)))
-      (λ q. (refl, result-is sort result h q)) (λ q. tt)
+  return-sound sort result h = grind (arith, if-sound, result-is)
 
   -- ---- operations
 
   module _ (m : MethodRec) (place : ℕ) where
     plain-sound : (op : Operation) → needs_nothing op ≡ true → IsSound w m place op
     unfolding needs_nothing
-    plain-sound (ops.Constant c) h = tt
-    plain-sound (ops.Load s x) h = tt
-    plain-sound (ops.Store s x) h = tt
-    plain-sound (ops.Move moves.Pop) h = tt
-    plain-sound (ops.Move moves.PopTwo) h = tt
-    plain-sound (ops.Move moves.Duplicate) h = tt
-    plain-sound (ops.Move moves.DuplicateTwo) h = tt
-    plain-sound (ops.Arithmetic a) h = tt
-    plain-sound (ops.ArrayRead k) h = tt
-    plain-sound (ops.ArrayWrite k) h = tt
-    plain-sound ops.ArrayLength h = tt
-    plain-sound (ops.Branch b) h = tt
-    plain-sound (ops.Switch width) h = tt
-    plain-sound ops.Throw h = tt
-    plain-sound _ h = absurd (cc)
+    plain-sound x h = grind (arith)
 
     nibbles : (x : ℕ) → x < 256 → x / 16 + x % 16 ≤ 255
     nibbles x h = omega arith
@@ -383,10 +310,7 @@ module _ (w : Linked) (is : IsWorld w) (decides : ConcreteDecides w.classes w.me
     byte-small i = omega arith
 
     new-sound : (pool : ℕ) (o : Option Member) → IfOk (new_object w place pool o) (IsSound w m place)
-    new-sound pool (Some (ClassOf c)) =
-        if-sound (IsSound w m place) (is_concrete w.classes w.methods c) (Ok (ops.New place c)) (Err (NotConcrete c))
-        (λ concrete. (refl, (decides c).0 concrete)) (λ abstract. tt)
-    new-sound pool _ = tt
+    new-sound pool x = grind (arith, if-sound)
 
     from_equal : {r s : Result Operation RuleFault} → r ≡ s → IfOk s (IsSound w m place) → IfOk r (IsSound w m place)
     from_equal e h = subst (λ x. IfOk x (IsSound w m place)) (sym e) h
@@ -422,11 +346,8 @@ module _ (w : Linked) (is : IsWorld w) (decides : ConcreteDecides w.classes w.me
         from_equal e (on-sound (IsSound w m place) ops.NewArray (class_type ArrRef (short_of i.x) (member_at w m.package (short_of i.x)))
         (class-sound (λ ty. IsArray ty × IsNamedType w.classes ty) ArrRef (short_of i.x) (member_at w m.package (short_of i.x))
         (λ c lt. (of_references, lt)) (member-at m.package (short_of i.x))))
-    row-sound i (rows.TypeTest test) r fine q e =
-        from_equal e (on-sound (IsSound w m place) (ops.TypeTest test) (tested_type (byte_of i.x) (short_of i.y) (member_at w m.package (short_of i.y)))
-        (tested-sound (byte_of i.x) (short_of i.y) (member_at w m.package (short_of i.y)) (member-at m.package (short_of i.y))))
-    row-sound i (rows.Return s) r fine q e =
-        from_equal e (on-sound (IsSound w m place) ops.Return (result_returned w.classes s m.sig.result) (return-sound s m.sig.result q))
+    row-sound i (rows.TypeTest test) r fine q e = grind (arith, from_equal, on-sound, tested-sound, member-at)
+    row-sound i (rows.Return s) r fine q e = grind (arith, from_equal, on-sound, return-sound)
 
   -- what an instruction of a method is resolved to is sound
   pub resolved-sound : (m : MethodRec) (place : ℕ) (i : Insn) (r : Result Operation RuleFault) → IfSome m.sig.result (IsDeclared w.classes)
