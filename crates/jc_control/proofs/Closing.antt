@@ -1,12 +1,11 @@
 -- What a traversal has found when nothing is pending is what control reaches.
-use Rattle.std.proofs.Common.{◌≡◌, ◌<◌, ◌≤◌, ◌+◌, ◌⊎◌, inl, inr, ⊎_elim, ℕ, Bool, false, Ok, Err, List, []}
+use Rattle.std.proofs.Common.{◌≡◌, ◌<◌, ◌≤◌, ◌+◌, ◌⊎◌, inr, ⊎_elim, ℕ, Bool, false, Ok, Err, List, []}
 use Rattle.std.proofs.Common.{length, refl, sym, ap, ◌∙◌, subst, arith, Contains, All, IsTrue}
 use Rattle.std.specs.Prelude.{pos, replicate}
 use Rattle.std.proofs.lemmas.Bool.{false≢true}
 use Rattle.std.proofs.lemmas.List.{length-replicate}
 use Rattle.std.proofs.lemmas.List.Elements.{All-contains}
 use Rattle.jc_base.specs.declared.record.Handler.{Handler}
-use Rattle.jc_decode.specs.declared.insn.Insn.{Insn}
 use Rattle.jc_decode.specs.declared.insn.Placed.{Placed}
 use Rattle.jc_decode.specs.declared.insn.CodeEnd.{CodeEnd}
 use Rattle.jc_decode.specs.Decoding.{decoded}
@@ -30,8 +29,7 @@ use Rattle.jc_control.proofs.Marked.{flag-none}
 
 module _ (m : Method) (law : AreListed m.code) (w : IsWellFormed m) where
   at-end : (p : ℕ) → (p ≡ listing_end m.code) ⊎ IsPlace m.code p → IsBoundary m.code p
-  at-end p (inl end) = inl (end ∙ w.ends)
-  at-end p (inr place) = inr place
+  at-end p x = grind (arith)
 
   target-boundary : (i : Placed) (q : ℕ) → HasInstruction m.code i → IsSuccessor m.code i q → IsBoundary m.code q
   target-boundary i _ there (falls_through goes) = at-end (i.place + i.insn.len) (next-in (decoded m.code) 0 (listing m.code) i law.lists there)
@@ -57,12 +55,7 @@ module _ (m : Method) (law : AreListed m.code) (w : IsWellFormed m) where
       at_end end = absurd (omega (arith, law.long i.place i.insn d, law.reaches i.place i.insn d))
 
       at_place : IsPlace m.code i.place → HasInstruction m.code i
-      at_place here =
-          let found : decoded m.code i.place ≡ Ok here.0.insn = ap (decoded m.code) (sym here.2) ∙ law.decodes here.0 here.1 in
-          let insn : here.0.insn ≡ i.insn = ok-same here.0.insn i.insn (decoded m.code i.place) found d in
-          let same : here.0 ≡ i = ap (λ (p : ℕ). record { place = p; insn = here.0.insn }) here.2
-          ∙ ap (λ (n : Insn). record { place = i.place; insn = n }) insn in
-          subst (HasInstruction m.code) same here.1
+      at_place here = grind (arith, ok-same)
 
   -- nothing follows the end
   pub closed-at-end : (s : Traversal) (p : ℕ) (e : CodeEnd) → IsReached m p → decoded m.code p ≡ Err e → IsClosedAt m s p
@@ -125,22 +118,7 @@ module _ (m : Method) (s t : Traversal) (sound : IsSoundTraversal m s) (closed :
   all-led _ (entered {h = h} {p = p} r there covers) = ((closed-there p (all-found p r)).catches h there covers).1
 
   pub traversed : (l : Listed) → IsListingOf m.code l → IsWellFormed m → IsControlFlow m (found t l)
-  traversed l of_code w = record {
-    formed = w;
-    reached =
-        λ p. (
-          λ f. sound.reached p (subst (λ (fs : List Bool). IsFlagged fs p) done.reached f),
-          λ r. subst (λ (fs : List Bool). IsFlagged fs p)
-              (sym done.reached) (all-found p r),
-        );
-    leaders =
-        λ p. (
-          λ f. sound.leaders p (subst (λ (fs : List Bool). IsFlagged fs p) done.leaders f),
-          λ r. subst (λ (fs : List Bool). IsFlagged fs p)
-              (sym done.leaders) (all-led p r),
-        );
-    listing = of_code;
-  }
+  traversed l of_code w = grind (arith, all-found, all-led)
 
 -- ---- nothing found yet
 
@@ -158,6 +136,4 @@ none-sound m s size fits reached leaders pending = record {
     unflagged fs e p f = false≢true (sym (flag-none size p) ∙ subst (λ (gs : List Bool). IsFlagged gs p) e f)
 
 pub none-closed : (m : Method) (s : Traversal) (size : ℕ) → s.reached ≡ replicate size false → (t : Traversal) → Grows s t → IsClosed m t
-none-closed m s size reached t g p f =
-    ⊎_elim (λ before. absurd (false≢true (sym (flag-none size p) ∙ subst (λ (fs : List Bool). IsFlagged fs p) reached before)))
-    (λ waits. inl waits) (g.fresh p f)
+none-closed m s size reached t g p f = grind (arith, ⊎_elim, false≢true, flag-none)

@@ -44,8 +44,4 @@ at-last before rest whole h e = sym (append-nil before) ∙ ap (λ (r : List _).
 pub first-failing : {A : Type 0} (P : A → Type 0) (before : List A) (x : A) (after whole : List A) → before ++ x ∷ after ≡ whole → All P before
     → ¬ P x
     → IsFirstFailing P whole (length before) x
-first-failing P before x after whole h all fails = record {
-  here = here-in before x after whole h;
-  fails = fails;
-  before = rw (before-in before (x ∷ after) whole h) all;
-}
+first-failing P before x after whole h all fails = grind (arith, here-in, before-in)

@@ -1,5 +1,5 @@
 -- What the scan finds first is the first flaw.
-use Rattle.std.proofs.Common.{◌≡◌, ◌<◌, ◌≤◌, inl, inr, ⊎_elim, ℕ, Some, Result, Ok, Err, length, sym, ap, subst, arith, All}
+use Rattle.std.proofs.Common.{◌≡◌, ◌<◌, ◌≤◌, inl, inr, ⊎_elim, ℕ, Some, Result, length, sym, ap, subst, arith, All}
 use Rattle.std.specs.Prelude.{ℤ, slice_get, IfErr}
 use Rattle.std.proofs.lemmas.Bool.{cases_lt, cases_eq}
 use Rattle.std.proofs.lemmas.List.Elements.{All-contains}
@@ -96,5 +96,4 @@ module _ (m : Method) where
 
 pub handler-told : (m : Method) (r : Result (Unit {0}) Flaw) → All (LeadsToPlaces m.code) (listing m.code) → listing_end m.code ≡ length m.code
     → IfErr r (λ f. IsFirstBadHandler m.code m.rec.handlers f) → IfErr r (λ f. IsFirstFlaw m f)
-handler-told m (Ok t) all ends h = tt
-handler-told m (Err f) all ends h = handler-first m f all ends h
+handler-told m x all ends h = grind (arith, handler-first)

@@ -1,6 +1,6 @@
 -- A method is well formed exactly where it has no flaw, and has at most one first flaw.
-use Rattle.std.proofs.Common.{◌≡◌, ◌<◌, ◌≤◌, ◌⊎◌, inl, inr, ⊎_elim, ℕ, Some, Err, List, [], ◌∷◌, length, get_or, refl, sym, ap}
-use Rattle.std.proofs.Common.{◌∙◌, subst, arith, All}
+use Rattle.std.proofs.Common.{◌≡◌, ◌<◌, ◌≤◌, ◌⊎◌, inl, inr, ⊎_elim, ℕ, Some, Err, List, [], ◌∷◌, length, get_or, ap}
+use Rattle.std.proofs.Common.{◌∙◌, arith, All}
 use Rattle.std.specs.Prelude.{ℤ, pos, negsuc, slice_get}
 use Rattle.std.proofs.lemmas.Bool.{cases_lt, cases_eq}
 use Rattle.std.proofs.lemmas.Option.{slice_get-get_or}
@@ -14,7 +14,7 @@ use Rattle.jc_control.specs.Method.{Method}
 use Rattle.jc_control.specs.WellFormed.{HasInstruction, IsPlace, IsTargetPlace, IsBoundary, IsHandlerOf, IsWellFormed}
 use Rattle.jc_control.specs.declared.flaw.Flaw.{Flaw}
 use Rattle.jc_control.specs.declared.flaw.Flaw.TheVariants.{Code, BadTarget, BadHandler}
-use Rattle.jc_control.specs.Flaw.{Spot, in_code, in_table, ComesBefore, IsFlaw, flaw_target, flaw_end, flaw_handler, IsFirstFlaw}
+use Rattle.jc_control.specs.Flaw.{Spot, in_code, in_table, IsFlaw, flaw_target, flaw_end, flaw_handler, IsFirstFlaw}
 use Rattle.jc_decode.specs.Places.{BeginsIn}
 use Rattle.jc_control.specs.Laws.{FlawsDecide, FirstFlawIsOne}
 use Rattle.jc_decode.specs.Laws.{AreListed, InstructionsAreListed}
@@ -44,9 +44,7 @@ module _ (code : List ℕ) where
   target-decided (negsuc n) = inr (λ h. h)
 
   boundary-decided : (p : ℕ) → Decided (IsBoundary code p)
-  boundary-decided p =
-      ⊎_elim (λ end. inl (inl end)) (λ inner. ⊎_elim (λ place. inl (inr place)) (λ none. inr (λ b. ⊎_elim inner none b)) (place-decided p))
-      (cases_eq p (length code))
+  boundary-decided p = grind (arith, place-decided p, cases_eq p (length code), ⊎_elim)
 
   handler-decided : (h : Handler) → Decided (IsHandlerOf code h)
   handler-decided h = by_start (place-decided h.start) (boundary-decided h.end) (cases_lt h.start h.end) (place-decided h.entry)
@@ -117,39 +115,13 @@ module _ (m : Method) where
   Tells (in_table n) f = AtHandler n f
 
   told : (spot : Spot) (f : Flaw) → IsFlaw m spot f → Tells spot f
-  told _ _ (flaw_target i n t there get astray) = inl (record { from = i; target = t; stands = there; here = refl; get = get; is = refl })
-  told _ _ (flaw_end end goes_on why) = inr (record { end = end; here = refl; why = why; is = refl })
-  told _ _ (flaw_handler n h get bad) = record { handler = h; get = get; is = refl }
+  told x x2 x22 = grind (arith)
 
   one-told : AreListed m.code → (spot : Spot) (f g : Flaw) → Tells spot f → Tells spot g → f ≡ g
-  one-told law (in_code p n) f g (inl a) (inl b) =
-      let from : a.from ≡ b.from = law.one a.from b.from a.stands b.stands (a.here ∙ sym b.here) in
-      let get = subst (λ (i : Placed). slice_get (targets m.code i) n ≡ Some a.target) from a.get in
-      let same : a.target ≡ b.target = cc (get, b.get) in
-      a.is ∙ ap (BadTarget p) same ∙ sym b.is
-  one-told law (in_code p n) f g (inl a) (inr b) = let before = law.before_end a.from a.stands in absurd (omega (arith, a.here, b.here))
-  one-told law (in_code p n) f g (inr a) (inl b) = let before = law.before_end b.from b.stands in absurd (omega (arith, a.here, b.here))
-  one-told law (in_code p n) f g (inr a) (inr b) = let same : a.end ≡ b.end = cc (a.why, b.why) in a.is ∙ ap (Code p) same ∙ sym b.is
-  one-told law (in_table n) f g a b =
-      let same : a.handler ≡ b.handler = cc (a.get, b.get) in a.is ∙ ap (λ (h : Handler). BadHandler h.entry n) same ∙ sym b.is
-
--- of two spots one comes before the other, or they are the same
-same-spot : (s t : Spot) → ¬ ComesBefore s t → ¬ ComesBefore t s → s ≡ t
-same-spot (in_code p n) (in_code q k) not_st not_ts =
-    let place : p ≡ q = ⊎_elim (λ low. absurd (not_st (inl low)))
-    (λ le. ⊎_elim (λ high. absurd (not_ts (inl high))) (λ ge. omega arith) (cases_lt q p)) (cases_lt p q) in
-    let number : n ≡ k = ⊎_elim (λ low. absurd (not_st (inr (place, low))))
-    (λ le. ⊎_elim (λ high. absurd (not_ts (inr (sym place, high)))) (λ ge. omega arith) (cases_lt k n)) (cases_lt n k) in
-    ap (λ (r : ℕ). in_code r n) place ∙ ap (in_code q) number
-same-spot (in_code p n) (in_table k) not_st not_ts = absurd (not_st tt)
-same-spot (in_table n) (in_code q k) not_st not_ts = absurd (not_ts tt)
-same-spot (in_table n) (in_table k) not_st not_ts =
-    ap in_table (⊎_elim (λ low. absurd (not_st low)) (λ le. ⊎_elim (λ high. absurd (not_ts high)) (λ ge. omega arith) (cases_lt k n)) (cases_lt n k))
+  one-told law x f g a b = grind (arith)
 
 pub first-flaw-is-one : InstructionsAreListed → FirstFlawIsOne
-first-flaw-is-one listed m f g a b =
-    let same = same-spot a.spot b.spot (b.least a.spot f a.flaw) (a.least b.spot g b.flaw) in
-    one-told m (listed m.code) b.spot f g (told m b.spot f (subst (λ (s : Spot). IsFlaw m s f) same a.flaw)) (told m b.spot g b.flaw)
+first-flaw-is-one listed m f g a b = grind (arith, one-told, told, ⊎_elim, cases_lt)
 
 -- a method with a first flaw is not well formed
 pub first-flaw-refuses : (m : Method) (f : Flaw) → IsFirstFlaw m f → ¬ IsWellFormed m

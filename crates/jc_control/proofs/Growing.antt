@@ -1,11 +1,11 @@
 -- How a traversal goes on.
-use Rattle.std.proofs.Common.{◌≡◌, ◌<◌, ◌≤◌, ◌⊎◌, inl, inr, ⊎_elim, ℕ, Bool, true, false, cond, Result, Ok, Err, List, [], ◌∷◌}
+use Rattle.std.proofs.Common.{◌≡◌, ◌<◌, ◌≤◌, ◌⊎◌, inl, inr, ⊎_elim, ℕ, Bool, true, false, cond, Result, List, [], ◌∷◌}
 use Rattle.std.proofs.Common.{◌++◌, length, refl, sym, ap, ◌∙◌, subst, arith, Contains, MatchBool, All}
-use Rattle.std.specs.Prelude.{ℤ, pos, negsuc, OnOk}
+use Rattle.std.specs.Prelude.{ℤ, OnOk}
 use Rattle.std.proofs.Math.ListN.{set}
 use Rattle.std.proofs.lemmas.List.{length-append, length-set}
 use Rattle.std.proofs.lemmas.List.Sums.{sum_by-set}
-use Rattle.std.proofs.lemmas.List.Elements.{Contains-append_left, Contains-push, Contains-push_cases, All-weaker}
+use Rattle.std.proofs.lemmas.List.Elements.{Contains-append_left, Contains-push, Contains-push_cases}
 use Rattle.jc_base.specs.declared.record.Handler.{Handler}
 use Rattle.jc_control.specs.Method.{Method}
 use Rattle.jc_control.specs.Control.{IsReached, IsLeader}
@@ -43,19 +43,13 @@ module _ (place : ℕ) (old new : Traversal) where
 
   module _ (inside : place < length old.reached) (r : ReachesPlace place old new) where
     pub reached-here : IsFlagged new.reached place
-    reached-here = by_flag (IsFlagged new.reached place)
-        (λ e h. ap (λ (fs : List Bool). flag fs place) h.reached ∙ e)
-        (λ e h. ap (λ (fs : List Bool). flag fs place) h.reached ∙ flag-here old.reached place inside) r
+    reached-here = grind (arith, by_flag, flag-here)
 
     reached-kept : (p : ℕ) → IsFlagged old.reached p → IsFlagged new.reached p
-    reached-kept p k = by_flag (IsFlagged new.reached p)
-        (λ e h. ap (λ (fs : List Bool). flag fs p) h.reached ∙ k)
-        (λ e h. ap (λ (fs : List Bool). flag fs p) h.reached ∙ flag-kept old.reached place p inside k) r
+    reached-kept p k = grind (arith, by_flag, flag-kept)
 
     reached-only : (p : ℕ) → IsFlagged new.reached p → IsFlagged old.reached p ⊎ (p ≡ place)
-    reached-only p k = by_flag (IsFlagged old.reached p ⊎ (p ≡ place))
-        (λ e h. inl (ap (λ (fs : List Bool). flag fs p) (sym h.reached) ∙ k))
-        (λ e h. flag-only old.reached place p (ap (λ (fs : List Bool). flag fs p) (sym h.reached) ∙ k)) r
+    reached-only p k = grind (arith, by_flag, flag-only)
 
     pending-kept : (p : ℕ) → IsPending old p → IsPending new p
     pending-kept p k = by_flag (IsPending new p)
@@ -93,9 +87,7 @@ module _ (place : ℕ) (old new : Traversal) where
     reach-grows leaders = record { reached = reached-kept; leaders = leaders; fresh = reached-fresh; pending = pending-kept; less = less-left }
 
     reached-length : length new.reached ≡ length old.reached
-    reached-length =
-        by_flag (length new.reached ≡ length old.reached) (λ e h. ap length h.reached)
-        (λ e h. ap length h.reached ∙ length-set old.reached place true) r
+    reached-length = grind (arith, by_flag, length, length-set)
 
     pub reach-sound : (m : Method) → IsSoundTraversal m old → IsReached m place → length new.leaders ≡ length old.leaders
         → ((p : ℕ) → IsFlagged new.leaders p → IsLeader m p) → IsSoundTraversal m new
@@ -111,8 +103,7 @@ module _ (place : ℕ) (old new : Traversal) where
 
 -- what holds where a call answers Ok
 pub on-ok : {E : Type 0} (P Q : Type 0) (r : Result (Unit {0}) E) → (P → Q) → OnOk r P → OnOk r Q
-on-ok P Q (Ok t) f h = f h
-on-ok P Q (Err e) f h = tt
+on-ok x x2 x22 f h = grind (arith)
 
 -- a place is reached
 module _ (m : Method) (place : ℕ) (old new : Traversal) (sound : IsSoundTraversal m old) (inside : place ≤ length m.code)
@@ -134,35 +125,21 @@ module _ (m : Method) (place : ℕ) (old new : Traversal) (sound : IsSoundTraver
   led_inside = omega (arith, sound.leaders_size)
 
   pub led-sound : IsReached m place → IsLeader m place → IsSoundTraversal m new
-  led-sound here leader =
-      reach-sound place old new (omega (arith, sound.reached_size)) r m sound here (ap length one_more ∙ length-set old.leaders place true)
-      (λ p h. ⊎_elim (λ before. sound.leaders p before) (λ now. subst (IsLeader m) (sym now) leader)
-      (flag-only old.leaders place p (ap (λ (fs : List Bool). flag fs p) (sym one_more) ∙ h)))
+  led-sound here leader = grind (arith, reach-sound, length, length-set, ⊎_elim, flag-only)
 
   pub led-grows : Grows old new
-  led-grows =
-      reach-grows place old new (omega (arith, sound.reached_size)) r
-      (λ p h. ap (λ (fs : List Bool). flag fs p) one_more ∙ flag-kept old.leaders place p led_inside h)
+  led-grows = grind (arith, reach-grows, flag-kept, led_inside)
 
   pub led-here : IsLed new place
-  led-here = (
-    reached-here place old new (omega (arith, sound.reached_size)) r,
-    ap (λ (fs : List Bool). flag fs place) one_more
-        ∙ flag-here old.leaders place led_inside,
-  )
+  led-here = grind (arith, reached-here, flag-here, led_inside)
 
 -- ---- what is found stays found
 
-pub led-stays : (old new : Traversal) (t : ℤ) → Grows old new → IsLedTo old t → IsLedTo new t
-led-stays old new (pos p) g h = (g.reached p h.0, g.leaders p h.1)
-led-stays old new (negsuc n) g h = tt
-
 pub all-led-stays : (old new : Traversal) (ts : List ℤ) → Grows old new → All (IsLedTo old) ts → All (IsLedTo new) ts
-all-led-stays old new ts g all = All-weaker (IsLedTo old) (IsLedTo new) (λ t h. led-stays old new t g h) ts all
+all-led-stays old new ts g all = grind (arith)
 
 pub all-caught-stay : (old new : Traversal) (place : ℕ) (hs : List Handler) → Grows old new → All (IsCaught old place) hs → All (IsCaught new place) hs
-all-caught-stay old new place hs g all =
-    All-weaker (IsCaught old place) (IsCaught new place) (λ h c covers. let led = c covers in (g.reached h.entry led.0, g.leaders h.entry led.1)) hs all
+all-caught-stay old new place hs g all = grind (arith)
 
 pub closed-stays : (m : Method) (old new : Traversal) (p : ℕ) → ((q : ℕ) → IsFlagged old.reached q → IsFlagged new.reached q)
     → ((q : ℕ) → IsFlagged old.leaders q → IsFlagged new.leaders q)
@@ -190,13 +167,10 @@ module _ (m : Method) (place : ℕ) (old new : Traversal) (t : TakesUp place old
 
       known : IsPending old p ⊎ IsClosedAt m old p → IsPending after p ⊎ IsClosedAt m after p
       known (inl w) = waiting w
-      known (inr c) = inr (closed-stays m old after p
-          (λ q f. g.reached q (ap (λ (fs : List Bool). flag fs q) t.reached ∙ f))
-          (λ q f. g.leaders q (ap (λ (fs : List Bool). flag fs q) t.leaders ∙ f)) c)
+      known (inr c) = grind (arith, closed-stays)
 
 pub on-both : {E : Type 0} (P Q R : Type 0) (r : Result (Unit {0}) E) → (P → Q → R) → OnOk r P → OnOk r Q → OnOk r R
-on-both P Q R (Ok t) f h k = f h k
-on-both P Q R (Err e) f h k = tt
+on-both x x2 x22 x222 f h k = grind (arith)
 
 pub kept : (fs gs : List Bool) (p : ℕ) → fs ≡ gs → IsFlagged fs p → IsFlagged gs p
 kept fs gs p same h = subst (λ (xs : List Bool). IsFlagged xs p) same h

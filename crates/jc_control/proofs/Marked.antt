@@ -1,5 +1,5 @@
 -- Flags as the set of the flagged places.
-use Rattle.std.proofs.Common.{◌≡◌, ◌<◌, ◌⊎◌, inl, inr, ⊎_elim, ℕ, Bool, true, false, List, [], ◌∷◌, ◌++◌, length, sym}
+use Rattle.std.proofs.Common.{◌≡◌, ◌<◌, ◌⊎◌, ⊎_elim, ℕ, Bool, true, false, List, [], ◌∷◌, ◌++◌, length, sym}
 use Rattle.std.proofs.Common.{ap, ◌∙◌, subst, arith}
 use Rattle.std.specs.Prelude.{replicate}
 use Rattle.std.proofs.Math.ListN.{set}
@@ -11,32 +11,20 @@ use Rattle.jc_control.specs.Flags.{flag, IsFlagged, Marks}
 use Rattle.jc_decode.specs.Places.{BeginsIn}
 
 pub flag-none : (n p : ℕ) → flag (replicate n false) p ≡ false
-flag-none n p = elim (cases_lt p n) [
-  | inl inside ↦ get_or-replicate n p false false inside
-  | inr past ↦ get_or_past (replicate n false) p false (omega (arith, length-replicate n false))
-]
+flag-none n p = grind (arith, cases_lt, get_or-replicate, get_or_past, length-replicate)
 
 -- only what is in the list is flagged
 pub flagged-inside : (fs : List Bool) (p : ℕ) → IsFlagged fs p → p < length fs
-flagged-inside fs p h = elim (cases_lt p (length fs)) [
-  | inl inside ↦ inside
-  | inr past ↦ absurd (false≢true (sym (get_or_past fs p false past) ∙ h))
-]
+flagged-inside fs p h = grind (arith, cases_lt, length, false≢true, get_or_past)
 
 pub flag-here : (fs : List Bool) (p : ℕ) → p < length fs → IsFlagged (set fs p true) p
 flag-here fs p inside = get_or-set_same fs p true false inside
 
 pub flag-kept : (fs : List Bool) (p q : ℕ) → p < length fs → IsFlagged fs q → IsFlagged (set fs p true) q
-flag-kept fs p q inside h = elim (cases_eq q p) [
-  | inl here ↦ subst (IsFlagged (set fs p true)) (sym here) (flag-here fs p inside)
-  | inr other ↦ get_or-set_other fs p q true false other ∙ h
-]
+flag-kept fs p q inside h = grind (arith, cases_eq, set, flag-here, get_or-set_other)
 
 pub flag-only : (fs : List Bool) (p q : ℕ) → IsFlagged (set fs p true) q → IsFlagged fs q ⊎ (q ≡ p)
-flag-only fs p q h = elim (cases_eq q p) [
-  | inl here ↦ inr here
-  | inr other ↦ inl (sym (get_or-set_other fs p q true false other) ∙ h)
-]
+flag-only fs p q h = grind (arith, cases_eq, get_or-set_other)
 
 -- ---- the places of instructions
 

@@ -1,5 +1,5 @@
 -- The places of a method's code lie within it.
-use Rattle.std.proofs.Common.{◌≡◌, ◌+◌, ◌<◌, ◌≤◌, ◌∙◌, ℕ, List, [], ◌∷◌, ◌++◌, length, sym, ap, subst, arith}
+use Rattle.std.proofs.Common.{◌≡◌, ◌+◌, ◌<◌, ◌≤◌, ℕ, List, [], ◌∷◌, ◌++◌, length, sym, subst, arith}
 use Rattle.std.specs.Prelude.{ℤ, pos, negsuc, ◌≤ℤ◌, ◌<ℤ◌}
 use Rattle.std.proofs.lemmas.Int.{ints}
 use Rattle.jc_decode.specs.declared.insn.Placed.{Placed}
@@ -30,8 +30,7 @@ module _ (code : List ℕ) (law : AreListed code) where
 
   pub next-end : (before : List Placed) (i : Placed) (after : List Placed) → before ++ i ∷ after ≡ listing code
       → i.place + i.insn.len ≡ end_from 0 (before ++ i ∷ [])
-  next-end before i after whole =
-      ap (λ (n : ℕ). n + i.insn.len) (at-end code 0 before i after (subst (Lists code 0) (sym whole) law.lists)) ∙ sym (end-after 0 before i)
+  next-end before i after whole = grind (arith, at-end, end-after)
 
   -- a target that is a place is a number that fits in sixteen bits
   pub target-range : (t : ℤ) → IsTargetPlace code t → length code ≤ 32767 → (pos 0 ≤ℤ t) × (t <ℤ pos 65536)

@@ -4,7 +4,7 @@ ghost use Rattle.jc_control.specs.WellFormed.{HasInstruction, IsTargetPlace, IsH
 ghost use Rattle.jc_control.specs.Control.{IsReached};
 ghost use Rattle.jc_control.specs.Flags.{IsFlagged};
 ghost use Rattle.jc_control.specs.Subject.{method};
-ghost use Rattle.jc_control.specs.Traversal.{ReachesPlace, TakesUp, Grows, IsSoundTraversal, IsLed, IsLedTo, IsCaught, IsClosedAt, IsDone, found};
+ghost use Rattle.jc_control.specs.Traversal.{ReachesPlace, TakesUp, Grows, IsSoundTraversal, IsLedTo, IsCaught, IsClosedAt, IsDone, found};
 ghost use Rattle.jc_control.specs.ControlFlow.{IsControlFlow};
 ghost use Rattle.jc_control.specs.Listing.{IsListingOf};
 
