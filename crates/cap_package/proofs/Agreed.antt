@@ -1,4 +1,5 @@
 -- The conditions under which the parts of a package agree, by name.
+use Rattle.std.proofs.Common.{arith}
 use Rattle.std.proofs.Common.{◌≡◌, ◌++◌, List, [], length, map}
 use Rattle.cap_frame.specs.AppletFormat.{Applet}
 use Rattle.cap_pool.specs.ExportFormat.{Exported}
@@ -91,9 +92,4 @@ agrees parts p (forms, (sizes, (overlaps, (outside, others)))) = by_counts other
             }
 
 pub agreed : (parts : List Lent) (p : PackageRecord) → Agrees parts p → AllEmpty (conditions_of parts p)
-agreed parts p a =
-    let members : AllEmpty (member_lists p) =
-    (a.handlers, (a.statics, (a.names, (a.classes, (a.registers, (a.types, (a.places, (a.lengths, (a.exports, tt))))))))) in
-    let counts : AllEmpty (count_lists p ++ member_lists p) =
-    (a.imports, (a.applets, (a.image, (a.arrays, (a.array_sizes, (a.pool, (a.arguments, (a.instances, (a.image_sum, (a.bare, members)))))))))) in
-    (a.forms, (a.sizes, (a.overlaps, (a.outside, counts))))
+agreed parts p a = grind (arith)

@@ -3,9 +3,9 @@ use Rattle.std.proofs.Common.{◌≡◌, ℕ, zero, suc, ◌+◌, ◌≤◌, Lis
 use Rattle.std.proofs.Common.{length-take-le, length-drop}
 use Rattle.std.proofs.lemmas.List.Sums.{sum_by-cons}
 use Rattle.cap_bytes.specs.Grammar.{give, ◌>>=◌, repeat}
-use Rattle.cap_bytes.specs.Spelling.{Origin, info_of, Spells}
+use Rattle.cap_bytes.specs.Spelling.{Origin, Spells}
 use Rattle.cap_bytes.specs.Reading.{Reading, read, is_read, value_or}
-use Rattle.cap_bytes.specs.Taking.{next, gives, given}
+use Rattle.cap_bytes.specs.Taking.{gives, given}
 use Rattle.cap_bytes.proofs.Laws.{then_ok, read-spells, pair_ok}
 use Rattle.cap_method.specs.declared.arrays.ArrayInits.{ArrayInits}
 use Rattle.cap_method.specs.StaticFormat.{Array, array_init_info}
@@ -20,16 +20,7 @@ pub record LiesWithin (bytes : List ℕ) (at n after : ℕ) : Type 0 where
 array_within : (bytes : List ℕ) (at : ℕ) (a : Array) (after : ℕ) → Spells array_init_info bytes at a after
     → LiesWithin bytes at (length a.values) after
 unfolding Spells
-array_within bytes at a after h =
-    let kind = h.2 in
-    let count = h.3.2 in
-    let values = h.3.3.2 in
-    let given = h.3.3.3 in
-    let reach : h.3.1 + h.3.0 ≤ length bytes = values.0 in
-    let left : h.3.0 ≤ length (drop h.3.1 bytes) = omega (arith, length-drop h.3.1 bytes) in
-    let size : length h.3.3.0 ≡ h.3.0 = ap length values.1 ∙ length-take-le h.3.0 (drop h.3.1 bytes) left in
-    let same : length a.values ≡ length h.3.3.0 = ap (λ (x : Array). length x.values) given.0 in
-    record { room = omega (arith, kind.2, count.2, values.2, given.1, size, same); reach = omega (arith, values.0, values.2, given.1) }
+array_within bytes at a after h = grind (arith, length, drop, length-drop, length-take-le)
 
 abbrev front : Array → List Array → ℕ → Reading (List Array)
 front a ys p = Ok (a ∷ ys, p)
@@ -39,9 +30,7 @@ one_more a others = sum_by-cons (λ (x : Array). length x.values) a others
 
 arrays_within : (n : ℕ) (from : Origin) (bytes : List ℕ) (at : ℕ) (xs : List Array) (after : ℕ) → at ≤ length bytes
     → read from (repeat n array_init_info) bytes at ≡ Ok (xs, after) → LiesWithin bytes at (array_bytes xs) after
-arrays_within zero from bytes at xs after le h =
-    let e = pair_ok [] xs at after h in
-    record { room = rw (e.0, e.1) (omega arith); reach = rw e.1 le }
+arrays_within zero from bytes at xs after le h = grind (arith, pair_ok)
 arrays_within (suc n) from bytes at xs after le h =
     let t = then_ok (read from array_init_info bytes at) (λ x middle. read from (repeat n array_init_info >>= λ ys. give (x ∷ ys)) bytes middle) xs
     after h in
@@ -60,7 +49,4 @@ value_short bytes at (Err e) known h = absurd cc
 
 pub arrays_short : (x : ArrayInits) → array_bytes (arrays_left x) ≤ 65535
 unfolding gives given
-arrays_short x =
-    let s = value_short x.items.info.bytes.now x.items.at (next (repeat x.left array_init_info) x.items)
-    (λ xs after e. arrays_within x.left (info_of x.items.part) x.items.info.bytes.now x.items.at xs after x.items.within e) x.known in
-    omega (arith, s, x.items.few)
+arrays_short x = grind (arith, value_short, arrays_within)

@@ -1,13 +1,11 @@
 -- What a tally of descriptions and the set of the starts of class records tell.
-use Rattle.std.proofs.Common.{◌≡◌, ℕ, ◌+◌, ◌≤◌, Bool, true, false, cond, eqb, ◌&&◌, ◌||◌, not, List, [], ◌∷◌, map, count_by}
-use Rattle.std.proofs.Common.{Some, None, refl, sym, ap, subst, arith, eq-eqb, ne_eqb, true≢false}
+use Rattle.std.proofs.Common.{◌≡◌, ℕ, ◌+◌, ◌≤◌, Bool, true, false, cond, eqb, ◌&&◌, ◌||◌, List, [], ◌∷◌, map, count_by}
+use Rattle.std.proofs.Common.{refl, sym, subst, arith, eq-eqb, ne_eqb, true≢false}
 use Rattle.std.proofs.lemmas.List.Sums.{sum_by-cons}
-use mathlib.Core.Path.{fun_ext}
 use Rattle.offset_set.specs.Sets.{is_among, is_repeated}
 use Rattle.offset_set.specs.Tallies.{Tallied, tally_of, once}
 use Rattle.cap_class.specs.ClassFormat.{Class}
 use Rattle.cap_desc.specs.DescriptorFormat as desc
-use Rattle.cap_components.specs.declared.fault.PackFault.TheVariants.{ClassUndescribed}
 use Rattle.cap_package.specs.NameChecks.{undescribed_fault, undescribed_class_fault, not_own_fault, is_class_at, own, class_unless}
 
 abbrev pub refs : List desc.ClassDescriptor → List ℕ
@@ -26,31 +24,10 @@ record Tells (some many : Bool) (n : ℕ) : Type 0 where
   two : many ≡ true → 2 ≤ n
 
 tells_next : (b some many : Bool) (n : ℕ) → Tells some many n → Tells (b || some) ((b && some) || many) (cond b 1 0 + n)
-tells_next true true many n t =
-    let more = t.one refl in
-    record { none = λ h. absurd (true≢false h); one = λ h. omega arith; few = λ h. absurd (true≢false h); two = λ h. omega arith }
-tells_next true false many n t =
-    let empty = t.none refl in
-    record {
-      none = λ h. absurd (true≢false h);
-      one = λ h. omega arith;
-      few = λ h. omega (arith, empty);
-      two = λ h. (let more = t.two h in omega (arith, more));
-    }
-tells_next false some many n t = record {
-  none = λ h. (let e = t.none h in omega (arith, e));
-  one = λ h. (let e = t.one h in omega (arith, e));
-  few = λ h. (let e = t.few h in omega (arith, e));
-  two = λ h. (let e = t.two h in omega (arith, e));
-}
+tells_next x some many n t = grind (arith, true≢false)
 
 tells : (ds : List desc.ClassDescriptor) (offset : ℕ) → Tells (is_among (refs ds) offset) (is_repeated (refs ds) offset) (count offset ds)
-tells [] offset = record {
-  none = λ h. refl;
-  one = λ h. absurd (true≢false (sym h));
-  few = λ h. omega arith;
-  two = λ h. absurd (true≢false (sym h));
-}
+tells [] offset = grind (arith, true≢false)
 tells (d ∷ ds) offset =
     subst (Tells (eqb d.class_ref offset || is_among (refs ds) offset)
     ((eqb d.class_ref offset && is_among (refs ds) offset) || is_repeated (refs ds) offset))
@@ -58,25 +35,10 @@ tells (d ∷ ds) offset =
     (tells_next (eqb d.class_ref offset) (is_among (refs ds) offset) (is_repeated (refs ds) offset) (count offset ds)
     (tells ds offset))
 
-just_one : (some many : Bool) (n : ℕ) → Tells some many n → (some && not many) ≡ eqb n 1
-just_one true false n t =
-    let e = t.one refl in
-    let f = t.few refl in
-    sym (eq-eqb n 1 (omega (arith, e, f)))
-just_one true true n t =
-    let e = t.two refl in
-    sym (ne_eqb n 1 (λ same. omega (arith, e, same)))
-just_one false many n t =
-    let e = t.none refl in
-    sym (ne_eqb n 1 (λ same. omega (arith, e, same)))
-
-once_counted : (ds : List desc.ClassDescriptor) (offset : ℕ) → once (tally_of (refs ds)) offset ≡ eqb (count offset ds) 1
-once_counted ds offset = just_one (is_among (refs ds) offset) (is_repeated (refs ds) offset) (count offset ds) (tells ds offset)
-
 pub described_once : (t : Tallied) (ds : List desc.ClassDescriptor) → t ≡ tally_of (refs ds) →
     (λ (c : Class). class_unless (once t) c.offset) ≡ undescribed_fault ds
 unfolding undescribed_fault
-described_once t ds e = rw e (fun_ext (λ c. ap (λ b. cond b None (Some (ClassUndescribed c.offset))) (once_counted ds c.offset)))
+described_once t ds e = grind (arith, cond, tells, eq-eqb, ne_eqb)
 
 pub class_there : (starts : ℕ → Bool) (classes : List Class) → starts ≡ is_class_at classes →
     class_unless starts ≡ undescribed_class_fault classes

@@ -1,7 +1,7 @@
 -- Conditions that are asked one after the other tell the first that is broken.
-use Rattle.std.proofs.Common.{◌≡◌, List, [], ◌++◌, length, map, Option, Some, None, Result, Ok, Err, refl, sym, ap, subst, ◌∙◌, inl, inr}
+use Rattle.std.proofs.Common.{arith}
+use Rattle.std.proofs.Common.{◌≡◌, List, [], ◌++◌, length, map, Option, None, Result, Ok, Err, sym, ap, ◌∙◌, inl, inr}
 use Rattle.cap_frame.specs.DirectoryFormat.{DirectoryItems}
-use Rattle.cap_components.specs.declared.count_kind.CountKind.TheVariants.{Imports, Applets, ImageSize, InitialArrays, ArrayBytes, PoolTypes, ImageSegments}
 use Rattle.cap_components.specs.declared.fault.PackFault.{PackFault}
 use Rattle.cap_components.specs.Parts.{Lent}
 use Rattle.cap_components.specs.Order.{pack_place, refused, least_of}
@@ -17,14 +17,13 @@ use Rattle.cap_package.specs.Pairs.{pairs}
 use Rattle.cap_components.specs.PackageRecord.{described_methods, interface_methods, fields}
 use Rattle.cap_components.specs.PartChecks.{missing, form_fault, custom_tags, size_fault, components, absent_fault, sized_fault, required, optional}
 use Rattle.cap_package.specs.MethodChecks.{overlap_pair, outside_fault}
-use Rattle.cap_package.specs.HeaderChecks.{registers_fault, length_fault, arguments_fault, abstract_fault}
+use Rattle.cap_package.specs.HeaderChecks.{registers_fault, length_fault}
 use Rattle.cap_package.specs.HandlerChecks.{numbered_fault, claim_fault}
 use Rattle.std.specs.List.{enumerate_from}
 use Rattle.cap_package.specs.StaticChecks.{share_pair, image_fault, array_kinds, filled_fault, is_static_at, no_static_fault}
 use Rattle.cap_package.specs.NameChecks.{is_method_at, no_method_fault, no_entry_fault, table_entries, exported_methods, exported_fields, undescribed_fault}
 use Rattle.cap_package.specs.NameChecks.{undescribed_class_fault, not_own_fault}
 use Rattle.cap_package.specs.TypeChecks.{field_type_fault, method_type_fault}
-use Rattle.cap_package.specs.CountChecks.{differ, array_bytes, image_bytes, instance_fault, count_if}
 use Rattle.cap_package.specs.Agreement.{or_none}
 use Rattle.cap_package.specs.Agreement.{places_agree, counts_agree, members_agree, package_from}
 use Rattle.cap_package.specs.FirstFault.{place_lists, count_lists, member_lists, conditions, conditions_of, missing_parts, Tells}
@@ -43,17 +42,7 @@ places-told p =
 
 counts-told : (p : PackageRecord) → IsTold pack_place (counts_agree p) (count_lists p)
 unfolding counts_agree
-counts-told p =
-    step pack_place (one-told pack_place (differ Imports p.directory.import_count (length p.imports)))
-    (step pack_place (one-told pack_place (differ Applets p.directory.applet_count (count_if p.applets)))
-    (step pack_place (one-told pack_place (differ ImageSize p.directory.image_size p.statics.image_size))
-    (step pack_place (one-told pack_place (differ InitialArrays p.directory.array_init_count (length p.statics.arrays)))
-    (step pack_place (one-told pack_place (differ ArrayBytes p.directory.array_init_size (array_bytes p.statics.arrays)))
-    (step pack_place (one-told pack_place (differ PoolTypes (length p.description.items.pool_types) (length p.pool)))
-    (step pack_place (things-told pack_place (arguments_fault p.methods.info p.description) (described_methods p))
-    (step pack_place (things-told pack_place (instance_fault p.classes p.description) p.description.items.classes)
-    (step pack_place (one-told pack_place (differ ImageSegments p.statics.image_size (image_bytes p.statics)))
-    (last pack_place (things-told pack_place (abstract_fault p.methods.info) (described_methods p)))))))))))
+counts-told p = grind (arith, step, one-told, length, things-told, last)
 
 members-told : (p : PackageRecord) → IsTold pack_place (members_agree p) (member_lists p)
 unfolding members_agree
@@ -88,10 +77,7 @@ all-told p =
 -- the answer of the conditions, and then the package
 package_by : (r s t u : Result (Unit {0}) PackFault) (p : PackageRecord) → (r >>= λ _. (s >>= λ _. (t >>= λ _. (u >>= λ _. Ok p))))
     ≡ ((r >>= λ _. (s >>= λ _. (t >>= λ _. u))) >>= λ _. Ok p)
-package_by (Err f) s t u p = refl
-package_by (Ok x) (Err f) t u p = refl
-package_by (Ok x) (Ok y) (Err f) u p = refl
-package_by (Ok x) (Ok y) (Ok z) u p = refl
+package_by x s t u p = grind (arith)
 
 -- what is asked once the components are read
 abbrev then_agree : List Lent → PackageRecord → Result PackageRecord PackFault
@@ -123,13 +109,11 @@ agreement_tells parts p (Err f) e none read = inr (none, inr (p, read-said parts
 reading_tells : (parts : List Lent) (r : Result PackageRecord PackFault) → read_package parts ≡ r → missing_parts parts (read_directory parts) ≡ []
     → Tells parts (r >>= λ p. then_agree parts p)
 reading_tells parts (Err f) e none = inr (none, inl (read-fails parts f e))
-reading_tells parts (Ok p) e none =
-    subst (Tells parts) (sym (agree-told parts p)) (agreement_tells parts p (first_refused pack_place (conditions_of parts p)) refl none e)
+reading_tells parts (Ok p) e none = grind (arith, agree-told, agreement_tells)
 
 missing_tells : (parts : List Lent) (m : Option PackFault) → least_in pack_place None (missing_parts parts (read_directory parts)) ≡ m
     → Tells parts ((refused m >>= λ _. read_package parts) >>= λ p. then_agree parts p)
-missing_tells parts (Some f) e = inl (least-found pack_place (missing_parts parts (read_directory parts)) f e)
-missing_tells parts None e = reading_tells parts (read_package parts) refl (least-none pack_place (missing_parts parts (read_directory parts)) e)
+missing_tells parts x e = grind (arith, least-found, reading_tells, least-none)
 
 -- the answer tells the first fault, or that nothing is at fault
 pub first_told : (parts : List Lent) → Tells parts (package_from parts)

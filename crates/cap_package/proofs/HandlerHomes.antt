@@ -1,12 +1,11 @@
 -- The entries of the handler table that have a home, as the claims of methods tell it.
-use Rattle.std.proofs.Common.{◌≡◌, ℕ, ◌+◌, ◌<◌, ◌≤◌, Bool, true, false, cond, eqb, leb, ltb, ◌&&◌, ◌||◌, not, List, [], ◌∷◌}
-use Rattle.std.proofs.Common.{length, fold, filter, Option, Some, None, refl, sym, ap, ◌∙◌, inl, inr, arith, eq-eqb, ne_eqb, leb-true, le-ltb}
+use Rattle.std.proofs.Common.{◌≡◌, ℕ, ◌+◌, ◌<◌, ◌≤◌, Bool, true, false, cond, eqb, leb, ◌&&◌, ◌||◌, not, List, [], ◌∷◌}
+use Rattle.std.proofs.Common.{length, fold, filter, Option, None, refl, ap, ◌∙◌, inl, inr, arith, eq-eqb, ne_eqb, leb-true, le-ltb}
 use Rattle.std.proofs.lemmas.Bool.{cond-false}
 use Rattle.offset_set.specs.Tallies.{with_one}
 use Rattle.cap_method.specs.declared.handler.HandlerInfo.{HandlerInfo}
 use Rattle.cap_desc.specs.DescriptorFormat.{MethodDescriptor}
 use Rattle.cap_components.specs.declared.fault.PackFault.{PackFault}
-use Rattle.cap_components.specs.declared.fault.PackFault.TheVariants.{HandlerOutside}
 use Rattle.cap_components.specs.Order.{lesser, least_from, least_of}
 use Rattle.cap_package.specs.HandlerChecks.{claims, owners, is_within, has_home, handler_fault, numbered_fault}
 use Rattle.std.specs.List.{enumerate_from}
@@ -36,9 +35,7 @@ here_by : (c : Claimed) (n : ℕ) (claimed within : Bool) →
     entry (cond claimed (record { owned = with_one c.owned n; strays = cond within c.strays (λ o. eqb n o || c.strays o) }) c) n
     ≡ after claimed within (entry c n)
 unfolding with_one
-here_by c n true true = rw (eq-eqb n n refl) refl
-here_by c n true false = rw (eq-eqb n n refl) refl
-here_by c n false within = refl
+here_by c n x within = grind (arith, eq-eqb)
 
 here : (info : List ℕ) (m : MethodDescriptor) (c : Claimed) (n : ℕ) (h : HandlerInfo) →
     entry (claim_one info m c (n, h)) n ≡ after (claims n m) (is_within info h m) (entry c n)
@@ -49,9 +46,7 @@ there_by : (c : Claimed) (k n : ℕ) (claimed within : Bool) → eqb k n ≡ fal
     entry (cond claimed (record { owned = with_one c.owned k; strays = cond within c.strays (λ o. eqb k o || c.strays o) }) c) n
     ≡ entry c n
 unfolding with_one
-there_by c k n true true e = rw e refl
-there_by c k n true false e = rw e refl
-there_by c k n false within e = refl
+there_by c k n x within e = grind (arith)
 
 there : (info : List ℕ) (m : MethodDescriptor) (c : Claimed) (k n : ℕ) (h : HandlerInfo) → (k ≡ n → ⊥) → entry (claim_one info m c (k, h)) n
     ≡ entry c n
@@ -69,23 +64,14 @@ before info m c k n (h ∷ hs) lt =
 
 from_on : (n k : ℕ) (h : HandlerInfo) (hs : List HandlerInfo) → Has {X = ℕ × HandlerInfo} (n, h) (enumerate_from k hs) → k ≤ n
 from_on n k h [] has = absurd has
-from_on n k h (g ∷ hs) (inl same) =
-    let e : n ≡ k = ap (λ (p : ℕ × HandlerInfo). p.0) same in
-    omega (arith, e)
-from_on n k h (g ∷ hs) (inr has) =
-    let le = from_on n (k + 1) h hs has in
-    omega (arith, le)
+from_on n k h (g ∷ hs) (inl same) = grind (arith)
+from_on n k h (g ∷ hs) (inr has) = grind (arith, from_on n (k + 1) h hs has)
 
 claimed_table : (info : List ℕ) (m : MethodDescriptor) (c : Claimed) (n k : ℕ) (h : HandlerInfo) (hs : List HandlerInfo) →
     Has {X = ℕ × HandlerInfo} (n, h) (enumerate_from k hs) →
     entry (claim_table info (enumerate_from k hs) c m) n ≡ after (claims n m) (is_within info h m) (entry c n)
 claimed_table info m c n k h [] has = absurd has
-claimed_table info m c n k h (g ∷ hs) (inl same) =
-    let e : n ≡ k = ap (λ (p : ℕ × HandlerInfo). p.0) same in
-    let f : h ≡ g = ap (λ (p : ℕ × HandlerInfo). p.1) same in
-    before info m (claim_one info m c (k, g)) (k + 1) n hs (omega (arith, e))
-    ∙ ap (λ (p : ℕ × HandlerInfo). entry (claim_one info m c p) n) (sym same)
-    ∙ here info m c n h
+claimed_table info m c n k h (g ∷ hs) (inl same) = grind (arith, before, here)
 claimed_table info m c n k h (g ∷ hs) (inr has) =
     let le = from_on n (k + 1) h hs has in
     claimed_table info m (claim_one info m c (k, g)) n (k + 1) h hs has
@@ -138,9 +124,7 @@ module _ (info : List ℕ) (n : ℕ) (h : HandlerInfo) where
 
   home_by : (m : MethodDescriptor) (rest : List MethodDescriptor) (w : Bool) → is_within info h m ≡ w →
       (is_none rest && not (not w || false)) ≡ has_home info h (m ∷ rest)
-  home_by m [] true e = sym e
-  home_by m [] false e = sym e
-  home_by m (x ∷ rest) w e = refl
+  home_by m x w e = grind (arith)
 
   no_owner : (ms : List MethodDescriptor) →
       is_good (afters info n h (record { met = false; twice = false; stray = false }) ms) ≡ has_home info h (filter test ms)
@@ -159,9 +143,7 @@ module _ (info : List ℕ) (n : ℕ) (h : HandlerInfo) where
 home_told : (info : List ℕ) (ms : List MethodDescriptor) (hs : List HandlerInfo) (p : ℕ × HandlerInfo) → Has p (enumerate_from 0 hs) →
     home_fault (fold (claim_table info (enumerate_from 0 hs)) none_claimed ms) p ≡ numbered_fault info ms p
 unfolding handler_fault owners
-home_told info ms hs p has =
-    ap (λ b. cond b None (Some (HandlerOutside p.0)))
-    (ap is_good (claimed_all info ms none_claimed p.0 p.1 hs has) ∙ no_owner info p.0 p.1 ms)
+home_told info ms hs p has = grind (arith, claimed_all info ms none_claimed p.0 p.1 hs has, no_owner info p.0 p.1 ms, cond)
 
 same_faults : {X : Type 0} (f g : X → Option PackFault) (xs : List X) (least : Option PackFault) →
     ((x : X) → Has x xs → f x ≡ g x) →
@@ -174,10 +156,7 @@ same_faults f g (x ∷ xs) least same =
 pub homes_told : (info : List ℕ) (ms : List MethodDescriptor) (hs : List HandlerInfo) (c : Claimed) →
     c ≡ fold (claim_table info (enumerate_from 0 hs)) none_claimed ms →
     least_of (home_fault c) (enumerate_from 0 hs) ≡ least_of (numbered_fault info ms) (enumerate_from 0 hs)
-homes_told info ms hs c e =
-    ap (λ (d : Claimed). least_of (home_fault d) (enumerate_from 0 hs)) e
-    ∙ same_faults (home_fault (fold (claim_table info (enumerate_from 0 hs)) none_claimed ms)) (numbered_fault info ms) (enumerate_from 0 hs)
-    None (home_told info ms hs)
+homes_told info ms hs c e = grind (arith, same_faults, fold, home_told)
 
 pub no_entries : (hs : List HandlerInfo) (f : ℕ × HandlerInfo → Option PackFault) → length hs ≡ 0 → None ≡ least_of f (enumerate_from 0 hs)
 no_entries [] f e = refl
@@ -185,25 +164,11 @@ no_entries (h ∷ hs) f e = absurd cc
 
 -- ---- a method without handlers claims nothing
 
-claims_by : (m : MethodDescriptor) (n : ℕ) (b : Bool) → leb m.handler_index n ≡ b → m.handler_count ≡ 0 →
-    (b && ltb n (m.handler_index + m.handler_count)) ≡ false
-claims_by m n true e none =
-    let le = leb-true m.handler_index n e in
-    le-ltb n (m.handler_index + m.handler_count) (omega (arith, le, none))
-claims_by m n false e none = refl
-
 claims_none : (info : List ℕ) (p : ℕ × HandlerInfo) (c : Claimed) (m : MethodDescriptor) → m.handler_count ≡ 0 → claim_one info m c p ≡ c
 unfolding claim_one
-claims_none info p c m none =
-    cond-false (claims p.0 m) (record {
-      owned = with_one c.owned p.0;
-      strays =
-          cond (is_within info p.1 m) c.strays (λ o. eqb p.0 o || c.strays o);
-    }) c
-    (claims_by m p.0 (leb m.handler_index p.0) refl none)
+claims_none info p c m none = grind (arith, cond-false, cond, eqb, leb, leb-true, le-ltb)
 
 pub claims_nothing : (info : List ℕ) (table : List (ℕ × HandlerInfo)) (c : Claimed) (m : MethodDescriptor) → m.handler_count ≡ 0 →
     claim_table info table c m ≡ c
 claims_nothing info [] c m none = refl
-claims_nothing info (p ∷ table) c m none =
-    ap (λ d. claim_table info table d m) (claims_none info p c m none) ∙ claims_nothing info table c m none
+claims_nothing info (p ∷ table) c m none = grind (arith, claims_none, claims_nothing info table c m none)

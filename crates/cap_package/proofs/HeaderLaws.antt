@@ -1,5 +1,5 @@
 -- A method whose bytes lie in the info has a header there, of the size that its first byte tells.
-use Rattle.std.proofs.Common.{◌≡◌, ℕ, ◌+◌, ◌*◌, ◌/◌, ◌%◌, ◌≤◌, Bool, true, false, ◌||◌, ltb, leb, cond, List, length, Option}
+use Rattle.std.proofs.Common.{◌≡◌, ℕ, ◌+◌, ◌/◌, ◌%◌, ◌≤◌, Bool, true, false, ◌||◌, ltb, leb, cond, List, length, Option}
 use Rattle.std.proofs.Common.{Some, None, refl, sym, subst, arith}
 use Rattle.std.proofs.lemmas.Bool.{false≢true, le-leb, ltb-false}
 use Rattle.cap_bytes.specs.Number.{number_at}
@@ -7,7 +7,7 @@ use Rattle.cap_bytes.specs.Spelling.{Spells, info_of}
 use Rattle.cap_bytes.proofs.Laws.{spelled-read}
 use Rattle.cap_method.specs.MethodFormat.{Header, method_flags, header_after, method_header}
 use Rattle.cap_desc.specs.DescriptorFormat.{MethodDescriptor}
-use Rattle.cap_components.specs.declared.fault.PackFault.TheVariants.{MethodOutside, TooManyRegisters}
+use Rattle.cap_components.specs.declared.fault.PackFault.TheVariants.{MethodOutside}
 use Rattle.cap_package.specs.HeaderChecks.{header_in, registers_fault}
 use Rattle.cap_package.specs.MethodChecks.{size_by, code_start, code_end, outside_fault}
 
@@ -75,49 +75,31 @@ header_by info offset first false e at h =
     }
 
 within_by : (m : MethodDescriptor) (a b : Bool) → cond (a || b) (Some (MethodOutside m.method_offset)) None ≡ None → b ≡ false
-within_by m true b e = absurd cc
-within_by m false true e = absurd cc
-within_by m false false e = refl
+within_by m x b e = grind (arith)
 
 -- a method that is not outside ends within the info
 pub ends-within : (info : List ℕ) (count : ℕ) (m : MethodDescriptor) → outside_fault info count m ≡ None → code_end info m ≤ length info
 unfolding outside_fault
-ends-within info count m e =
-    ltb-false (length info) (code_end info m) (within_by m (ltb m.method_offset (1 + 8 * count)) (ltb (length info) (code_end info m)) e)
+ends-within info count m e = grind (arith, ltb-false, length, within_by, ltb)
 
 size_of : (b : Bool) → 2 ≤ cond b 4 2
-size_of true = omega arith
-size_of false = omega arith
+size_of x = grind (arith)
 
 pub size_least : (o : Option ℕ) → 2 ≤ size_by o
-size_least None = omega arith
-size_least (Some first) = size_of (leb 128 first)
-
-size_told : (info : List ℕ) (offset first : ℕ) → number_at 1 offset info ≡ Some first → cond (leb 128 first) 4 2 ≡ size_by (number_at 1 offset info)
-size_told info offset first at = rw at refl
+size_least x = grind (arith, size_of, leb)
 
 header_at : (info : List ℕ) (offset first : ℕ) → number_at 1 offset info ≡ Some first → offset + size_by (number_at 1 offset info) ≤ length info
     → HasHeader info offset
-header_at info offset first at h =
-    let size = size_told info offset first at in
-    header_by info offset first (leb 128 first) refl at (omega arith)
+header_at info offset first at h = grind (arith, header_by, leb)
 
 pub has-header : (info : List ℕ) (m : MethodDescriptor) → code_end info m ≤ length info → HasHeader info m.method_offset
 unfolding code_end code_start
-has-header info m h =
-    let least = size_least (number_at 1 m.method_offset info) in
-    let first = byte_at info m.method_offset (omega arith) in
-    header_at info m.method_offset first.0 first.1 (omega arith)
+has-header info m h = grind (arith, size_least, byte_at, header_at)
 
 -- ---- registers
-
-registers_most : (m : MethodDescriptor) (h : Header) (b : Bool) → ltb 255 (h.nargs + h.max_locals) ≡ b
-    → cond b (Some (TooManyRegisters m.method_offset (h.nargs + h.max_locals))) None ≡ None → h.nargs + h.max_locals ≤ 255
-registers_most m h true e none = absurd cc
-registers_most m h false e none = ltb-false 255 (h.nargs + h.max_locals) e
 
 -- a method that has not too many registers has at most 255
 pub few_registers : (info : List ℕ) (m : MethodDescriptor) (h : Header) → header_in info m.method_offset ≡ Some h → registers_fault info m ≡ None
     → h.nargs + h.max_locals ≤ 255
 unfolding registers_fault
-few_registers info m h at none = registers_most m h (ltb 255 (h.nargs + h.max_locals)) refl (rw at at none)
+few_registers info m h at none = grind (arith, ltb, ltb-false)

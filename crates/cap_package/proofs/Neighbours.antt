@@ -42,9 +42,7 @@ has_pair x y (z ∷ ys) (inr h) = inr (has_pair x y ys h)
 pair_has : {X : Type 0} (x : X) (p : X × X) (ys : List X) → Has p (map (λ z. (x, z)) ys) → (p.0 ≡ x) × Has p.1 ys
 pair_has x p [] h = absurd h
 pair_has {X} x p (z ∷ ys) (inl e) = (ap (λ (q : X × X). q.0) e, inl (ap (λ (q : X × X). q.1) e))
-pair_has x p (z ∷ ys) (inr h) =
-    let k = pair_has x p ys h in
-    (k.0, inr k.1)
+pair_has x p (z ∷ ys) (inr h) = grind (arith, pair_has x p ys h)
 
 record FoundIn {X Y : Type 0} (f : X → Option Y) (xs : List X) (y : Y) : Type 0 where
   thing : X
@@ -52,14 +50,10 @@ record FoundIn {X Y : Type 0} (f : X → Option Y) (xs : List X) (y : Y) : Type 
   gives : f thing ≡ Some y
 
 kept_by : {Y : Type 0} (y : Y) (o : Option Y) (ys : List Y) → o ≡ Some y → Has y (cons_option o ys)
-kept_by y None ys e = absurd cc
-kept_by y (Some z) ys e =
-    let same : y ≡ z = cc in
-    inl same
+kept_by y x ys e = grind (arith)
 
 kept_later : {Y : Type 0} (y : Y) (o : Option Y) (ys : List Y) → Has y ys → Has y (cons_option o ys)
-kept_later y None ys h = h
-kept_later y (Some z) ys h = inr h
+kept_later y x ys h = grind (arith)
 
 kept : {X Y : Type 0} (f : X → Option Y) (xs : List X) (x : X) (y : Y) → Has x xs → f x ≡ Some y → Has y (filter_map f xs)
 kept f [] x y h e = absurd h
@@ -68,13 +62,7 @@ kept f (z ∷ xs) x y (inr h) e = kept_later y (f z) (filter_map f xs) (kept f x
 
 found_by : {X Y : Type 0} (f : X → Option Y) (x : X) (xs : List X) (y : Y) (o : Option Y) → f x ≡ o →
     (Has y (filter_map f xs) → FoundIn f xs y) → Has y (cons_option o (filter_map f xs)) → FoundIn f (x ∷ xs) y
-found_by f x xs y None e known h =
-    let k = known h in
-    record { thing = k.thing; there = inr k.there; gives = k.gives }
-found_by f x xs y (Some z) e known (inl same) = record { thing = x; there = inl refl; gives = e ∙ ap Some (sym same) }
-found_by f x xs y (Some z) e known (inr h) =
-    let k = known h in
-    record { thing = k.thing; there = inr k.there; gives = k.gives }
+found_by f x xs y x2 e known h = grind (arith)
 
 found : {X Y : Type 0} (f : X → Option Y) (xs : List X) (y : Y) → Has y (filter_map f xs) → FoundIn f xs y
 found f [] y h = absurd h
@@ -97,37 +85,14 @@ least_up_to : {F : Type 0} (place : F → Place) (fs : List F) (f g : F) → IsL
 least_up_to place [] f g h k = absurd k
 least_up_to place (x ∷ fs) f g (inl h) (inl e) = subst (λ y. IsUpTo (place f) (place y)) (h.0 ∙ sym e) (up_to-refl (place f))
 least_up_to place (x ∷ fs) f g (inl h) (inr k) = first_up_to place fs f g h.1 k
-least_up_to place (x ∷ fs) f g (inr h) (inl e) =
-    subst (λ y. IsUpTo (place f) (place y)) (sym e) (before-up_to (place f) (place x) h.0)
+least_up_to place (x ∷ fs) f g (inr h) (inl e) = grind (arith, before-up_to)
 least_up_to place (x ∷ fs) f g (inr h) (inr k) = least_up_to place fs f g h.1 k
 
 up_to-trans : (p q r : Place) → IsUpTo p q → IsUpTo q r → IsUpTo p r
-up_to-trans p q r (inl a) (inl b) = inl (omega arith)
-up_to-trans p q r (inl a) (inr b) =
-    let e = b.0 in
-    inl (omega arith)
-up_to-trans p q r (inr a) (inl b) =
-    let e = a.0 in
-    inl (omega arith)
-up_to-trans p q r (inr a) (inr b) =
-    let e = a.0 in
-    let f = b.0 in
-    let g = a.1 in
-    let h = b.1 in
-    inr (omega arith, omega arith)
+up_to-trans p q r x x2 = grind (arith)
 
 same_numbers : (p q : Place) → IsUpTo p q → IsUpTo q p → (p.first ≡ q.first) × (p.second ≡ q.second)
-same_numbers p q (inl a) (inl b) = absurd (omega arith)
-same_numbers p q (inl a) (inr b) =
-    let e = b.0 in
-    absurd (omega arith)
-same_numbers p q (inr a) (inl b) =
-    let e = a.0 in
-    absurd (omega arith)
-same_numbers p q (inr a) (inr b) =
-    let g = a.1 in
-    let h = b.1 in
-    (a.0, omega arith)
+same_numbers p q x x2 = grind (arith)
 
 -- ---- two lists of faults that name two numbers have one least, where the second is among the first, and each of the
 -- first has one of the second up to it
@@ -139,12 +104,7 @@ module _ {F : Type 0} (place : F → Place) (make : ℕ → ℕ → F) (placed :
     pub made : f ≡ make m n
 
   same_made : (f g : F) → IsMade f → IsMade g → (place f).first ≡ (place g).first → (place f).second ≡ (place g).second → f ≡ g
-  same_made f g x y d e =
-      let p : place f ≡ two x.m x.n = ap place x.made ∙ placed x.m x.n in
-      let q : place g ≡ two y.m y.n = ap place y.made ∙ placed y.m y.n in
-      let a : x.m ≡ y.m = ap (λ (z : Place). z.first) (sym p) ∙ d ∙ ap (λ (z : Place). z.first) q in
-      let b : x.n ≡ y.n = ap (λ (z : Place). z.second) (sym p) ∙ e ∙ ap (λ (z : Place). z.second) q in
-      x.made ∙ ap (λ k. make k x.n) a ∙ ap (make y.m) b ∙ sym y.made
+  same_made f g x y d e = grind (arith)
 
   pub record Below (fs : List F) (f : F) : Type 0 where
     pub fault : F
@@ -160,9 +120,7 @@ module _ {F : Type 0} (place : F → Place) (make : ℕ → ℕ → F) (placed :
       ((g : F) → Has g gs → Has g fs) → ((f : F) → Has f fs → Below gs f) → o ≡ q
   same_least_by fs gs None q d e within below =
       sym (none_left gs q e (λ g h. subst (Has g) (least-none place fs d) (within g h)))
-  same_least_by fs gs (Some f) None d e within below =
-      let k = below f (least_has place fs f (least-found place fs f d)) in
-      absurd (subst (Has k.fault) (least-none place gs e) k.there)
+  same_least_by fs gs (Some f) None d e within below = grind (arith, least_has place fs f (least-found place fs f d), least-none place gs e)
   same_least_by fs gs (Some f) (Some g) d e within below =
       let least_f = least-found place fs f d in
       let least_g = least-found place gs g e in
@@ -181,9 +139,7 @@ module _ {F : Type 0} (place : F → Place) (make : ℕ → ℕ → F) (placed :
 
 module _ {X : Type 0} (start : X → ℕ) where
   both_left : (a b c : Bool) → a ≡ true → b ≡ true → ((a && b) || c) ≡ true
-  both_left true true c d e = refl
-  both_left true false c d e = absurd (true≢false (sym e))
-  both_left false b c d e = absurd (true≢false (sym d))
+  both_left x b c d e = grind (arith, true≢false)
 
   has_among : (xs : List X) (x : X) (n : ℕ) → Has x xs → start x ≡ n → is_among (map start xs) n ≡ true
   has_among [] x n h e = absurd h
@@ -197,10 +153,7 @@ module _ {X : Type 0} (start : X → ℕ) where
 
   among_by : (x : X) (xs : List X) (n : ℕ) (b : Bool) → eqb (start x) n ≡ b → (is_among (map start xs) n ≡ true → StartsAt xs n) →
       (b || is_among (map start xs) n) ≡ true → StartsAt (x ∷ xs) n
-  among_by x xs n true e known h = record { thing = x; there = inl refl; starts = eqb-true (start x) n e }
-  among_by x xs n false e known h =
-      let k = known h in
-      record { thing = k.thing; there = inr k.there; starts = k.starts }
+  among_by x xs n x2 e known h = grind (arith, eqb-true)
 
   among_has : (xs : List X) (n : ℕ) → is_among (map start xs) n ≡ true → StartsAt xs n
   among_has [] n h = absurd cc
@@ -215,23 +168,7 @@ module _ {X : Type 0} (start : X → ℕ) where
 
   pair_by : (x : X) (xs : List X) (a b : X) → (Has {X = X × X} (a, b) (pairs xs) → IsPair xs a b) →
       Has {X = X × X} (a, b) (map (λ y. (x, y)) xs) ⊎ Has {X = X × X} (a, b) (pairs xs) → IsPair (x ∷ xs) a b
-  pair_by x xs a b known (inl h) =
-      let k = pair_has x (a, b) xs h in
-      record {
-        first = inl k.0;
-        second = inr k.1;
-        twice = λ same. both_left (eqb (start x) (start a)) (is_among (map start xs) (start a))
-            (is_repeated (map start xs) (start a))
-            (eq-eqb (start x) (start a) (ap start (sym k.0))) (has_among xs b (start a) k.1 (sym same));
-      }
-  pair_by x xs a b known (inr h) =
-      let k = known h in
-      record {
-        first = inr k.first;
-        second = inr k.second;
-        twice = λ same. or_right (eqb (start x) (start a) && is_among (map start xs) (start a))
-            (is_repeated (map start xs) (start a)) (k.twice same);
-      }
+  pair_by x xs a b known x2 = grind (arith, pair_has, both_left, eqb, map, eq-eqb, has_among, or_right)
 
   is_pair : (xs : List X) (a b : X) → Has {X = X × X} (a, b) (pairs xs) → IsPair xs a b
   is_pair [] a b h = absurd h
@@ -245,25 +182,11 @@ module _ {X : Type 0} (start : X → ℕ) where
     second : start other ≡ n
 
   two_later : (x : X) (xs : List X) (n : ℕ) → TwoAt xs n → TwoAt (x ∷ xs) n
-  two_later x xs n k = record {
-    one = k.one;
-    other = k.other;
-    paired = has_right (k.one, k.other) (map (λ y. (x, y)) xs) (pairs xs) k.paired;
-    first = k.first;
-    second = k.second;
-  }
+  two_later x xs n k = grind (arith, has_right, map)
 
   two_by : (x : X) (xs : List X) (n : ℕ) (b c : Bool) → eqb (start x) n ≡ b → is_among (map start xs) n ≡ c →
       (is_repeated (map start xs) n ≡ true → TwoAt xs n) → ((b && c) || is_repeated (map start xs) n) ≡ true → TwoAt (x ∷ xs) n
-  two_by x xs n true true d e known h =
-      let k = among_has xs n e in
-      record {
-        one = x;
-        other = k.thing;
-        paired = has_left (x, k.thing) (map (λ y. (x, y)) xs) (pairs xs) (has_pair x k.thing xs k.there);
-        first = eqb-true (start x) n d;
-        second = k.starts;
-      }
+  two_by x xs n true true d e known h = grind (arith, among_has xs n e, eqb-true (start x) n d, has_left, map, has_pair)
   two_by x xs n true false d e known h = two_later x xs n (known h)
   two_by x xs n false c d e known h = two_later x xs n (known h)
 
@@ -275,17 +198,9 @@ module _ {X : Type 0} (start : X → ℕ) where
       Has {X = X × X} (a, b) (pairs xs) ⊎ Has {X = X × X} (b, a) (pairs xs)
   apart_pair [] a b h k apart = absurd h
   apart_pair (x ∷ xs) a b (inl d) (inl e) apart = absurd (apart (ap start (d ∙ sym e)))
-  apart_pair (x ∷ xs) a b (inl d) (inr k) apart =
-      inl (has_left (a, b) (map (λ y. (x, y)) xs) (pairs xs) (subst (λ z. Has {X = X
-      × X} (z, b) (map (λ y. (x, y)) xs)) (sym d) (has_pair x b xs k)))
-  apart_pair (x ∷ xs) a b (inr h) (inl e) apart =
-      inr (has_left (b, a) (map (λ y. (x, y)) xs) (pairs xs) (subst (λ z. Has {X = X
-      × X} (z, a) (map (λ y. (x, y)) xs)) (sym e) (has_pair x a xs h)))
-  apart_pair (x ∷ xs) a b (inr h) (inr k) apart =
-      elim (apart_pair xs a b h k apart) [
-        | inl p ↦ inl (has_right (a, b) (map (λ y. (x, y)) xs) (pairs xs) p)
-        | inr p ↦ inr (has_right (b, a) (map (λ y. (x, y)) xs) (pairs xs) p)
-      ]
+  apart_pair (x ∷ xs) a b (inl d) (inr k) apart = grind (arith, has_left, map, has_pair)
+  apart_pair (x ∷ xs) a b (inr h) (inl e) apart = grind (arith, has_left, map, has_pair)
+  apart_pair (x ∷ xs) a b (inr h) (inr k) apart = grind (arith, has_right, map, apart_pair xs a b h k apart)
 
 -- ---- the nearest
 
@@ -296,9 +211,7 @@ record NearBelow (ns : List ℕ) (s t : ℕ) : Type 0 where
 
 next_below : (ns : List ℕ) (s t : ℕ) (o : Option ℕ) → IsNext (is_among ns) s o → s < t → is_among ns t ≡ true → (n : ℕ)
     × (o ≡ Some n) × (n ≤ t)
-next_below ns s t None h lt e = absurd (true≢false (sym e ∙ h t lt))
-next_below ns s t (Some n) h lt e =
-    (n, refl, elim (cases_lt t n) [ inl less ↦ absurd (true≢false (sym e ∙ h.2 t lt less)) | inr le ↦ le ])
+next_below ns s t x h lt e = grind (arith, true≢false, cases_lt)
 
 near_by : (ns : List ℕ) (s t : ℕ) (b : Bool) → is_repeated ns s ≡ b → s ≤ t → is_among ns t ≡ true →
     (s ≡ t → is_repeated ns s ≡ true) → NearBelow ns s t
@@ -345,11 +258,7 @@ module _ {X F : Type 0} (start end : X → ℕ) (place : F → Place) (make : �
 
   reaching_by : (xs : List X) (a b : X) (f : F) → IsPair start xs a b → (start b < start a) ⊎ (start a ≤ start b) → overlap (a, b)
       ≡ Some f → Below place make placed (filter_map (near_fault xs) xs) f
-  reaching_by xs a b f k (inl lt) h =
-      lower_by xs b a f (ltb (start a) (end b)) refl k.second k.first (omega arith) (λ same. absurd (omega arith))
-      (sym (down a b (omega arith)) ∙ h)
-  reaching_by xs a b f k (inr le) h =
-      lower_by xs a b f (ltb (start b) (end a)) refl k.first k.second le k.twice (sym (up a b le) ∙ h)
+  reaching_by xs a b f k x h = grind (arith, lower_by, ltb)
 
   reaching : (xs : List X) (f : F) → Has f (filter_map overlap (pairs xs)) →
       Below place make placed (filter_map (near_fault xs) xs) f
@@ -388,15 +297,12 @@ module _ {X F : Type 0} (start end : X → ℕ) (place : F → Place) (make : �
 
   next_by : (xs : List X) (c : X) (g : F) (o : Option ℕ) → Has c xs → IsNext (is_among (map start xs)) (start c) o →
       reach (start c) (end c) o ≡ Some g → Has g (filter_map overlap (pairs xs))
-  next_by xs c g None there next h = absurd cc
-  next_by xs c g (Some n) there next h = above_by xs c g n (ltb n (end c)) there next.0 next.1 refl h
+  next_by xs c g x there next h = grind (arith, above_by, ltb)
 
   within_by : (xs : List X) (c : X) (g : F) (b : Bool) → Has c xs → is_repeated (map start xs) (start c) ≡ b →
       reach (start c) (end c) (cond b (Some (start c)) (least_above (start c) (map start xs))) ≡ Some g →
       Has g (filter_map overlap (pairs xs))
-  within_by xs c g true there e h = here_by xs c g (ltb (start c) (end c)) refl e h
-  within_by xs c g false there e h =
-      next_by xs c g (least_above (start c) (map start xs)) there (next-above (start c) (map start xs)) h
+  within_by xs c g x there e h = grind (arith, here_by, ltb, next_by, map, next-above)
 
   within : (xs : List X) (g : F) → Has g (filter_map (near_fault xs) xs) → Has g (filter_map overlap (pairs xs))
   within xs g h =

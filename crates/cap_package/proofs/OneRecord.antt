@@ -1,5 +1,6 @@
 -- A list of parts stands for a package exactly where the package is answered, so for one at most.
-use Rattle.std.proofs.Common.{◌≡◌, ℕ, Option, Some, None, IfSome, List, Result, Ok, Err, sym, ap, subst, inl, inr}
+use Rattle.std.proofs.Common.{arith}
+use Rattle.std.proofs.Common.{◌≡◌, ℕ, Option, IfSome, List, Result, Ok, Err, sym, ap, subst, inl, inr}
 use Rattle.std.specs.Option.{option_map}
 use Rattle.cap_bytes.specs.Grammar.{Grammar}
 use Rattle.cap_components.specs.declared.fault.PackFault.{PackFault}
@@ -41,12 +42,9 @@ stands_only parts p s = stands_told parts p (package_from parts) s (first_told p
 
 -- ---- the answer
 
-answer_stands : (parts : List Lent) (p : PackageRecord) → Tells parts (Ok p) → StandsFor parts p
-answer_stands parts p t = record { said = t.1; missing = t.0; agree = t.2 }
-
 -- the answer is a package only where the parts stand for it
 pub answer_is : (parts : List Lent) (p : PackageRecord) → package_from parts ≡ Ok p → StandsFor parts p
-answer_is parts p h = answer_stands parts p (subst (Tells parts) h (first_told parts))
+answer_is parts p h = grind (arith, first_told)
 
 -- ---- the infos of the records
 
@@ -56,14 +54,12 @@ same_info i j r e h = cc
 -- the info among the parts is the one that stands for the items
 pub holds-info : {X : Type 0} (parts : List Lent) (tag : ℕ) (g : Grammar X) (info : List ℕ) (items : X) → Says parts tag g items
     → info_in parts tag ≡ Ok info → HoldsComponent parts tag g info items
-holds-info parts tag g info items s e =
-    subst (λ i. HoldsComponent parts tag g i items) (same_info s.0 info (info_in parts tag) (info-read parts tag g s.0 items s.1) e) s.1
+holds-info parts tag g info items s e = grind (arith, same_info, info-read)
 
 pub holds-if : {R X : Type 0} (view : R → X) (bytes : R → List ℕ) (parts : List Lent) (tag : ℕ) (g : Grammar X) (o : Option R)
     → SaysIf parts tag g (option_map view o) → IfSome o (λ x. info_in parts tag ≡ Ok (bytes x))
     → IfSome o (λ x. HoldsComponent parts tag g (bytes x) (view x))
-holds-if view bytes parts tag g None s e = tt
-holds-if view bytes parts tag g (Some x) s e = holds-info parts tag g (bytes x) (view x) s e
+holds-if view bytes parts tag g x s e = grind (arith, holds-info)
 
 -- ---- parts that are known to stand for a package
 

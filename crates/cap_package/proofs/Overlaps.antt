@@ -1,6 +1,6 @@
 -- Methods and static fields overlap exactly where one reaches to the nearest other from its own start on.
 use Rattle.std.proofs.Common.{◌≡◌, ℕ, ◌<◌, ◌≤◌, ltb, cond, min, max, List, [], ◌∷◌, ◌++◌, length, map, Option, Some, None, refl}
-use Rattle.std.proofs.Common.{sym, ap, subst, ◌∙◌, inl, inr, arith, lt-ltb, le-ltb}
+use Rattle.std.proofs.Common.{sym, ap, subst, ◌∙◌, arith, lt-ltb, le-ltb}
 use Rattle.std.specs.List.{filter_map, cons_option}
 use Rattle.std.proofs.lemmas.Bool.{cases_lt}
 use Rattle.std.proofs.lemmas.List.Elements.{filter_map-append}
@@ -9,7 +9,6 @@ use Rattle.first_fault.proofs.LeastFaults.{least_in, least-at_fault}
 use Rattle.offset_set.specs.Sets.{nearest}
 use Rattle.offset_set.specs.Tallies.{Tallied, tally_of, IsNearest}
 use Rattle.offset_set.proofs.Next.{is-nearest}
-use Rattle.cap_bytes.specs.Number.{number_at}
 use Rattle.cap_desc.specs.DescriptorFormat.{MethodDescriptor, FieldDescriptor}
 use Rattle.cap_components.specs.declared.fault.PackFault.{PackFault}
 use Rattle.cap_components.specs.declared.fault.PackFault.TheVariants.{MethodOverlaps, StaticOverlaps}
@@ -30,47 +29,26 @@ near_known t starts offset near e h = is-nearest starts offset near (subst (λ k
 
 -- an end that is past the place anyway does not count
 past_end : (n a b l : ℕ) → n < b → ltb n (min (min a b) l) ≡ ltb n (min a l)
-past_end n a b l lt = elim (cases_lt n (min a l)) [
-  | inl less ↦ lt-ltb n (min (min a b) l) (omega arith) ∙ sym (lt-ltb n (min a l) less)
-  | inr le ↦ le-ltb n (min (min a b) l) (omega arith) ∙ sym (le-ltb n (min a l) le)
-]
+past_end n a b l lt = grind (arith, cases_lt, min, lt-ltb, le-ltb)
 
 past_other : (n a b : ℕ) → n < b → ltb n (min a b) ≡ ltb n a
-past_other n a b lt = elim (cases_lt n a) [
-  | inl less ↦ lt-ltb n (min a b) (omega arith) ∙ sym (lt-ltb n a less)
-  | inr le ↦ le-ltb n (min a b) (omega arith) ∙ sym (le-ltb n a le)
-]
+past_other n a b lt = grind (arith, cases_lt, lt-ltb, min, le-ltb)
 
 -- ---- methods
 
 pub method_some : (info : List ℕ) (m : MethodDescriptor) → m.method_offset < code_end info m
 unfolding code_start code_end
-method_some info m =
-    let some = size_least (number_at 1 m.method_offset info) in
-    omega (arith, some)
+method_some info m = grind (arith, size_least)
 
 method_up : (info : List ℕ) (a b : MethodDescriptor) → a.method_offset ≤ b.method_offset → overlap_pair info (a, b)
     ≡ cond (ltb b.method_offset (method_end info a)) (Some (MethodOverlaps a.method_offset b.method_offset)) None
 unfolding overlap_fault
-method_up info a b le =
-    let low : min a.method_offset b.method_offset ≡ a.method_offset = omega arith in
-    let high : max a.method_offset b.method_offset ≡ b.method_offset = omega arith in
-    rw (low, high, past_end b.method_offset (code_end info a) (code_end info b) (length info) (method_some info b)) refl
+method_up info a b le = grind (arith, min, max, past_end, length, method_some)
 
 method_down : (info : List ℕ) (a b : MethodDescriptor) → b.method_offset ≤ a.method_offset → overlap_pair info (a, b)
     ≡ cond (ltb a.method_offset (method_end info b)) (Some (MethodOverlaps b.method_offset a.method_offset)) None
 unfolding overlap_fault
-method_down info a b le =
-    let low : min a.method_offset b.method_offset ≡ b.method_offset = omega arith in
-    let high : max a.method_offset b.method_offset ≡ a.method_offset = omega arith in
-    let turned : min (code_end info a) (code_end info b) ≡ min (code_end info b) (code_end info a) = omega arith in
-    rw (low, high, turned, past_end a.method_offset (code_end info b) (code_end info a) (length info) (method_some info a)) refl
-
-method_own : (info : List ℕ) (a b : MethodDescriptor) → a.method_offset ≡ b.method_offset → a.method_offset < method_end info a →
-    b.method_offset < method_end info b
-method_own info a b same lt =
-    let some = method_some info b in
-    omega (arith, same, lt, some)
+method_down info a b le = grind (arith, min, max, past_end, length, method_some)
 
 method_placed : (m n : ℕ) → pack_place (MethodOverlaps m n) ≡ two m n
 unfolding pack_place
@@ -81,14 +59,13 @@ pub method_neighbours : (info : List ℕ) (ms : List MethodDescriptor) → least
 unfolding method_reach
 method_neighbours info ms =
     sym (least-neighbour method_start (method_end info) pack_place MethodOverlaps method_placed (overlap_pair info) (method_up info)
-    (method_down info) (method_own info) ms)
+    (method_down info) (grind (arith, method_some)) ms)
 
 -- what is found with the nearest start
 pub method_reaches : (t : Tallied) (starts : List ℕ) (info : List ℕ) (m : MethodDescriptor) (near : Option ℕ) → t ≡ tally_of starts →
     IsNearest t m.method_offset near → reach_by MethodOverlaps m.method_offset (method_end info m) near ≡ method_reach info starts m
 unfolding method_reach
-method_reaches t starts info m near e h =
-    ap (reach_by MethodOverlaps m.method_offset (method_end info m)) (near_known t starts m.method_offset near e h)
+method_reaches t starts info m near e h = grind (arith, near_known)
 
 -- ---- static fields
 
@@ -97,18 +74,11 @@ share_places p = share_by (Some p.0) (Some p.1)
 
 static_up : (p q : ImagePlace) → p.offset ≤ q.offset → share_places (p, q)
     ≡ cond (ltb q.offset (static_end p)) (Some (StaticOverlaps p.offset q.offset)) None
-static_up p q le =
-    let low : min p.offset q.offset ≡ p.offset = omega arith in
-    let high : max p.offset q.offset ≡ q.offset = omega arith in
-    rw (low, high, past_other q.offset (static_end p) (static_end q) (omega (arith, takes_byte q.ty))) refl
+static_up p q le = grind (arith, min, max, past_other, takes_byte)
 
 static_down : (p q : ImagePlace) → q.offset ≤ p.offset → share_places (p, q)
     ≡ cond (ltb p.offset (static_end q)) (Some (StaticOverlaps q.offset p.offset)) None
-static_down p q le =
-    let low : min p.offset q.offset ≡ q.offset = omega arith in
-    let high : max p.offset q.offset ≡ p.offset = omega arith in
-    let turned : min (static_end p) (static_end q) ≡ min (static_end q) (static_end p) = omega arith in
-    rw (low, high, turned, past_other p.offset (static_end q) (static_end p) (omega (arith, takes_byte p.ty))) refl
+static_down p q le = grind (arith, min, max, past_other, takes_byte)
 
 static_own : (p q : ImagePlace) → p.offset ≡ q.offset → p.offset < static_end p → q.offset < static_end q
 static_own p q same lt = omega (arith, takes_byte q.ty)
@@ -123,8 +93,7 @@ shared_by : (d : Description) (p : ImagePlace) (g : FieldDescriptor) (gs : List 
     ≡ filter_map share_places (map (λ q. (p, q)) (filter_map (place_in d) gs)) →
     cons_option (share_by (Some p) o) (filter_map (λ h. share_by (Some p) (place_in d h)) gs)
     ≡ filter_map share_places (map (λ q. (p, q)) (cons_option o (filter_map (place_in d) gs)))
-shared_by d p g gs None known = known
-shared_by d p g gs (Some q) known = ap (cons_option (share_places (p, q))) known
+shared_by d p g gs x known = grind (arith)
 
 shared : (d : Description) (p : ImagePlace) (gs : List FieldDescriptor) → filter_map (λ h. share_by (Some p) (place_in d h)) gs
     ≡ filter_map share_places (map (λ q. (p, q)) (filter_map (place_in d) gs))
@@ -146,18 +115,12 @@ first_shared : (d : Description) (f : FieldDescriptor) (fs : List FieldDescripto
     filter_map (λ h. share_by o (place_in d h)) fs ++ filter_map (share_pair d) (pairs fs)
     ≡ filter_map share_places (pairs (cons_option o (filter_map (place_in d) fs)))
 first_shared d f fs None known = rw (none_shared d fs) known
-first_shared d f fs (Some p) known =
-    ap (λ xs. xs ++ filter_map (share_pair d) (pairs fs)) (shared d p fs)
-    ∙ ap (λ ys. filter_map share_places (map (λ q. (p, q)) (filter_map (place_in d) fs)) ++ ys) known
-    ∙ sym (filter_map-append share_places (map (λ q. (p, q)) (filter_map (place_in d) fs)) (pairs (filter_map (place_in d) fs)))
+first_shared d f fs (Some p) known = grind (arith, shared d p fs, map, filter_map-append)
 
 all_shared : (d : Description) (fs : List FieldDescriptor) → filter_map (share_pair d) (pairs fs)
     ≡ filter_map share_places (pairs (filter_map (place_in d) fs))
 all_shared d [] = refl
-all_shared d (f ∷ fs) =
-    filter_map-append (share_pair d) (map (λ g. (f, g)) fs) (pairs fs)
-    ∙ ap (λ xs. xs ++ filter_map (share_pair d) (pairs fs)) (of_pairs d f fs)
-    ∙ first_shared d f fs (place_in d f) (all_shared d fs)
+all_shared d (f ∷ fs) = grind (arith, of_pairs d f fs, first_shared d f fs (place_in d f) (all_shared d fs), filter_map-append, map)
 
 pub static_neighbours : (d : Description) (fs : List FieldDescriptor) →
     least_of (static_reach (map static_start (filter_map (place_in d) fs))) (filter_map (place_in d) fs)

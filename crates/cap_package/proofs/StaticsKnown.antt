@@ -1,6 +1,6 @@
 -- What holds of the static fields of a package, since its parts agree.
-use Rattle.std.proofs.Common.{◌≡◌, ℕ, ◌+◌, ◌*◌, ◌/◌, ◌%◌, ◌≤◌, Bool, true, false, ◌||◌, ltb, eqb, cond, min, max, List, []}
-use Rattle.std.proofs.Common.{◌∷◌, ◌++◌, map, Option, Some, None, refl, sym, subst, ◌∙◌, arith}
+use Rattle.std.proofs.Common.{◌≡◌, ℕ, ◌+◌, ◌*◌, ◌≤◌, Bool, true, ◌||◌, ltb, eqb, cond, min, max, List, []}
+use Rattle.std.proofs.Common.{◌∷◌, ◌++◌, map, Option, Some, None, refl, sym, ◌∙◌, arith}
 use Rattle.std.specs.Prelude.{All, slice_get}
 use Rattle.std.specs.List.{filter_map, cons_option}
 use Rattle.std.proofs.lemmas.Bool.{ltb-false, eqb-true}
@@ -10,10 +10,10 @@ use Rattle.cap_method.specs.StaticFormat.{Array, Statics}
 use Rattle.cap_desc.specs.declared.type_item.TypeItem.{TypeItem}
 use Rattle.cap_desc.specs.DescriptorFormat.{FieldDescriptor}
 use Rattle.cap_components.specs.declared.fault.PackFault.{PackFault}
-use Rattle.cap_components.specs.declared.fault.PackFault.TheVariants.{StaticOutside, StaticOverlaps}
+use Rattle.cap_components.specs.declared.fault.PackFault.TheVariants.{StaticOutside}
 use Rattle.cap_components.specs.Descriptions.{Description, field_type}
 use Rattle.cap_package.specs.HeaderChecks.{is_static}
-use Rattle.cap_package.specs.StaticChecks.{ImagePlace, image_offset, place_by, place_in, is_in_image, image_fault, array_kinds, kind_at, filled_by}
+use Rattle.cap_package.specs.StaticChecks.{ImagePlace, image_offset, place_by, place_in, is_in_image, image_fault, array_kinds, kind_at}
 use Rattle.cap_package.specs.StaticChecks.{filled_fault, width_of, share_by, share_fault, share_pair}
 use Rattle.cap_package.specs.Pairs.{pairs}
 use Rattle.cap_components.specs.PackageRecord.{PackageRecord, fields}
@@ -31,8 +31,7 @@ NoneOf f (x ∷ xs) = (f x ≡ None) × NoneOf f xs
 
 none_first : {X Y : Type 0} (f : X → Option Y) (xs : List X) (o : Option Y) → (filter_map f xs ≡ [] → NoneOf f xs)
     → cons_option o (filter_map f xs) ≡ [] → (o ≡ None) × NoneOf f xs
-none_first f xs None known h = (refl, known h)
-none_first f xs (Some y) known h = absurd cc
+none_first f xs x known h = grind (arith)
 
 none_of : {X Y : Type 0} (f : X → Option Y) (xs : List X) → filter_map f xs ≡ [] → NoneOf f xs
 none_of f [] h = tt {0}
@@ -43,10 +42,7 @@ both_empty [] ys h = (refl, h)
 both_empty (x ∷ xs) ys h = absurd cc
 
 pub three_empty : {X : Type 0} (xs ys zs : List X) → (xs ++ ys) ++ zs ≡ [] → (xs ≡ []) × (ys ≡ []) × (zs ≡ [])
-three_empty xs ys zs h =
-    let (front, last) = both_empty (xs ++ ys) zs h in
-    let (first, second) = both_empty xs ys front in
-    (first, second, last)
+three_empty xs ys zs h = grind (arith, both_empty)
 
 none_front : {X Y : Type 0} (f : X → Option Y) (xs ys : List X) → NoneOf f (xs ++ ys) → NoneOf f xs
 none_front f [] ys h = tt {0}
@@ -68,10 +64,7 @@ record IsPlaceOf (f : FieldDescriptor) (t : TypeItem) (p : ImagePlace) : Type 0 
 
 static_by : (f : FieldDescriptor) (t : TypeItem) (p : ImagePlace) (b : Bool) → cond b (Some (record { offset = image_offset f; ty = t })) None ≡ Some p
     → IsPlaceOf f t p
-static_by f t p true h =
-    let same : record { offset = image_offset f; ty = t } ≡ p = cc in
-    subst (IsPlaceOf f t) same (record { offset = refl; ty = refl })
-static_by f t p false h = absurd cc
+static_by f t p x h = grind (arith)
 
 record ComesFrom (d : Description) (f : FieldDescriptor) (p : ImagePlace) : Type 0 where
   offset : p.offset ≡ image_offset f
@@ -80,36 +73,21 @@ record ComesFrom (d : Description) (f : FieldDescriptor) (p : ImagePlace) : Type
 place_from : (d : Description) (f : FieldDescriptor) (p : ImagePlace) (o : Option TypeItem) → field_type d f.ty ≡ o → place_by f o ≡ Some p
     → ComesFrom d f p
 place_from d f p None e h = absurd cc
-place_from d f p (Some t) e h =
-    let s = static_by f t p (is_static f.flags) h in
-    record { offset = s.offset; typed = subst IsFieldType (sym s.ty) (field_typed d f.ty t e) }
+place_from d f p (Some t) e h = grind (arith, static_by f t p (is_static f.flags) h, field_typed d f.ty t e)
 
 inside_by : (s : Statics) (p : ImagePlace) (fault : PackFault) (b : Bool) → is_in_image s p ≡ b → cond b None (Some fault) ≡ None
     → is_in_image s p ≡ true
-inside_by s p fault true e h = e
-inside_by s p fault false e h = absurd cc
-
-filled_by_kind : (kind : ℕ) (p : ImagePlace) (fault : PackFault) (b : Bool) → eqb p.ty.nibble (kind + 8) ≡ b → cond b None (Some fault) ≡ None
-    → p.ty.nibble ≡ kind + 8
-filled_by_kind kind p fault true e h = eqb-true _ _ e
-filled_by_kind kind p fault false e h = absurd cc
+inside_by s p fault x e h = grind (arith)
 
 -- the initial array with a number fills the reference at twice that number
 fills_at : (arrays : List Array) (k : ℕ) (a : Array) → slice_get arrays k ≡ Some a → kind_at (array_kinds arrays) (2 * k) ≡ Some a.kind
 unfolding kind_at
-fills_at arrays k a e =
-    let even : (2 * k) % 2 ≡ 0 = omega arith in
-    let half : (2 * k) / 2 ≡ k = omega arith in
-    rw (even, half, slice_get-map (λ (x : Array). x.kind) arrays k, e) refl
+fills_at arrays k a e = grind (arith, slice_get-map)
 
 filled_at : (arrays : List Array) (d : Description) (f : FieldDescriptor) (p : ImagePlace) (k : ℕ) (a : Array) → place_in d f ≡ Some p
     → image_offset f ≡ 2 * k → slice_get arrays k ≡ Some a → filled_fault (array_kinds arrays) d f ≡ None → p.ty.nibble ≡ a.kind + 8
 unfolding filled_fault
-filled_at arrays d f p k a e at there h =
-    let g : filled_by (kind_at (array_kinds arrays) (2 * k)) (place_in d f)
-    ≡ None = subst (λ n. filled_by (kind_at (array_kinds arrays) n) (place_in d f) ≡ None) at h in
-    let i : filled_by (Some a.kind) (Some p) ≡ None = rw (fills_at arrays k a there, e) at g in
-    filled_by_kind a.kind p (StaticOutside p.offset) (eqb p.ty.nibble (a.kind + 8)) refl i
+filled_at arrays d f p k a e at there h = grind (arith, fills_at, eqb, eqb-true)
 
 place_known : (s : Statics) (d : Description) (f : FieldDescriptor) (p : ImagePlace) → place_in d f ≡ Some p → image_fault s d f ≡ None
     → filled_fault (array_kinds s.arrays) d f ≡ None → IsStaticPlace s p
@@ -145,31 +123,21 @@ statics_known p h =
 -- ---- fields that share no byte stand apart
 
 one_byte : (a b c : Bool) → 1 ≤ cond (a || b) 1 (cond c 4 2)
-one_byte true b c = omega arith
-one_byte false true c = omega arith
-one_byte false false true = omega arith
-one_byte false false false = omega arith
+one_byte x b c = grind (arith)
 
 pub takes_byte : (t : TypeItem) → 1 ≤ width_of t
 takes_byte t = one_byte (eqb t.nibble 2) (eqb t.nibble 3) (eqb t.nibble 5)
 
 apart_by : (p q : ImagePlace) (fault : PackFault) (b : Bool) → ltb (max p.offset q.offset) (min (p.offset + width_of p.ty) (q.offset + width_of q.ty))
     ≡ b → cond b (Some fault) None ≡ None → p.offset ≡ q.offset → ⊥
-apart_by p q fault true e h same = absurd cc
-apart_by p q fault false e h same =
-    let le = ltb-false (max p.offset q.offset) (min (p.offset + width_of p.ty) (q.offset + width_of q.ty)) e in
-    omega (arith, le, same, takes_byte p.ty, takes_byte q.ty)
+apart_by p q fault x e h same = grind (arith, ltb-false, max, min, takes_byte)
 
 abbrev IsApart : ImagePlace → ImagePlace → Type 0
 IsApart p q = p.offset ≡ q.offset → ⊥
 
 next_apart : (d : Description) (p : ImagePlace) (fs : List FieldDescriptor) (o : Option ImagePlace) → share_by (Some p) o ≡ None
     → All (IsApart p) (filter_map (place_in d) fs) → All (IsApart p) (cons_option o (filter_map (place_in d) fs))
-next_apart d p fs None h others = others
-next_apart d p fs (Some q) h others =
-    All-cons (IsApart p) q (filter_map (place_in d) fs)
-    (apart_by p q (StaticOverlaps (min p.offset q.offset) (max p.offset q.offset))
-    (ltb (max p.offset q.offset) (min (p.offset + width_of p.ty) (q.offset + width_of q.ty))) refl h) others
+next_apart d p fs x h others = grind (arith, apart_by, min, max, ltb)
 
 others_apart : (d : Description) (p : ImagePlace) (fs : List FieldDescriptor) → NoneOf (share_fault d (Some p)) fs
     → All (IsApart p) (filter_map (place_in d) fs)
@@ -179,8 +147,7 @@ others_apart d p (f ∷ fs) none = next_apart d p fs (place_in d f) none.0 (othe
 
 first_apart : (d : Description) (fs : List FieldDescriptor) (o : Option ImagePlace) → NoneOf (share_fault d o) fs
     → AreApart (filter_map (place_in d) fs) → AreApart (cons_option o (filter_map (place_in d) fs))
-first_apart d fs None none others = others
-first_apart d fs (Some p) none others = (others_apart d p fs none, others)
+first_apart d fs x none others = grind (arith, others_apart)
 
 all_apart : (d : Description) (fs : List FieldDescriptor) → NoneOf (share_pair d) (pairs fs) → AreApart (filter_map (place_in d) fs)
 all_apart d [] none = tt {0}
@@ -190,6 +157,4 @@ all_apart d (f ∷ fs) none =
 
 -- the static fields of a package share no byte
 pub statics_apart : (p : PackageRecord) → IsPackage p → AreApart (static_places p)
-statics_apart p h =
-    let agreed = agrees p.parts p (answer_is p.parts p h).agree in
-    all_apart p.description (fields p) (none_of (share_pair p.description) (pairs (fields p)) agreed.statics)
+statics_apart p h = grind (arith, agrees p.parts p (answer_is p.parts p h).agree, all_apart, none_of)

@@ -1,5 +1,4 @@
 ghost use Rattle.std.specs.Prelude.{◌≡◌, option_map};
-ghost use Rattle.offset_set.specs.Bits.{holds};
 ghost use Rattle.cap_class.specs.ClassPart.{class_seen, records};
 ghost use Rattle.cap_package.specs.ClassSearch.{record_at, Serves};
 

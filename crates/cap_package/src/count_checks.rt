@@ -1,10 +1,9 @@
-ghost use Rattle.std.specs.Prelude.{◌≡◌, ◌≤◌, ◌*◌, length, option_map};
+ghost use Rattle.std.specs.Prelude.{◌≡◌, ◌≤◌, option_map};
 ghost use Rattle.cap_class.specs.ClassPart.{class_seen as entry_seen, records};
-ghost use Rattle.cap_method.specs.StaticPart.{statics_seen, arrays_left};
-ghost use Rattle.cap_desc.specs.ClassRecords.{described_class_seen, described_left};
+ghost use Rattle.cap_method.specs.StaticPart.{statics_seen};
+ghost use Rattle.cap_desc.specs.ClassRecords.{described_class_seen};
 ghost use Rattle.cap_desc.specs.MemberRecords.{field_seen};
-ghost use Rattle.cap_desc.specs.MemberLists.{fields_left};
-ghost use Rattle.cap_components.specs.Order.{least_of, least_from, refused};
+ghost use Rattle.cap_components.specs.Order.{least_of, refused};
 ghost use Rattle.cap_components.specs.Descriptions.{description};
 ghost use Rattle.cap_package.specs.CountChecks.{differ, array_bytes, described_cells, own_instance_cells, instance_by, instance_fault};
 

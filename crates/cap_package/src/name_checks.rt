@@ -2,10 +2,10 @@ ghost use Rattle.std.specs.Prelude.{◌≡◌, map};
 ghost use Rattle.offset_set.specs.Bits.{holds};
 ghost use Rattle.cap_bytes.specs.Table.{numbers};
 ghost use Rattle.cap_frame.specs.AppletFormat.{Applet};
-ghost use Rattle.cap_frame.specs.Applets.{applets_of, applets_left};
-ghost use Rattle.cap_pool.specs.Export.{export_seen as exported, exported_left};
-ghost use Rattle.cap_class.specs.ClassPart.{records, classes_left};
-ghost use Rattle.cap_components.specs.Order.{least_of, least_from, refused};
+ghost use Rattle.cap_frame.specs.Applets.{applets_of};
+ghost use Rattle.cap_pool.specs.Export.{export_seen as exported};
+ghost use Rattle.cap_class.specs.ClassPart.{records};
+ghost use Rattle.cap_components.specs.Order.{least_of, least_from};
 ghost use Rattle.cap_package.specs.NameChecks.{no_method_fault, no_entry_fault, table_entries, exported_methods, exported_fields};
 ghost use Rattle.cap_package.specs.StaticChecks.{no_static_fault};
 

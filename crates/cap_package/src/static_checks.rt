@@ -7,7 +7,7 @@ ghost use Rattle.cap_components.specs.declared.fault.PackFault.TheVariants.{Stat
 ghost use Rattle.cap_components.specs.Order.{least_of, least_from, refused};
 ghost use Rattle.cap_package.specs.Pairs.{pairs};
 ghost use Rattle.cap_components.specs.Descriptions.{description};
-ghost use Rattle.cap_package.specs.StaticChecks.{image_offset, width_of, is_reference, place_in, share_pair, is_in_image, image_fault, array_kinds, kind_at, filled_fault};
+ghost use Rattle.cap_package.specs.StaticChecks.{image_offset, width_of, place_in, share_pair, is_in_image, image_fault, array_kinds, kind_at, filled_fault};
 ghost use Rattle.cap_package.specs.Places.{place_seen};
 ghost use Rattle.cap_package.specs.StaticPlaces.{places_left};
 ghost use Rattle.cap_package.specs.Reaches.{reach_by, static_start, static_end};

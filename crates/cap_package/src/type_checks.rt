@@ -1,10 +1,8 @@
 ghost use Rattle.std.specs.Prelude.{◌≡◌};
 ghost use Rattle.offset_set.specs.Bits.{holds};
-ghost use Rattle.cap_desc.specs.ClassRecords.{described_left};
 ghost use Rattle.cap_desc.specs.MemberLists.{methods_left};
 ghost use Rattle.cap_desc.specs.MemberRecords.{field_seen, method_seen};
 ghost use Rattle.cap_desc.specs.Members.{methods_of, methods_in, fields_of};
-ghost use Rattle.cap_desc.specs.MembersLeft.{methods_of_left, fields_of_left};
 ghost use Rattle.cap_components.specs.Order.{least_of, least_from, refused};
 ghost use Rattle.cap_components.specs.Descriptions.{description};
 ghost use Rattle.cap_package.specs.TypeChecks.{field_type_fault, method_type_fault};
