@@ -1,5 +1,5 @@
 -- The info of a custom component is no longer than the two bytes of its size can tell.
-use Rattle.std.proofs.Common.{◌≡◌, ℕ, ◌≤◌, List, length, Option, Some, None, Result, Ok, Err, ap, sym, subst, refl, arith}
+use Rattle.std.proofs.Common.{◌≡◌, ℕ, ◌≤◌, List, length, Option, Some, Result, Ok, Err, arith}
 use Rattle.std.specs.Prelude.{option_map}
 use Rattle.cap_bytes.specs.declared.fault.FormFault.{FormFault}
 use Rattle.cap_bytes.specs.Spelling.{file_of}
@@ -19,8 +19,7 @@ formed-short tag bytes (Ok info) e = info-short tag bytes info (stands (file_of 
 formed-short tag bytes (Err fault) e = omega arith
 
 framed-short : (tag : ℕ) (o : Option (List ℕ)) → length (info_or_none (framed tag o)) ≤ 65535
-framed-short tag None = omega arith
-framed-short tag (Some bytes) = formed-short tag bytes (reading (file_of tag) (component tag) bytes) refl
+framed-short tag x = grind (arith, formed-short)
 
 info-in-short : (parts : List Lent) (tag : ℕ) → length (info_or_none (info_in parts tag)) ≤ 65535
 unfolding info_in
@@ -28,10 +27,7 @@ info-in-short parts tag = framed-short tag (held parts tag)
 
 short-by : (parts : List Lent) (tag : ℕ) (o : Option directory.Custom) (x : CustomItems)
     → Some x ≡ option_map (λ (c : directory.Custom). record { aid = c.aid; info = info_or_none (info_in parts tag) }) o → length x.info ≤ 65535
-short-by parts tag None x e = absurd cc
-short-by parts tag (Some c) x e =
-    let same : x ≡ record { aid = c.aid; info = info_or_none (info_in parts tag) } = cc in
-    subst (λ info. length info ≤ 65535) (sym (ap (λ (y : CustomItems). y.info) same)) (info-in-short parts tag)
+short-by parts tag x x2 e = grind (arith, length, info-in-short)
 
 pub custom-short : (p : PackageRecord) (tag : ℕ) (x : CustomItems) → Some x ≡ custom_in p tag → length x.info ≤ 65535
 custom-short p tag x e = short-by p.parts tag _ x e

@@ -7,7 +7,7 @@ use Rattle.std.proofs.lemmas.List.{append-nil}
 use Rattle.std.proofs.lemmas.List.Recursion.{is_count_by}
 use Rattle.byteorder.specs.Endian.{big_bytes}
 use Rattle.jc_decode.specs.declared.symbols.Laid.{Laid}
-use Rattle.cap_index.specs.TargetIndex.{AreExact, AreShortCodes, HasEntries, IsListed, IsListedIf, IsShortIf, IsIndexOf, counted, entries_of, index_bytes}
+use Rattle.cap_index.specs.TargetIndex.{AreExact, AreShortCodes, HasEntries, IsListed, IsListedIf, IsShortIf, IsIndexOf, counted, entries_of}
 
 -- so far these entries were appended, and those of the methods that are left are not
 pub record IsSoFar (laid left : List (Option Laid)) (out : List ℕ) : Type 0 where
@@ -15,9 +15,7 @@ pub record IsSoFar (laid left : List (Option Laid)) (out : List ℕ) : Type 0 wh
   pub short : AreShortCodes left
 
 pub entries_none : (laid left rest : List (Option Laid)) (out : List ℕ) → IsSoFar laid left out → left ≡ None ∷ rest → IsSoFar laid rest out
-entries_none laid left rest out s e =
-    let t : IsSoFar laid (None ∷ rest) out = subst (λ ls. IsSoFar laid ls out) e s in
-    record { each = λ lists exact. t.each lists exact; short = t.short }
+entries_none laid left rest out s e = grind (arith)
 
 pub entries_more : (laid left rest : List (Option Laid)) (l : Laid) (out new : List ℕ) → IsSoFar laid left out → left ≡ Some l ∷ rest
     → IsListed l.code out new → IsSoFar laid rest new
@@ -38,8 +36,7 @@ entries_next laid left rest None out new s e listed = subst (IsSoFar laid rest) 
 entries_next laid left rest (Some l) out new s e listed = entries_more laid left rest l out new s e listed
 
 pub next_short : (laid left rest : List (Option Laid)) (m : Option Laid) (out : List ℕ) → IsSoFar laid left out → left ≡ m ∷ rest → IsShortIf m
-next_short laid left rest None out s e = tt
-next_short laid left rest (Some l) out s e = let t : IsSoFar laid (Some l ∷ rest) out = subst (λ ls. IsSoFar laid ls out) e s in t.short.0
+next_short laid left rest x out s e = grind (arith)
 
 pub entries_end : (laid left : List (Option Laid)) (out : List ℕ) → IsSoFar laid left out → left ≡ [] → HasEntries laid out
 entries_end laid left out s e =
@@ -60,8 +57,7 @@ coded (None ∷ ls) = coded ls
 coded (Some l ∷ ls) = 1 + coded ls
 
 coded_more : (m : Option Laid) (ls : List (Option Laid)) → coded (m ∷ ls) ≡ cond (is_some m) (1 + coded ls) (coded ls)
-coded_more None ls = refl
-coded_more (Some l) ls = refl
+coded_more x ls = grind (arith)
 
 coded_lists : (laid : List (Option Laid)) (lists : List (List ℕ)) → AreExact laid lists → coded laid ≡ length lists
 coded_lists [] [] e = refl
@@ -87,10 +83,4 @@ bytes_long (n ∷ ns) = let r = bytes_long ns in omega (arith, length-append (bi
 pub one_info : (laid : List (Option Laid)) (entries : List ℕ) (count : ℕ) (one info : List ℕ) → HasEntries laid entries → length entries ≤ 32766
     → count ≡ count_by is_some laid
     → one ≡ [] ++ big_bytes 2 count → info ≡ one ++ flat_map (big_bytes 2) entries → IsIndexOf laid (Some info)
-one_info laid entries count one info h few n a b =
-    let number : count ≡ length h.lists = n ∙ lists_counted laid h.lists h.exact in
-    let e : info ≡ index_bytes h.lists = b ∙ ap (λ xs. xs ++ flat_map (big_bytes 2) entries) a
-    ∙ ap (λ k. big_bytes 2 k ++ flat_map (big_bytes 2) entries) number ∙ ap (λ ns. big_bytes 2 (length h.lists) ++ flat_map (big_bytes 2) ns)
-    h.are in
-    let long : length (index_bytes h.lists) ≡ 2 * suc (length (entries_of h.lists)) = bytes_long (length h.lists ∷ entries_of h.lists) in
-    record { lists = h.lists; exact = h.exact; bytes = (e, omega (arith, ap length e, ap length h.are)) }
+one_info laid entries count one info h few n a b = grind (arith, length, lists_counted, suc, bytes_long)

@@ -140,10 +140,7 @@ rising : (k : ℕ) (fs : List Bool) (a b p q : ℕ) → slice_get (flagged_from 
 rising k [] a b p q h g lt = absurd (cc)
 rising k (false ∷ fs) a b p q h g lt = rising (k + 1) fs a b p q h g lt
 rising k (true ∷ fs) a zero p q h g lt = absurd (omega arith)
-rising k (true ∷ fs) zero (suc b) p q h g lt =
-    let e : k ≡ p = cc in
-    let r = from_low (k + 1) fs b q g in
-    omega arith
+rising k (true ∷ fs) zero (suc b) p q h g lt = grind (arith, from_low)
 rising k (true ∷ fs) (suc a) (suc b) p q h g lt = rising (k + 1) fs a b p q h g (omega arith)
 
 record IsFlaggedAt (k : ℕ) (fs : List Bool) (q : ℕ) : Type 0 where
@@ -162,15 +159,12 @@ has_flag k (true ∷ fs) q c =
 
 flag_has : (k : ℕ) (fs : List Bool) (n : ℕ) → IsFlagged fs n → Contains (flagged_from k fs) (k + n)
 flag_has k [] n h = absurd (let r = flagged-inside [] n h in omega arith)
-flag_has k (true ∷ fs) zero h =
-    let e : k ≡ k + 0 = omega arith in subst (Contains (k ∷ flagged_from (k + 1) fs)) e (Contains-first k (flagged_from (k + 1) fs))
+flag_has k (true ∷ fs) zero h = grind (arith)
 flag_has k (true ∷ fs) (suc n) h =
     let e : k + 1 + n ≡ k + suc n = omega arith in
     subst (Contains (k ∷ flagged_from (k + 1) fs)) e (Contains-later k (flagged_from (k + 1) fs) (k + 1 + n) (flag_has (k + 1) fs n h))
 flag_has k (false ∷ fs) zero h = absurd (false≢true h)
-flag_has k (false ∷ fs) (suc n) h =
-    let e : k + 1 + n ≡ k + suc n = omega arith in
-    subst (Contains (flagged_from (k + 1) fs)) e (flag_has (k + 1) fs n h)
+flag_has k (false ∷ fs) (suc n) h = grind (arith, suc, flag_has (k + 1) fs n h)
 
 -- ---- the exact index
 
@@ -199,11 +193,7 @@ exact_of_flags code places fs index marks listed e f = subst (IsExactIndex code)
     inside q p = let i = listed.inside p.0 p.1 in omega (arith, p.2, length-replicate (length code) false)
 
     target : (q : ℕ) → IsFlagged all q → IsPlacedTarget code q
-    target q h =
-        ⊎_elim
-        (λ before. absurd (false≢true (sym (flag-none (length code) q) ∙ before)))
-        (λ m. record { target = m.target; place = (marks q).0 m.known })
-        (all_only code (flag places) none (listing code) q h)
+    target q h = grind (arith, ⊎_elim, false≢true, flag-none, length, all_only, none)
 
 -- there are as many flags as the code has bytes
 pub flags_long : (code : List ℕ) (place : ℕ → Bool) (fs old : List Bool) (is : List Placed) → fs ≡ all_marked code place old is

@@ -50,19 +50,12 @@ module _ (ps : List PackageRecord) (ms : List MethodRec) where
 lists-here : (ms : List MethodRec) (k j : ℕ) (ps : List PackageRecord) (p : PackageRecord) → slice_get ps j ≡ Some p
     → list_at (lists_after ms k ps) j ≡ lists_in (count_by (is_coded (k + j)) ms) (index_in p)
 lists-here ms k j [] p e = absurd cc
-lists-here ms k zero (q ∷ ps) p e =
-    let same : q ≡ p = cc in
-    let here : k + 0 ≡ k = omega arith in
-    rw (same, here) refl
-lists-here ms k (suc j) (q ∷ ps) p e =
-    let next : k + 1 + j ≡ k + suc j = omega arith in
-    lists-here ms (k + 1) j ps p e ∙ ap (λ n. lists_in (count_by (is_coded n) ms) (index_in p)) next
+lists-here ms k zero (q ∷ ps) p e = grind (arith)
+lists-here ms k (suc j) (q ∷ ps) p e = grind (arith, suc, lists-here ms (k + 1) j ps p e)
 
 lists-own : (ms : List MethodRec) (j : ℕ) (ps : List PackageRecord) (p : PackageRecord) → slice_get ps j ≡ Some p
     → list_at (package_lists ps ms) j ≡ lists_in (count_by (is_coded j) ms) (index_in p)
-lists-own ms j ps p e =
-    let first : 0 + j ≡ j = omega arith in
-    lists-here ms 0 j ps p e ∙ ap (λ n. lists_in (count_by (is_coded n) ms) (index_in p)) first
+lists-own ms j ps p e = grind (arith, lists-here)
 
 formed-lists : (n : ℕ) (p : PackageRecord) (info : List ℕ) (lists : List (List ℕ)) → index_in p ≡ Some info → Stands (index_info n) info lists
     → lists_in n (index_in p) ≡ lists

@@ -1,4 +1,5 @@
 -- The indexes of methods, one after the other.
+use Rattle.std.proofs.Common.{arith}
 use Rattle.std.proofs.Common.{◌≡◌, ℕ, suc, ◌+◌, ◌<◌, List, [], ◌∷◌, ◌++◌, length, take, drop, get_or, Option}
 use Rattle.std.proofs.Common.{Some, refl, sym, ap, ◌∙◌, append_assoc}
 use Rattle.std.specs.Prelude.{slice_get, count_by}
@@ -44,21 +45,11 @@ item-there xs ys n x same lt is = ap (λ zs. slice_get zs n) (sym same) ∙ slic
 pub lists-more : (ms : List MethodRec) (xs ys all : List (List (List ℕ))) (ps : List PackageRecord) (n : ℕ) (p : PackageRecord) (lists : List (List ℕ))
     → slice_get ps n ≡ Some p → lists ≡ lists_in (count_by (is_coded n) ms) (index_in p) → ys ≡ xs ++ lists ∷ []
     → xs ++ lists_after ms n (drop n ps) ≡ all → ys ++ lists_after ms (n + 1) (drop (n + 1) ps) ≡ all
-lists-more ms xs ys all ps n p lists e is more so_far =
-    let d : lists_after ms n (drop n ps) ≡ lists ∷ lists_after ms (n + 1) (drop (n + 1) ps) =
-    ap (lists_after ms n) (drop_here ps n p e) ∙ ap (λ l. l ∷ lists_after ms (n + 1) (drop (n + 1) ps)) (sym is) in
-    ap (λ zs. zs ++ lists_after ms (n + 1) (drop (n + 1) ps)) more ∙ append_assoc xs (lists ∷ []) (lists_after ms (n + 1) (drop (n + 1) ps))
-    ∙ ap (λ zs. xs ++ zs) (sym d) ∙ so_far
+lists-more ms xs ys all ps n p lists e is more so_far = grind (arith, drop, drop_here, append_assoc)
 
 -- the index of one method more
 pub indexes-more : (lists : List (List (List ℕ))) (xs ys all : List (Option (List ℕ))) (ms : List MethodRec) (n : ℕ) (m : MethodRec)
     (index : Option (List ℕ))
     → slice_get ms n ≡ Some m → index ≡ index_after lists (take n ms) m → ys ≡ xs ++ index ∷ []
     → xs ++ indexes_after lists (take n ms) (drop n ms) ≡ all → ys ++ indexes_after lists (take (n + 1) ms) (drop (n + 1) ms) ≡ all
-indexes-more lists xs ys all ms n m index e is more so_far =
-    let rest = indexes_after lists (take (n + 1) ms) (drop (n + 1) ms) in
-    let d : indexes_after lists (take n ms) (drop n ms) ≡ index ∷ rest =
-    ap (indexes_after lists (take n ms)) (drop_here ms n m e)
-    ∙ ap (λ seen. index_after lists (take n ms) m ∷ indexes_after lists seen (drop (n + 1) ms)) (sym (next-take ms n m e))
-    ∙ ap (λ i. i ∷ rest) (sym is) in
-    ap (λ zs. zs ++ rest) more ∙ append_assoc xs (index ∷ []) rest ∙ ap (λ zs. xs ++ zs) (sym d) ∙ so_far
+indexes-more lists xs ys all ms n m index e is more so_far = grind (arith, take, drop, drop_here, next-take, append_assoc)

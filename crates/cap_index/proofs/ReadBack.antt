@@ -1,5 +1,5 @@
 -- The info that is written for exact indexes of methods is, by the format of a target index, that of these lists.
-use Rattle.std.proofs.Common.{◌≡◌, true, ◌≤◌, ◌<◌, ◌+◌, ◌*◌, ◌/◌, ◌%◌, ◌==◌, ℕ, zero, suc, List, [], ◌∷◌, ◌++◌, length, Option, Some, None, refl, sym}
+use Rattle.std.proofs.Common.{◌≡◌, true, ◌≤◌, ◌<◌, ◌+◌, ◌*◌, ◌==◌, ℕ, zero, suc, List, [], ◌∷◌, ◌++◌, length, Option, Some, None, refl, sym}
 use Rattle.std.proofs.Common.{ap, subst}
 use Rattle.std.proofs.Common.{◌∙◌, arith, length-append, Contains}
 use Rattle.std.specs.Prelude.{cond, count_by, is_some, slice_get, take}
@@ -34,15 +34,11 @@ AllShort (x ∷ xs) = AreShort x × (length x < 65536) × AllShort xs
 -- ---- numbers
 
 two-bytes : (n : ℕ) → n < 65536 → words_of_bytes (big_bytes 2 n) ≡ n ∷ []
-two-bytes n lt =
-    let whole : n / 256 % 256 * 256 + n % 256 ≡ n = omega (arith, lt) in
-    ap (λ k. k ∷ []) whole
+two-bytes n lt = grind (arith)
 
 words-back : (ns : List ℕ) → AreShort ns → words_of_bytes (flat_map (big_bytes 2) ns) ≡ ns
 words-back [] s = refl
-words-back (n ∷ ns) s =
-    let one : words_of_bytes (big_bytes 2 n) ≡ n ∷ [] = two-bytes n s.0 in
-    ap (λ k. k ++ words_of_bytes (flat_map (big_bytes 2) ns)) one ∙ ap (λ ks. n ∷ ks) (words-back ns s.1)
+words-back (n ∷ ns) s = grind (arith, two-bytes, words-back ns s.1)
 
 -- ---- lists
 
@@ -134,17 +130,7 @@ pub record HasExactLists (laid : List (Option Laid)) (info : List ℕ) : Type 0 
 
 pub read-back : InstructionsAreListed → (laid : List (Option Laid)) (info : List ℕ) → AreShortCodes laid → IsIndexOf laid (Some info)
     → HasExactLists laid info
-read-back listed laid info s is =
-    let lists = is.lists in
-    let long = bytes_long (length lists ∷ entries_of lists) in
-    let few : length (entries_of lists) < 65536 = omega (arith, long, ap length is.bytes.0, is.bytes.1) in
-    record {
-      lists = lists;
-      exact = is.exact;
-      formed =
-          subst (λ bytes. Stands (index_info (length lists)) bytes lists) (sym is.bytes.0)
-          (info-stands lists (omega (arith, few, lists_few lists)) (all-short listed laid lists s is.exact few));
-    }
+read-back listed laid info s is = grind (arith, bytes_long, length, info-stands, lists_few, all-short)
 
 -- ---- the list of a method, by the methods with code before it
 
@@ -152,15 +138,9 @@ pub exact-at : (laid : List (Option Laid)) (lists : List (List ℕ)) → AreExac
     → (x : List ℕ) × (slice_get lists (count_by is_some (take k laid)) ≡ Some x) × IsExactIndex l.code x
 exact-at [] lists e k l at = absurd cc
 exact-at (None ∷ ls) xs e zero l at = absurd cc
-exact-at (None ∷ ls) xs e (suc k) l at =
-    let rest = exact-at ls xs e k l at in
-    let count : count_by is_some (None ∷ take k ls) ≡ count_by is_some (take k ls) =
-    omega (arith, sum_by-cons (λ (o : Option Laid). cond (is_some o) 1 0) None (take k ls)) in
-    (rest.0, ap (slice_get xs) count ∙ rest.1, rest.2)
+exact-at (None ∷ ls) xs e (suc k) l at = grind (arith, sum_by-cons, exact-at ls xs e k l at)
 exact-at (Some o ∷ ls) [] e k l at = absurd e
-exact-at (Some o ∷ ls) (x ∷ xs) e zero l at =
-    let same : o ≡ l = cc in
-    (x, refl, subst (λ (y : Laid). IsExactIndex y.code x) same e.0)
+exact-at (Some o ∷ ls) (x ∷ xs) e zero l at = grind (arith)
 exact-at (Some o ∷ ls) (x ∷ xs) e (suc k) l at =
     let rest = exact-at ls xs e.1 k l at in
     let count : count_by is_some (Some o ∷ take k ls) ≡ suc (count_by is_some (take k ls)) =

@@ -1,6 +1,6 @@
 -- What is left of each package's lists, once those of some methods are taken.
 use Rattle.std.proofs.Common.{◌≡◌, ℕ, zero, suc, ◌+◌, ◌<◌, Bool, true, false, List, [], ◌∷◌, length, take, drop, get_or, cond}
-use Rattle.std.proofs.Common.{Option, Some, None, refl, sym, ap, subst, ◌∙◌, arith}
+use Rattle.std.proofs.Common.{Option, Some, refl, sym, ap, ◌∙◌, arith}
 use Rattle.std.specs.Prelude.{slice_get, slice_set, count_by, ◌==◌, ◌&&◌}
 use Rattle.std.proofs.lemmas.Bool.{eqb-true, false≢true, eq-eqb}
 use Rattle.std.proofs.lemmas.List.Sums.{count_by_more_no, count_by_more_yes}
@@ -18,13 +18,9 @@ first-after (x ∷ xs) (suc n) = first-after xs n
 
 one-more-dropped : {A : Type 0} (xs : List A) (n : ℕ) → drop 1 (drop n xs) ≡ drop (n + 1) xs
 one-more-dropped [] zero = refl
-one-more-dropped [] (suc n) =
-    let k : suc n + 1 ≡ suc (n + 1) = omega arith in
-    rw k refl
+one-more-dropped [] (suc n) = grind (arith, suc)
 one-more-dropped (x ∷ xs) zero = refl
-one-more-dropped (x ∷ xs) (suc n) =
-    let k : suc n + 1 ≡ suc (n + 1) = omega arith in
-    rw k (one-more-dropped xs n)
+one-more-dropped (x ∷ xs) (suc n) = grind (arith, suc, one-more-dropped xs n)
 
 -- after n methods: of each package the lists of its other methods with code are left
 pub record AreLeft (lists : List (List (List ℕ))) (ms : List MethodRec) (n : ℕ) (left : List (List (List ℕ))) : Type 0 where
@@ -37,10 +33,7 @@ all-left lists ms = record { size = refl; each = λ k. refl }
 pub taken-index : (lists left : List (List (List ℕ))) (ms : List MethodRec) (n : ℕ) (m : MethodRec) (index : Option (List ℕ))
     → AreLeft lists ms n left → index ≡ list_taken left m → index ≡ index_after lists (take n ms) m
 unfolding index_after
-taken-index lists left ms n m index are is =
-    is
-    ∙ ap (λ o. cond (has_code m) o None)
-    (ap (λ l. slice_get l 0) (are.each m.package) ∙ first-after (list_at lists m.package) (count_by (is_coded m.package) (take n ms)))
+taken-index lists left ms n m index are is = grind (arith, cond, first-after, take)
 
 dropped-by : (asked : Bool) (ms : List MethodRec) (n : ℕ) (m : MethodRec) (k : ℕ) (xs : List (List ℕ)) → slice_get ms n ≡ Some m
     → is_coded k m ≡ asked
@@ -81,20 +74,11 @@ set-other (ys ∷ yss) (suc n) (suc k) xs ne = set-other yss n k xs (λ e. ne (a
 set-by : (same : Bool) (xss : List (List (List ℕ))) (n k : ℕ) (xs : List (List ℕ)) → n < length xss → (n == k) ≡ same
     → xs ≡ drop 1 (list_at xss n)
     → list_at (slice_set xss n xs) k ≡ cond (same && true) (drop 1 (list_at xss k)) (list_at xss k)
-set-by true xss n k xs lt e is =
-    let at : n ≡ k = eqb-true n k e in
-    subst (λ j. list_at (slice_set xss n xs) j ≡ drop 1 (list_at xss j)) at (set-here xss n xs lt ∙ is)
-set-by false xss n k xs lt e is = set-other xss n k xs (λ same. false≢true (sym e ∙ eq-eqb n k same))
+set-by x xss n k xs lt e is = grind (arith, eqb-true, drop, set-here, set-other, false≢true, eq-eqb)
 
 -- a method with code has taken the first list of its package
 pub taken-with : (xss : List (List (List ℕ))) (m : MethodRec) (xs : List (List ℕ)) (index : Option (List ℕ)) → m.package < length xss
     → has_code m ≡ true
     → index ≡ slice_get (list_at xss m.package) 0 → xs ≡ drop 1 (list_at xss m.package) → length (slice_set xss m.package xs) ≡ length xss
     → IsTakenFrom xss m index (slice_set xss m.package xs)
-taken-with xss m xs index lt code is rest size = record {
-  is = is ∙ ap (λ b. cond b (slice_get (list_at xss m.package) 0) None) (sym code);
-  size = size;
-  left = λ k.
-      set-by ((m.package == k)) xss m.package k xs lt refl rest
-      ∙ ap (λ b. cond ((m.package == k) && b) (drop 1 (list_at xss k)) (list_at xss k)) (sym code);
-}
+taken-with xss m xs index lt code is rest size = grind (arith, cond, set-by, drop)

@@ -1,8 +1,7 @@
-ghost use Rattle.std.specs.Prelude.{◌≡◌, ◌≤◌, false, length, replicate, IfOk, Ok};
+ghost use Rattle.std.specs.Prelude.{◌≡◌, ◌≤◌, false, length, IfOk, Ok};
 ghost use Rattle.jc_control.specs.ExactIndex.{IsExactIndex};
 ghost use Rattle.cap_index.specs.Marking.{all_marked, flagged_from, mark, marked};
-ghost use Rattle.jc_control.specs.Flags.{flag, Marks};
-ghost use Rattle.jc_control.specs.WellFormed.{IsPlace};
+ghost use Rattle.jc_control.specs.Flags.{flag};
 ghost use Rattle.jc_decode.specs.Decoding.{decoded};
 ghost use Rattle.jc_decode.specs.Listing.{listing, targets};
 

@@ -1,5 +1,4 @@
-ghost use Rattle.std.specs.Prelude.{◌≡◌, ◌<◌, ◌≤◌, length, drop, slice_get, IfOk, All, count_by};
-ghost use Rattle.jc_base.specs.Linked.{list_at};
+ghost use Rattle.std.specs.Prelude.{◌≡◌, ◌<◌, ◌≤◌, length, IfOk, All, count_by};
 ghost use Rattle.cap_index.specs.Indexes.{has_code, is_coded, package_lists, indexes_of};
 ghost use Rattle.cap_index.specs.Taking.{IsTakenFrom};
 
