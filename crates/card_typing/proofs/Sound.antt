@@ -1,8 +1,8 @@
 -- What holds of each met state.
 use Rattle.std.proofs.Common.{ℕ, Bool, List, [], All, arith}
-use Rattle.std.proofs.lemmas.List.Elements.{All-nil, All-cons}
+use Rattle.std.proofs.lemmas.List.Elements.{All-nil}
 use Rattle.jc_base.specs.declared.ty.Ty.{Ty}
-use Rattle.jc_base.specs.declared.ty.Ty.TheVariants.{Bottom, Class}
+use Rattle.jc_base.specs.declared.ty.Ty.TheVariants.{Bottom}
 use Rattle.jc_base.specs.Order.{IsKnown}
 use Rattle.jc_base.specs.World.{Linked}
 use Rattle.jc_control.specs.Method.{Method, IsMethodOf}
@@ -11,7 +11,7 @@ use Rattle.jc_rules.specs.Demand.{Frame}
 use Rattle.jc_rules.specs.Flow.{start_frame}
 use Rattle.jc_rules.specs.FlowLaws.{AreRules}
 use Rattle.jc_rules.specs.Laws.{RuleRaises}
-use Rattle.card_typing.specs.Met.{Arrives, arrives_falling, arrives_empty, arrives_caught, arrives_full, IsMetAfter, met_start, met_next}
+use Rattle.card_typing.specs.Met.{Arrives, IsMetAfter, met_start, met_next}
 use Rattle.card_typing.specs.Laws.{IsSoundState, MetIsSound}
 use Rattle.jc_rules.proofs.Sites.{site_of, at-site}
 use Rattle.card_typing.proofs.Own.{start-length, start-known, start-ready}
@@ -20,10 +20,7 @@ use Rattle.jc_rules.proofs.Starts.{of_world}
 -- a stack that arrives has types of the world where the given one has
 arrives-known : (w : Linked) (m : Method) {b : Bool} {given : List Ty} {q : ℕ} {stack : List Ty} → Arrives w m b given q stack
     → All (IsKnown w.classes) given → All (IsKnown w.classes) stack
-arrives-known w m (arrives_falling free e) all = all
-arrives-known w m (arrives_empty free e) all = All-nil (IsKnown w.classes)
-arrives-known w m (arrives_caught c entry room catches) all = All-cons (IsKnown w.classes) (Class c) [] catches.class (All-nil (IsKnown w.classes))
-arrives-known w m (arrives_full entry none) all = All-nil (IsKnown w.classes)
+arrives-known w m x all = grind (arith)
 
 module _ (w : Linked) (is : AreRules w) (raises : RuleRaises w) (m : Method) (mo : IsMethodOf w m) (marked : ℕ → Type 0) where
   start-sound : (stack : List Ty) → All (IsKnown w.classes) stack → IsSoundState w m (record { regs = (start_frame m.rec Bottom).regs; stack = stack })
