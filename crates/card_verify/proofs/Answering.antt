@@ -1,6 +1,6 @@
 -- What the verifier answers.
 use Rattle.std.proofs.Common.{◌≡◌, ◌↔◌, ⊎_elim, ℕ, ◌+◌, List, IsSomeAnd}
-use Rattle.std.proofs.Common.{IfErr, OnOk, OnErr, Option, Some, option_map, Result, Ok, Err, slice_get, sym, ◌∙◌, ap, subst, arith}
+use Rattle.std.proofs.Common.{IfErr, OnOk, OnErr, Option, Some, option_map, Result, Ok, Err, slice_get, sym, ap, subst, arith}
 use Rattle.std.proofs.lemmas.Bool.{cases_lt}
 use Rattle.std.proofs.lemmas.Option.{same_Some}
 use Rattle.jc_base.specs.declared.ty.Ty.{Ty}
@@ -54,8 +54,7 @@ least-of v marked rules raises rests placed ordered known formed among inside be
     (met-is-sound (world_of v) rules raises (method v) marked known) below regs formed f.met f.quiet
 
 pub on-ok : {A B : Type 0} (P Q : Type 0) (r : Result A B) → (P → Q) → OnOk r P → OnOk r Q
-on-ok P Q (Ok a) f p = f p
-on-ok P Q (Err b) f p = p
+on-ok x x2 x22 f p = grind (arith)
 
 -- a refusal of the types
 pub refused-of-counted :
@@ -74,28 +73,23 @@ module _ (v : Verifier) where
 
   pub flow-of : (r : Result (Unit {0}) CardFault) (regs : List Ty) → CardIsFlow (world_of v) → IsMethodOf (world_of v) (method v)
       → OnOk r (IsLeastCardTyping (world_of v) (method v) regs) → OnOk r (HasFlowTyping (world_of v) (method v) Bottom)
-  flow-of r regs flow known h =
-      on-ok (IsLeastCardTyping (world_of v) (method v) regs) (HasFlowTyping (world_of v) (method v) Bottom) r
-      (λ least. flow (method v) known (has-typing regs least)) h
+  flow-of r regs flow known h = grind (arith, on-ok, has-typing)
 
   module _ (regs stack : List Ty) (known : IsMethodOf (world_of v) (method v)) where
     abbrev Refused : Result (Unit {0}) CardFault → Type 0
     Refused r = IfErr r (λ (fault : CardFault). IsRefused (world_of v) (method v) fault (frame_of regs stack fault.depth))
 
     pub none-of : (r : Result (Unit {0}) CardFault) → RefusalDenies (world_of v) → Refused r → OnErr r (¬ (HasCardTyping (world_of v) (method v)))
-    none-of (Ok t) denies h = tt
-    none-of (Err fault) denies h = denies (method v) fault (frame_of regs stack fault.depth) known h
+    none-of x denies h = grind (arith)
 
     pub told-of : (r : Result (Unit {0}) CardFault) → FlawsAreTold (world_of v) → Refused r
         → IfErr r (λ (fault : CardFault). IsFlawKind fault.kind ↔ ¬ (IsWellFormed (method v)))
-    told-of (Ok t) told h = tt
-    told-of (Err fault) told h = told (method v) fault (frame_of regs stack fault.depth) h
+    told-of x told h = grind (arith)
 
     -- where the method is well formed no flaw is told
     pub kept-of : (r : Result (Unit {0}) CardFault) (P : Type 0) → FlawsAreTold (world_of v) → IsWellFormed (method v) → Refused r
         → IfErr r (λ (fault : CardFault). IsFlawKind fault.kind → P)
-    kept-of (Ok t) P told formed h = tt
-    kept-of (Err fault) P told formed h = λ k. absurd ((told (method v) fault (frame_of regs stack fault.depth) h).0 k formed)
+    kept-of x x2 told formed h = grind (arith)
 
     pub refused-flaw : (fault : CardFault) → TellsFlaw (method v) fault → IsRefused (world_of v) (method v) fault (frame_of regs stack fault.depth)
     refused-flaw fault t =
@@ -109,8 +103,7 @@ pub on-method : (w : Linked) (n : ℕ) (rec : MethodRec) (P : Method → Type 0)
 on-method w n rec P here h = subst (λ (o : Option Method). IsSomeAnd o P) (ap (option_map (method_with w n)) here) h
 
 pub accepted-bare : (w : Linked) (n : ℕ) (rec : MethodRec) → slice_get w.methods n ≡ Some rec → rec.code_len ≡ 0 → IsAcceptedAt w n
-accepted-bare w n rec here none other is code =
-    let same : rec ≡ other = same_Some _ _ (sym here ∙ is) in absurd (omega (arith, none, ap (λ (m : MethodRec). m.code_len) same, code))
+accepted-bare w n rec here none other is code = grind (arith, same_Some)
 
 pub accepted-more : (w : Linked) (n : ℕ) → AreAcceptedBefore w n → IsAcceptedAt w n → AreAcceptedBefore w (n + 1)
 accepted-more w n before here k lt = ⊎_elim (λ lower. before k lower) (λ le. subst (IsAcceptedAt w) (omega (arith, le, lt)) here) (cases_lt k n)

@@ -53,11 +53,7 @@ module _ (t : ClassTable) (hs : List Handler) (place : ℕ) where
     -- a handler that begins elsewhere
     pub caught-other : (o : Option ℕ) → ¬ (h.entry ≡ place) → CaughtBelow t hs n place o → CaughtBelow t hs (n + 1) place o
     caught-other None other none = λ g c. ⊎_elim (none g) (λ e. other (ap (λ (x : Handler). x.entry) (sym e) ∙ c.begins)) (more g c)
-    caught-other (Some d) other s = (
-      s.0,
-      λ g c. ⊎_elim (s.1 g) (λ e. absurd (other (ap (λ (x : Handler). x.entry) (sym e) ∙ c.begins))) (more g c),
-      λ u above. s.2 u (λ g c. above g (fewer n g c)),
-    )
+    caught-other (Some d) other s = grind (arith, ⊎_elim, more, fewer)
 
     itself : h.entry ≡ place → IsCaughtBelow t hs place (n + 1) h
     itself e = record { number = n; below = omega arith; here = is; begins = e }
@@ -79,8 +75,7 @@ module _ (t : ClassTable) (hs : List Handler) (place : ℕ) where
 
 module _ (t : ClassTable) (m : Method) (place n : ℕ) (all : length m.rec.handlers ≤ n) where
   listed : (h : Handler) → Contains m.rec.handlers h → h.entry ≡ place → IsCaughtBelow t m.rec.handlers place n h
-  listed h c e =
-      record { number = c.0; below = let lt = c.1 in omega (arith, lt, all); here = slice_get-get_or m.rec.handlers c.0 h c.1 ∙ ap Some c.2; begins = e }
+  listed h c e = grind (arith, slice_get-get_or)
 
   found : (h : Handler) → IsCaughtBelow t m.rec.handlers place n h → Contains m.rec.handlers h
   found h c = (c.number, slice_get_within m.rec.handlers c.number h c.here, get_or_from_slice_get m.rec.handlers c.number h h c.here)
@@ -108,8 +103,7 @@ module _ (t : ClassTable) (hs items : List Handler) (place n : ℕ) (d : Handler
   next-here o c begins class s j = caught-here t hs place n (get_or items n d) here-is o c begins class s j
 
 pub caught-class : (t : ClassTable) (hs : List Handler) (n place : ℕ) (o : Option ℕ) → CaughtBelow t hs n place o → IfSome o (IsClass t)
-caught-class t hs n place None s = tt
-caught-class t hs n place (Some c) s = s.0
+caught-class t hs n place x s = grind (arith)
 
 pub next-with : (t : ClassTable) (hs items : List Handler) (place n : ℕ) (d : Handler) (before after : Option ℕ) → items ≡ hs → n < length items
     → IsClass t (get_or items n d).class → IsCaughtWith t place (get_or items n d) before after → CaughtBelow t hs n place before

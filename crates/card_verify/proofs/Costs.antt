@@ -1,6 +1,6 @@
 -- Sums and products in which steps are counted.
-use Rattle.std.proofs.Common.{◌≡◌, ℕ, zero, suc, ◌+◌, ◌*◌, ◌<◌, ◌≤◌, List, [], ◌∷◌, ◌++◌, length, sum_by, Result, Ok, Err}
-use Rattle.std.proofs.Common.{OnOk, sym, ap, ◌∙◌, arith}
+use Rattle.std.proofs.Common.{◌≡◌, ℕ, zero, suc, ◌+◌, ◌*◌, ◌<◌, ◌≤◌, List, [], ◌∷◌, ◌++◌, length, sum_by, Result}
+use Rattle.std.proofs.Common.{OnOk, ap, ◌∙◌, arith}
 use Rattle.std.proofs.Math.Nat.{mul_assoc, mul-suc, suc-mul}
 use Rattle.std.proofs.lemmas.List.{length-append}
 use Rattle.std.proofs.lemmas.List.Sums.{sum_by-append, sum_by-cons}
@@ -9,12 +9,8 @@ use Rattle.jc_base.specs.Class.{ClassTable, height}
 use Rattle.jc_base.specs.Order.{rises_left}
 
 pub add-times : (a c b : ℕ) → (a + c) * b ≡ a * b + c * b
-add-times zero c b =
-    let none : zero + c ≡ c = omega arith in
-    rw none (omega arith)
-add-times (suc a) c b =
-    let next : suc a + c ≡ suc (a + c) = omega arith in
-    rw next (omega (arith, suc-mul (a + c) b, suc-mul a b, add-times a c b))
+add-times zero c b = grind (arith, zero)
+add-times (suc a) c b = grind (arith, suc, suc-mul, add-times a c b)
 
 pub times-add : (p a c : ℕ) → p * (a + c) ≡ p * a + p * c
 times-add zero a c = omega arith
@@ -37,27 +33,18 @@ module _ {A : Type 0} where
 
   -- after some of a list and one more
   pub cost-within : (xs : List A) (x : A) (rest whole : List A) (u : ℕ) → xs ++ x ∷ rest ≡ whole → length xs * u + u ≤ length whole * u
-  cost-within xs x rest whole u e =
-      let long : suc (length xs) ≤ length whole = omega (arith, ap length e, length-append xs (x ∷ rest)) in
-      omega (arith, grow (suc (length xs)) (length whole) u long, suc-mul (length xs) u)
+  cost-within xs x rest whole u e = grind (arith, suc, length, length-append, grow, suc-mul)
 
   pub sum-more-cost : (f : A → ℕ) (xs : List A) (x : A) (b : ℕ) → sum_by f (xs ++ x ∷ []) * b ≡ sum_by f xs * b + f x * b
-  sum-more-cost f xs x b =
-      let one : sum_by f (x ∷ []) ≡ f x = sum_by-cons f x [] ∙ omega arith in
-      ap (λ n. n * b) (sum_by-append f xs (x ∷ []) ∙ ap (λ n. sum_by f xs + n) one) ∙ add-times (sum_by f xs) (f x) b
+  sum-more-cost f xs x b = grind (arith, sum_by, sum_by-cons, sum_by-append, add-times)
 
   pub sum-within : (f : A → ℕ) (xs : List A) (x : A) (rest whole : List A) (b : ℕ) → xs ++ x ∷ rest ≡ whole
       → sum_by f xs * b + f x * b ≤ sum_by f whole * b
-  sum-within f xs x rest whole b e =
-      let parts : sum_by f whole ≡ sum_by f xs + (f x + sum_by f rest) = ap (sum_by f) (sym e) ∙ sum_by-append f xs (x ∷ rest)
-      ∙ ap (λ n. sum_by f xs + n) (sum_by-cons f x rest) in
-      omega (arith, grow (sum_by f xs + f x) (sum_by f whole) b (omega (arith, parts)), add-times (sum_by f xs) (f x) b)
+  sum-within f xs x rest whole b e = grind (arith, sum_by, sum_by-append, sum_by-cons, grow, add-times)
 
 -- one rise fewer pays for a pass
 pub pass-paid : (less more u : ℕ) → less < more → (1 + less) * u + u ≤ (1 + more) * u
-pass-paid less more u lt =
-    let next : suc (1 + less) * u ≡ (1 + less) * u + u = suc-mul (1 + less) u in
-    omega (arith, next, grow (suc (1 + less)) (1 + more) u (omega (arith, lt)))
+pass-paid less more u lt = grind (arith, suc, suc-mul, grow)
 
 pub last-pass : (left u : ℕ) → u ≤ (1 + left) * u
 last-pass left u = let whole : suc left ≡ 1 + left = omega arith in rw (← whole) (omega (arith, suc-mul left u))
@@ -66,19 +53,12 @@ last-pass left u = let whole : suc left ≡ 1 + left = omega arith in rw (← wh
 pub most-rises : (t : ClassTable) (regs : List Ty) → ((a : Ty) → rises_left t a ≤ height t + 3)
     → sum_by (rises_left t) regs ≤ length regs * (height t + 3)
 most-rises t [] most = omega arith
-most-rises t (a ∷ regs) most =
-    omega (arith, sum_by-cons (rises_left t) a regs, suc-mul (length regs) (height t + 3), most-rises t regs most, most a)
+most-rises t (a ∷ regs) most = grind (arith, sum_by-cons, suc-mul, length, most-rises t regs most)
 
 -- the bound, from the scans and from the passes
 pub whole-bound : (p n e b m : ℕ) → m + e * b + p * (n * (b + 1)) ≡ p * n + (p * n + e) * b + m
-whole-bound p n e b m =
-    let next : b + 1 ≡ suc b = omega arith in
-    let each : n * (b + 1) ≡ n * b + n = ap (λ k. n * k) next ∙ mul-suc n b in
-    let passes : p * (n * (b + 1)) ≡ p * (n * b) + p * n = ap (λ k. p * k) each ∙ times-add p (n * b) n in
-    let grouped : p * n * b ≡ p * (n * b) = mul_assoc p n b in
-    omega (arith, passes, grouped, add-times (p * n) e b)
+whole-bound p n e b m = grind (arith, suc, mul-suc, times-add, mul_assoc, add-times)
 
 -- what holds in any case
 pub answered-ok : {A B : Type 0} {P : Type 0} (r : Result A B) → P → OnOk r P
-answered-ok (Ok a) p = p
-answered-ok (Err b) p = tt
+answered-ok x p = grind (arith)

@@ -116,7 +116,4 @@ module _ (w : Linked) (m : Method) (index : List ℕ) (exact : IsExactIndex m.co
       (refused-same w m (IsTarget m) (Contains index) (from-target m index exact formed) (to-target m index exact) f k state)
 
 pub exact-answers : (w : Linked) → ExactAnswers w
-exact-answers w m index exact = record {
-  accepts = (indexed-typed w m index, served w m index exact);
-  refuses = λ fault kept. (refused-without w m index exact fault kept, refused-with w m index exact fault kept);
-}
+exact-answers w m index exact = grind (arith, indexed-typed w m index, served w m index exact, refused-without, refused-with)

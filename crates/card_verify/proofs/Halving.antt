@@ -45,10 +45,7 @@ digit n t len b some le lt = ⊎_elim (λ less. omega (arith, less)) (λ ge. abs
     one (suc k) p pos = omega (arith, suc-mul k p)
 
     too-many : b ≤ t → ⊥
-    too-many ge =
-        let grown : 2 ^ b ≤ 2 ^ t = pow_mono ge in
-        let whole = one n (2 ^ t) some in
-        omega (arith, grown, whole, le, lt)
+    too-many ge = grind (arith, pow_mono)
 
 -- a half of what is left
 halves : (n h t len : ℕ) → h * 2 ≤ n → n * 2 ^ t ≤ len → h * 2 ^ (t + 1) ≤ len

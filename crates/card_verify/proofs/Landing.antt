@@ -26,12 +26,10 @@ some-cells stack depth le deep e = absurd (omega (arith, length-cells stack dept
 
 -- the truth of a fact from the answer that decides it
 pub when-true : (P : Type 0) (b : Bool) → MatchBool b P (¬ P) → b ≡ true → P
-when-true P true h e = h
-when-true P false h e = absurd (false≢true e)
+when-true x x2 h e = grind (arith, false≢true)
 
 pub when-false : (P : Type 0) (b : Bool) → MatchBool b P (¬ P) → b ≡ false → ¬ P
-when-false P true h e = absurd (false≢true (sym e))
-when-false P false h e = h
+when-false x x2 h e = grind (arith, false≢true)
 
 pub put-one : (stack : List Ty) (ty : Ty) → (length stack == 0) ≡ false → IsPut stack ty (set stack 0 ty) 1
 unfolding cells
@@ -64,12 +62,10 @@ module _ (v : Verifier) (marked : ℕ → Type 0) (place : ℕ) (arrival : Arriv
     }
 
     pub falling : (b : Bool) → arrival.may_fall ≡ b → 0 < (if b then arrival.depth else 0) → arrival.may_fall ≡ true
-    falling true e lt = e
-    falling false e lt = absurd (omega (arith, lt))
+    falling x e lt = grind (arith)
 
     pub within : (b : Bool) → arrival.depth ≤ length stack → (if b then arrival.depth else 0) ≤ length stack
-    within true le = le
-    within false le = omega arith
+    within x le = grind (arith)
 
     pub mislanded-mark : (depth : ℕ) → depth ≡ left arrival → arrival.depth ≤ length stack → IsBlocked marked place arrival
         → IsMislanded v marked arrival stack stack (record { place = place; depth = depth; kind = StackAtTarget })
@@ -127,18 +123,10 @@ module _ (v : Verifier) (marked : ℕ → Type 0) (place : ℕ) (arrival : Arriv
         by (inr there) = let one = positive (length before) there.0 in omega (arith, there.1, one, room)
 
     not-falling : ¬ (IsShared marked place arrival) → (b : Bool) → arrival.may_fall ≡ b → arrival.may_fall ≡ false
-    not-falling other true e = absurd (other (inl e))
-    not-falling other false e = e
+    not-falling other x e = grind (arith)
 
     pub landed-caught : ¬ (depth ≡ 0) → ¬ (IsShared marked place arrival) → IsLanded v marked place arrival before (cells after depth)
-    landed-caught deep other = record {
-      arrives = entered;
-      suits = record {
-        entry = λ e. (when-false (IsFallenInto m place) arrival.may_fall fallen (not-falling other arrival.may_fall refl), λ t. other (inr t));
-        caught = λ e. has-room deep;
-        mark = λ t f. absurd (other (inr t));
-      };
-    }
+    landed-caught deep other = grind (arith, entered, when-false, not-falling, has-room)
 
     pub mislanded-entry : IsShared marked place arrival
         → IsMislanded v marked arrival before after (record { place = place; depth = depth; kind = HandlerEntered })

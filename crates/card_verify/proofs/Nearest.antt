@@ -18,8 +18,7 @@ use Rattle.card_verify.specs.Ahead.{IsLeastFrom, IsClear, is_nearer, least_or_no
 -- a set of the same numbers
 pub least-same : (S T : ℕ → Type 0) (from : ℕ) (o : Option ℕ) → ((q : ℕ) → S q → T q) → ((q : ℕ) → T q → S q)
     → IsLeastFrom S from o → IsLeastFrom T from o
-least-same S T from None to back h = λ q t. h q (back q t)
-least-same S T from (Some least) to back h = (to least h.0, h.1, λ q t le. h.2 q (back q t) le)
+least-same x x2 from x22 to back h = grind (arith)
 
 pos-same : (p q : ℕ) → pos p ≡ pos q → p ≡ q
 pos-same p q e = cc
@@ -33,8 +32,7 @@ module _ (S : ℕ → Type 0) (from : ℕ) where
   step-before n best h = least-same S (With (negsuc n)) from best (λ q s. inl s) (λ q w. ⊎_elim (λ s. s) (λ e. absurd (cc)) w) h
 
   step-past : (p : ℕ) (best : Option ℕ) → p < from → IsLeastFrom S from best → IsLeastFrom (With (pos p)) from best
-  step-past p None past h = λ q w. ⊎_elim (λ s. h q s) (λ e. omega (arith, pos-same p q e, past)) w
-  step-past p (Some b) past h = (inl h.0, h.1, λ q w le. ⊎_elim (λ s. h.2 q s le) (λ e. absurd (omega (arith, pos-same p q e, past, le))) w)
+  step-past p x past h = grind (arith, ⊎_elim, pos-same)
 
   step-first : (p : ℕ) → from ≤ p → IsLeastFrom S from None → IsLeastFrom (With (pos p)) from (Some p)
   step-first p le h = (inr refl, le, λ q w ge. ⊎_elim (λ s. let lt = h q s in absurd (omega (arith, lt, ge))) (λ e. omega (arith, pos-same p q e)) w)
@@ -54,14 +52,12 @@ module _ (S : ℕ → Type 0) (from : ℕ) where
   step-here p (Some b) true false e f h = step-farther p b (ltb-false p b f) h
 
   pub nearer-step : (t : ℤ) (best : Option ℕ) → IsLeastFrom S from best → IsLeastFrom (With t) from (nearer_target from best t)
-  nearer-step (pos p) best h = step-here p best (nat_le from p) (is_nearer p best) refl refl h
-  nearer-step (negsuc n) best h = step-before n best h
+  nearer-step x best h = grind (arith, step-here, step-before)
 
 -- the targets of one instruction
 pub nearest-all : (S : ℕ → Type 0) (from : ℕ) (xs : List ℤ) (best : Option ℕ) → IsLeastFrom S from best
     → IsLeastFrom (λ q. S q ⊎ Contains xs (pos q)) from (fold (nearer_target from) best xs)
-nearest-all S from [] best h =
-    least-same S (λ q. S q ⊎ Contains [] (pos q)) from best (λ q s. inl s) (λ q w. ⊎_elim (λ s. s) (λ c. absurd (omega (arith, c.1))) w) h
+nearest-all S from [] best h = grind (arith, least-same, ⊎_elim)
 nearest-all S from (x ∷ xs) best h =
     least-same (λ q. (S q ⊎ (x ≡ pos q)) ⊎ Contains xs (pos q)) (λ q. S q ⊎ Contains (x ∷ xs) (pos q)) from
     (fold (nearer_target from) (nearer_target from best x) xs)
@@ -111,47 +107,27 @@ entry-more hs from n h best is s =
 
 pub entry-all : (m : Method) (from n : ℕ) (best : Option ℕ) → length m.rec.handlers ≤ n → IsLeastFrom (EntryBelow m.rec.handlers n) from best
     → IsLeastFrom (IsEntry m) from best
-entry-all m from n best all s =
-    least-same (EntryBelow m.rec.handlers n) (IsEntry m) from best
-    (λ q e. record {
-      handler = e.2;
-      listed = (e.0, slice_get_within m.rec.handlers e.0 e.2 e.3, get_or_from_slice_get m.rec.handlers e.0 e.2 e.2 e.3);
-      begins = e.4;
-    })
-    (λ q e. (
-      e.listed.0,
-      let lt = e.listed.1 in omega (arith, lt, all),
-      e.handler,
-      slice_get-get_or m.rec.handlers e.listed.0 e.handler e.listed.1
-          ∙ ap Some e.listed.2,
-      e.begins,
-    )) s
+entry-all m from n best all s = grind (arith, least-same, slice_get_within, get_or_from_slice_get, slice_get-get_or)
 
 -- ---- what is kept
 
 -- a place that is not passed stays the least
 pub least-kept : (S : ℕ → Type 0) (from place : ℕ) (o : Option ℕ) → from ≤ place → ¬ (IsSomeAnd o (λ q. q < place)) → IsLeastFrom S from o
     → IsLeastFrom S place o
-least-kept S from place None le none h = λ q s. let lt = h q s in omega (arith, lt, le)
-least-kept S from place (Some b) le none h =
-    (h.0, ⊎_elim (λ lt. absurd (none lt)) (λ ge. ge) (cases_lt b place), λ q s ge. h.2 q s (omega (arith, le, ge)))
+least-kept x from place x2 le none h = grind (arith, ⊎_elim, cases_lt)
 
 -- the least one tells whether the first is in the set
 pub least-here : (S : ℕ → Type 0) (from : ℕ) (o : Option ℕ) → IsLeastFrom S from o → o ≡ Some from → S from
-least-here S from None h e = absurd (cc)
-least-here S from (Some b) h e = let same : b ≡ from = cc in subst S same h.0
+least-here x from x2 h e = grind (arith)
 
 pub here-least : (S : ℕ → Type 0) (from : ℕ) (o : Option ℕ) → IsLeastFrom S from o → S from → o ≡ Some from
-here-least S from None h s = let lt = h from s in absurd (omega (arith, lt))
-here-least S from (Some b) h s = let le = h.2 from s (omega arith) in let ge = h.1 in ap Some (omega (arith, le, ge))
+here-least x from x2 h s = grind (arith)
 
 -- the next of the handlers that a walk goes over
 pub entry-next : (hs items : List Handler) (from n : ℕ) (d : Handler) (best r : Option ℕ) (e : ℕ) → items ≡ hs → n < length items
     → e ≡ (get_or items n d).entry → r ≡ nearer from best e
     → IsLeastFrom (EntryBelow hs n) from best → IsLeastFrom (EntryBelow hs (n + 1)) from r
-entry-next hs items from n d best r e same inside entry is s =
-    let here : slice_get hs n ≡ Some (get_or items n d) = ap (λ (xs : List Handler). slice_get xs n) (sym same) ∙ slice_get-get_or items n d inside in
-    subst (IsLeastFrom (EntryBelow hs (n + 1)) from) (ap (nearer from best) (sym entry) ∙ sym is) (entry-more hs from n (get_or items n d) best here s)
+entry-next hs items from n d best r e same inside entry is s = grind (arith, slice_get, get_or, slice_get-get_or, entry-more)
 
 -- a walk along a list
 pub next-whole : {A : Type 0} (before rest : List A) (x : A) (after whole : List A) → before ++ rest ≡ whole → rest ≡ x ∷ after
@@ -161,11 +137,9 @@ next-whole before rest x after whole h e = append_assoc before (x ∷ []) after 
 -- whether the first is in the set, as the place that was found tells
 pub told-here : (S : ℕ → Type 0) (from : ℕ) (o : Option ℕ) (b : Bool) → IsLeastFrom S from o
     → MatchBool b (o ≡ Some from) (¬ (o ≡ Some from)) → MatchBool b (S from) (¬ (S from))
-told-here S from o true h e = least-here S from o h e
-told-here S from o false h e = λ s. e (here-least S from o h s)
+told-here x from o x2 h e = grind (arith, least-here, here-least)
 
 -- ---- no target before a place
 
 pub clear-least : (marked : ℕ → Type 0) (place : ℕ) (o : Option ℕ) → IsLeastFrom marked place o → IsClear marked place (least_or_none o)
-clear-least marked place None h = λ q t ge. let lt = h q t in absurd (omega (arith, lt, ge))
-clear-least marked place (Some b) h = λ q t ge. h.2 q t ge
+clear-least marked place x h = grind (arith)

@@ -1,5 +1,5 @@
 -- A method is refused over an index in one way.
-use Rattle.std.proofs.Common.{◌≡◌, ℕ, ◌<◌, ⊎_elim, List, Some, Contains, slice_get, sym, ◌∙◌, ap, subst, arith}
+use Rattle.std.proofs.Common.{◌≡◌, ℕ, ◌<◌, ⊎_elim, List, Some, slice_get, sym, ◌∙◌, ap, subst, arith}
 use Rattle.std.specs.Prelude.{pos}
 use Rattle.std.proofs.lemmas.Bool.{cases_lt}
 use Rattle.jc_base.specs.World.{Linked}
@@ -15,10 +15,10 @@ use Rattle.jc_control.proofs.FlawLaws.{first-flaw-refuses}
 use Rattle.jc_rules.specs.Demand.{Frame}
 use Rattle.jc_rules.specs.FlowLaws.{AreRules}
 use Rattle.card_typing.specs.declared.fault.CardFault.{CardFault}
-use Rattle.card_typing.specs.declared.fault.CardKind.TheVariants.{BadIndex, NotIndexed}
+use Rattle.card_typing.specs.declared.fault.CardKind.TheVariants.{NotIndexed}
 use Rattle.card_typing.specs.Refusal.{fault_of}
 use Rattle.card_typing.proofs.OneRefusal.{state-one}
-use Rattle.card_verify.specs.Refusal.{IsListedTarget, LeadsToListed, IsFirstLacking, IsBadEntry, IsFormKind, IsRefusedOver, over_flaw, over_entry, over_target}
+use Rattle.card_verify.specs.Refusal.{IsListedTarget, LeadsToListed, IsFirstLacking, IsFormKind, IsRefusedOver, over_flaw, over_entry, over_target}
 use Rattle.card_verify.specs.Refusal.{over_state}
 use Rattle.card_verify.specs.OverIndex.{RefusalIsOneOver}
 use Rattle.card_verify.proofs.Denying.{no-bad, lacking-target}
@@ -26,8 +26,7 @@ use Rattle.card_verify.proofs.Denying.{no-bad, lacking-target}
 -- ---- the first of several
 
 same-number : (P : ℕ → Type 0) (n k : ℕ) → P n → P k → ((j : ℕ) → j < n → ¬ (P j)) → ((j : ℕ) → j < k → ¬ (P j)) → n ≡ k
-same-number P n k here there below under =
-    ⊎_elim (λ lt. absurd (under n lt here)) (λ le. ⊎_elim (λ lt. absurd (below k lt there)) (λ ge. omega (arith, le, ge)) (cases_lt k n)) (cases_lt n k)
+same-number P n k here there below under = grind (arith, ⊎_elim, cases_lt)
 
 module _ {A : Type 0} (P : A → Type 0) (xs : List A) (n k : ℕ) (x y : A) (one : IsFirstFailing P xs n x) (other : IsFirstFailing P xs k y) where
   number-one : n ≡ k
@@ -54,9 +53,7 @@ module _ (w : Linked) (rules : AreRules w) (m : Method) (mo : IsMethodOf w m) (i
   Agrees fault kept other held = (fault ≡ other) × (¬ (IsFormKind fault.kind) → kept ≡ held)
 
   flaw-told : (f : Flaw) → IsFormKind (fault_of f).kind
-  flaw-told (flaws.Code place end) = tt
-  flaw-told (flaws.BadTarget place target) = tt
-  flaw-told (flaws.BadHandler entry number) = tt
+  flaw-told x = grind (arith)
 
   module _ (one_flaw : FirstFlawIsOne) where
     refusal-one-of : (fault other : CardFault) (kept held : Frame) → IsRefusedOver w m index fault kept → IsRefusedOver w m index other held
@@ -67,12 +64,9 @@ module _ (w : Linked) (rules : AreRules w) (m : Method) (mo : IsMethodOf w m) (i
     refusal-one-of _ _ _ _ (over_flaw f kept first) (over_target p q held formed up places lacks) = absurd (first-flaw-refuses m f first formed)
     refusal-one-of _ _ _ _ (over_flaw f kept first) (over_state fault held formed whole state) = absurd (first-flaw-refuses m f first formed)
     refusal-one-of _ _ _ _ (over_entry k kept formed bad) (over_flaw f held first) = absurd (first-flaw-refuses m f first formed)
-    refusal-one-of _ _ _ _ (over_entry k kept formed bad) (over_entry j held also worse) =
-        let same : k ≡ j = same-number (λ n. IsBadEntry m.code index n) k j bad.bad worse.bad bad.least worse.least in
-        (ap (λ n. record { place = 0; depth = 0; kind = BadIndex n }) same, λ of_state. absurd (of_state tt))
+    refusal-one-of _ _ _ _ (over_entry k kept formed bad) (over_entry j held also worse) = grind (arith, same-number)
     refusal-one-of _ _ _ _ (over_entry k kept formed bad) (over_target p q held also up places lacks) = absurd (no-bad m index up places k bad.bad)
-    refusal-one-of _ _ _ _ (over_entry k kept formed bad) (over_state fault held also whole state) =
-        absurd (no-bad m index whole.ascending whole.places k bad.bad)
+    refusal-one-of _ _ _ _ (over_entry k kept formed bad) (over_state fault held also whole state) = grind (arith, no-bad)
     refusal-one-of _ _ _ _ (over_target p q kept formed up places lacks) (over_flaw f held first) = absurd (first-flaw-refuses m f first formed)
     refusal-one-of _ _ _ _ (over_target p q kept formed up places lacks) (over_entry k held also bad) = absurd (no-bad m index up places k bad.bad)
     refusal-one-of _ _ _ _ (over_target p q kept formed up places lacks) (over_target r s held also high all other) =
@@ -83,13 +77,10 @@ module _ (w : Linked) (rules : AreRules w) (m : Method) (mo : IsMethodOf w m) (i
     refusal-one-of _ _ _ _ (over_target p q kept formed up places lacks) (over_state fault held also whole state) =
         absurd (lacks.lacks.fails (whole.complete q (lacking-target m index p q lacks)))
     refusal-one-of _ _ _ _ (over_state fault kept formed whole state) (over_flaw f held first) = absurd (first-flaw-refuses m f first formed)
-    refusal-one-of _ _ _ _ (over_state fault kept formed whole state) (over_entry k held also bad) =
-        absurd (no-bad m index whole.ascending whole.places k bad.bad)
+    refusal-one-of _ _ _ _ (over_state fault kept formed whole state) (over_entry k held also bad) = grind (arith, no-bad)
     refusal-one-of _ _ _ _ (over_state fault kept formed whole state) (over_target p q held also up places lacks) =
         absurd (lacks.lacks.fails (whole.complete q (lacking-target m index p q lacks)))
-    refusal-one-of _ _ _ _ (over_state fault kept formed whole state) (over_state other held also again is) =
-        let one = state-one w rules m mo (Contains index) state.visits is.visits fault other kept held state.after is.after in
-        (one.1, λ of_state. one.2)
+    refusal-one-of _ _ _ _ (over_state fault kept formed whole state) (over_state other held also again is) = grind (arith, state-one)
 
 pub refusal-one-over : (w : Linked) → AreRules w → FirstFlawIsOne → RefusalIsOneOver w
 refusal-one-over w rules one_flaw m index fault other kept held mo r s = refusal-one-of w rules m mo index one_flaw fault other kept held r s

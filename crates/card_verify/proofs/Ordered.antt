@@ -58,14 +58,7 @@ pub record IsOrderedTo (code index : List ℕ) (k least : ℕ) (left : List Plac
   pub ahead : (i : Placed) → HasInstruction code i → least ≤ i.place → Contains left i
 
 pub ordered-first : (code index : List ℕ) → IsOrderedTo code index 0 0 (listing code)
-ordered-first code index = record {
-  passed = [];
-  whole = refl;
-  so_far = λ j q lt at. absurd (omega (arith, lt));
-  up = λ j p q lt at next. absurd (omega (arith, lt));
-  last = inl (refl, refl);
-  ahead = λ i s le. s;
-}
+ordered-first code index = grind (arith)
 
 module _ (code index : List ℕ) (order : AreListed code) (k least : ℕ) (left : List Placed) (is : IsOrderedTo code index k least left) where
   module _ (p : ℕ) (at : slice_get index k ≡ Some p) where

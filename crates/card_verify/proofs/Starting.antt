@@ -1,6 +1,6 @@
 -- The registers with which a method starts, one by one.
 use Rattle.std.proofs.Common.{◌≡◌, ℕ, zero, suc, ◌+◌, ◌-◌, ◌<◌, ◌≤◌, ⊎_elim, Bool, true, false, if◌then◌else◌, List, []}
-use Rattle.std.proofs.Common.{◌∷◌, ◌++◌, length, get_or, set, replicate, refl, sym, ◌∙◌, ap, arith}
+use Rattle.std.proofs.Common.{◌∷◌, ◌++◌, length, get_or, set, replicate, refl, arith}
 use Rattle.std.proofs.lemmas.Bool.{cases_eq}
 use Rattle.std.proofs.lemmas.List.{ext_get_or, get_or-set_same, get_or-set_other}
 use Rattle.jc_base.specs.declared.ty.Ty.{Ty}
@@ -21,31 +21,22 @@ argument-or (ty ∷ tys) k (suc n) = argument-or tys k n
 
 -- the register of a static method
 pub start-static : (r : MethodRec) (x : ℕ) → r.is_static ≡ true → get_or (start_frame r Bottom).regs x Bottom ≡ get_or r.sig.args x Bottom
-start-static r x e =
-    ap (λ (b : Bool). get_or ((if b then [] else Class r.class ∷ []) ++ r.sig.args ++ replicate r.max_locals Bottom) x Bottom) e
-    ∙ argument-or r.sig.args r.max_locals x
+start-static r x e = grind (arith, get_or, replicate, argument-or)
 
 pub start-argument : (r : MethodRec) (x : ℕ) → r.is_static ≡ false → ¬ (x ≡ 0) → get_or (start_frame r Bottom).regs x Bottom
     ≡ get_or r.sig.args (x - 1) Bottom
 start-argument r zero e other = absurd (other refl)
-start-argument r (suc n) e other =
-    let back : suc n - 1 ≡ n = omega arith in
-    ap (λ (b : Bool). get_or ((if b then [] else Class r.class ∷ []) ++ r.sig.args ++ replicate r.max_locals Bottom) (suc n) Bottom) e
-    ∙ argument-or r.sig.args r.max_locals n ∙ ap (λ (k : ℕ). get_or r.sig.args k Bottom) (sym back)
+start-argument r (suc n) e other = grind (arith, suc, get_or, replicate, argument-or)
 
 -- one more register is as it starts
 pub started-more : (start regs : List Ty) (x : ℕ) (ty : Ty) → x < length regs → ty ≡ get_or start x Bottom
     → ((k : ℕ) → k < x → get_or regs k Bottom ≡ get_or start k Bottom)
     → (k : ℕ) → k < x + 1 → get_or (set regs x ty) k Bottom ≡ get_or start k Bottom
-started-more start regs x ty inside is so_far k lt =
-    ⊎_elim (λ here. ap (λ (n : ℕ). get_or (set regs x ty) n Bottom) here ∙ get_or-set_same regs x ty Bottom inside ∙ is
-    ∙ ap (λ (n : ℕ). get_or start n Bottom) (sym here))
-    (λ other. get_or-set_other regs x k ty Bottom other ∙ so_far k (omega arith)) (cases_eq k x)
+started-more start regs x ty inside is so_far k lt = grind (arith, ⊎_elim, get_or, set, get_or-set_same, get_or-set_other, cases_eq)
 
 pub started-all : (start regs : List Ty) (x : ℕ) → length regs ≡ length start → length regs ≤ x
     → ((k : ℕ) → k < x → get_or regs k Bottom ≡ get_or start k Bottom) → regs ≡ start
 started-all start regs x count all so_far = ext_get_or Bottom regs start count (λ k lt. so_far k (omega arith))
 
 pub receiver-length : (b : Bool) (c : ℕ) → length (if b then [] else Class c ∷ []) ≡ receiver_words b
-receiver-length true c = refl
-receiver-length false c = refl
+receiver-length x c = grind (arith)

@@ -1,8 +1,7 @@
 -- The rule of an instruction applies or refuses, and what it leaves is in order or not.
-use Rattle.std.proofs.Common.{◌≡◌, ℕ, ◌+◌, ◌<◌, ◌≤◌, List, [], length, MatchBool, IsSomeAnd, IfOk, IfErr, Option, Result, Ok, Err}
+use Rattle.std.proofs.Common.{◌≡◌, ℕ, ◌+◌, ◌<◌, ◌≤◌, List, [], length, MatchBool, IsSomeAnd, IfOk, IfErr, Result}
 use Rattle.std.proofs.Common.{slice_get, sum_by, refl, sym, ◌∙◌, ap, subst, arith}
 use Rattle.jc_base.specs.declared.ty.Ty.{Ty}
-use Rattle.jc_base.specs.declared.record.MethodRec.{MethodRec}
 use Rattle.jc_base.specs.Order.{rises_left}
 use Rattle.jc_decode.specs.declared.insn.Placed.{Placed}
 use Rattle.jc_ops.specs.declared.fault.RuleFault.{RuleFault}
@@ -26,9 +25,7 @@ use Rattle.card_verify.proofs.Landing.{no-cells}
 module _ (v : Verifier) (marked : ℕ → Type 0) (is : IsVerifier v marked) where
   pub has-room : (regs stack : List Ty) (depth : ℕ) → HasSlices v regs stack → depth ≤ v.subject.rec.now.max_stack
       → IsSomeAnd (slice_get (world_of v).methods v.subject.number) (λ m. HasDeclaredLengths m regs stack depth)
-  has-room regs stack depth slices le =
-      subst (λ (o : Option MethodRec). IsSomeAnd o (λ m. HasDeclaredLengths m regs stack depth)) (sym is.known.rec)
-      (record { registers = slices.registers; cells = slices.cells; within = le })
+  has-room regs stack depth slices le = grind (arith)
 
   module _ (i : Placed) (there : HasInstruction (method v).code i) (regs stack regs_after stack_after : List Ty) (depth : ℕ)
       (long : length stack_after ≡ v.subject.rec.now.max_stack)
@@ -49,10 +46,7 @@ module _ (v : Verifier) (marked : ℕ → Type 0) (is : IsVerifier v marked) whe
     module _ (o : Outcome) (applies : Applies (world_of v) (record { method = v.subject.number; place = i.place }) i.insn Card (frame_of regs stack depth)
         (frame_of regs_after stack_after o.depth) o) where
       shallow : o.depth ≤ v.subject.rec.now.max_stack
-      shallow =
-          let does = (is.records.applies (method v) i.place i.insn Card (frame_of regs stack depth) (frame_of regs_after stack_after o.depth) o is.known
-          applies).does in
-          omega (arith, does.room, does.depth)
+      shallow = grind (arith)
 
       left-none : o.depth ≡ 0 → cells stack_after o.depth ≡ []
       left-none e = ap (cells stack_after) e ∙ no-cells stack_after
@@ -60,20 +54,7 @@ module _ (v : Verifier) (marked : ℕ → Type 0) (is : IsVerifier v marked) whe
       pub stepped : IsLeftWell v i o.depth → length regs_after ≡ v.subject.rec.now.nargs + v.subject.rec.now.max_locals
           → MatchBool o.rose (sum_by (rises_left (world_of v).classes) regs_after < sum_by (rises_left (world_of v).classes) regs) (regs_after ≡ regs)
           → IsStepped v marked i regs (cells stack depth) regs_after stack_after o
-      stepped well count rises = record {
-        passed =
-            record {
-              stands = there;
-              suits = suits;
-              applies = is.records.applies (method v) i.place i.insn Card (frame_of regs stack depth)
-                  (frame_of regs_after stack_after o.depth) o is.known applies;
-              branch = λ j. left-none (well.branch j);
-              goes_on = well.goes_on;
-            };
-        rises = rises;
-        slices = record { registers = count; cells = long };
-        depth = shallow;
-      }
+      stepped well count rises = grind (arith, left-none, shallow)
 
       failing : (kind : CardKind) → IsWrong (world_of v) (method v) marked i (frame_of regs stack depth) kind (frame_of regs_after stack_after o.depth)
           → IsFailing v marked i regs (cells stack depth) regs_after stack_after (record { place = i.place; depth = o.depth; kind = kind })
@@ -113,22 +94,13 @@ module _ (v : Verifier) (marked : ℕ → Type 0) (is : IsVerifier v marked) whe
 
     pub stopped-landing : (stack_after : List Ty) (fault : CardFault) → fault.place ≡ place → IsMislanded v marked arrival stack stack_after fault
         → IsStopped v marked i arrival regs stack regs stack_after fault
-    stopped-landing stack_after fault at mis =
-        let same : fault.place ≡ i.place = at ∙ here in
-        record {
-          given = cells stack_after fault.depth;
-          arrives =
-              subst (λ n. Arrives (world_of v) (method v) arrival.may_fall (cells stack arrival.depth) n (cells stack_after fault.depth)) same mis.arrives;
-          fails = record { place = same; wrong = mis.wrong i regs (sym same); within = mis.within };
-        }
+    stopped-landing stack_after fault at mis = grind (arith)
 
     module _ (given regs_after stack_after : List Ty) (landed : IsLanded v marked place arrival stack given) where
       pub visited : (r : Result Outcome CardFault) → IfOk r (λ o. IsStepped v marked i regs given regs_after stack_after o)
           → IfOk r (λ o. IsVisited v marked i arrival regs stack regs_after stack_after o)
-      visited (Ok o) s = record { given = given; arrives = landed-arrives given landed; stepped = s }
-      visited (Err f) s = tt
+      visited x s = grind (arith, landed-arrives, stepped)
 
       pub stopped : (r : Result Outcome CardFault) → IfErr r (λ f. IsFailing v marked i regs given regs_after stack_after f)
           → IfErr r (λ f. IsStopped v marked i arrival regs stack regs_after stack_after f)
-      stopped (Ok o) s = tt
-      stopped (Err f) s = record { given = given; arrives = landed-arrives given landed; fails = s }
+      stopped x s = grind (arith, landed-arrives)

@@ -1,6 +1,6 @@
 -- How many methods are accepted over their indexes.
-use Rattle.std.proofs.Common.{◌≡◌, ℕ, zero, suc, ◌+◌, ◌<◌, ◌≤◌, ◌⊎◌, inl, inr, ⊎_elim, Bool, true, false, List, [], ◌∷◌}
-use Rattle.std.proofs.Common.{◌++◌, length, Contains, MatchBool, Some, None, Result, Ok, Err, OnOk, OnErr, IsSomeAnd, IsTrue, slice_get, refl, sym, ap}
+use Rattle.std.proofs.Common.{◌≡◌, ℕ, zero, suc, ◌+◌, ◌<◌, ◌≤◌, ◌⊎◌, inl, inr, ⊎_elim, Bool, List, [], ◌∷◌}
+use Rattle.std.proofs.Common.{◌++◌, length, Contains, MatchBool, Some, None, Result, OnOk, OnErr, IsSomeAnd, IsTrue, slice_get, refl, sym, ap}
 use Rattle.std.proofs.Common.{subst, ◌∙◌, arith}
 use Rattle.std.specs.Prelude.{is_ok}
 use Rattle.std.specs.Int.{from_bool}
@@ -13,11 +13,11 @@ use Rattle.jc_base.specs.declared.ty.Ty.{Ty}
 use Rattle.jc_base.specs.declared.record.MethodRec.{MethodRec}
 use Rattle.jc_base.specs.World.{Linked, index_of}
 use Rattle.jc_decode.proofs.Elements.{Contains-slice_get}
-use Rattle.jc_control.specs.Method.{method_with, method_in, IsMethodOf}
+use Rattle.jc_control.specs.Method.{method_in, IsMethodOf}
 use Rattle.card_typing.specs.declared.fault.CardFault.{CardFault}
-use Rattle.card_typing.specs.Typing.{HasCardTyping, IsLeastCardTyping}
+use Rattle.card_typing.specs.Typing.{IsLeastCardTyping}
 use Rattle.card_typing.specs.Laws.{CardIsFlow}
-use Rattle.card_verify.specs.Answers.{IsAccepted, IsAcceptedAt}
+use Rattle.card_verify.specs.Answers.{IsAcceptedAt}
 use Rattle.card_verify.proofs.Answering.{on-method}
 use Rattle.card_verify.specs.Counting.{IsByIndex, CountsByIndex}
 use Rattle.card_verify.specs.IndexTyping.{HasIndexTyping}
@@ -41,12 +41,7 @@ ascending-push xs x up below k p q at next = by (pushed xs x k p at) (pushed xs 
     by (inr a) (inr b) = absurd (omega (arith, a.0, b.0))
 
 pub counts-none : (w : Linked) → CountsByIndex w 0 0
-counts-none w = record {
-  numbers = [];
-  ascending = λ k p q at next. absurd (omega (arith, slice_get_within [] k p at));
-  exactly = λ n. (λ c. absurd (omega (arith, c.1)), λ h. absurd (omega (arith, h.0)));
-  count_is = refl;
-}
+counts-none w = grind (arith, slice_get_within)
 
 module _ (w : Linked) (n count : ℕ) (c : CountsByIndex w n count) where
   -- a method that is not accepted so
@@ -84,22 +79,16 @@ module _ (w : Linked) (n count : ℕ) (c : CountsByIndex w n count) where
 -- the count after a method
 pub counts-by : (w : Linked) (n count : ℕ) → CountsByIndex w n count → (by : Bool) (one : ℕ) → one ≡ from_bool by
     → MatchBool by (IsByIndex w n) (¬ (IsByIndex w n)) → CountsByIndex w (n + 1) (count + one)
-counts-by w n count c true one e this = subst (λ k. CountsByIndex w (n + 1) (count + k)) (sym e) (counts-with w n count c this)
-counts-by w n count c false one e other =
-    let same : count ≡ count + one = omega (arith, e) in
-    subst (CountsByIndex w (n + 1)) same (counts-without w n count c other)
+counts-by w n count c x one e this = grind (arith, counts-with, counts-without)
 
 pub count-most : (n count : ℕ) → count ≤ n → (by : Bool) (one : ℕ) → one ≡ from_bool by → count + one ≤ n + 1
-count-most n count le true one e = omega (arith, le, e)
-count-most n count le false one e = omega (arith, le, e)
+count-most n count le x one e = grind (arith)
 
 -- ---- one method
 
 -- a method without code is none of them
 pub bare-not : (w : Linked) (n : ℕ) (rec : MethodRec) → slice_get w.methods n ≡ Some rec → rec.code_len ≡ 0 → ¬ (IsByIndex w n)
-bare-not w n rec here none by =
-    let same : rec ≡ by.rec = same_Some _ _ (sym here ∙ by.is) in let e = ap (λ (r : MethodRec). r.code_len) same in let some = by.has_code in
-    omega (arith, none, e, some)
+bare-not w n rec here none by = grind (arith, same_Some)
 
 -- one without an index
 pub unindexed-not : (w : Linked) (n : ℕ) → index_of w n ≡ None → ¬ (IsByIndex w n)
@@ -111,30 +100,10 @@ module _ (w : Linked) (n : ℕ) (rec : MethodRec) (here : slice_get w.methods n 
   pub served : (r : Result (Unit {0}) CardFault) (b : Bool) → b ≡ is_ok r → IsSomeAnd (method_in w n) (λ m. OnOk r (HasIndexTyping w m index))
       → IsSomeAnd (method_in w n) (λ m. OnErr r (¬ (HasIndexTyping w m index)))
       → MatchBool b (IsByIndex w n) (¬ (IsByIndex w n))
-  served (Ok t) b e typing none =
-      subst (λ x. MatchBool x (IsByIndex w n) (¬ (IsByIndex w n))) (sym e)
-      (record {
-        rec = rec;
-        is = here;
-        has_code = code;
-        index = index;
-        indexed = has;
-        typing = on-method w n rec (λ m. HasIndexTyping w m index) here typing;
-      })
-  served (Err f) b e typing none = subst (λ x. MatchBool x (IsByIndex w n) (¬ (IsByIndex w n))) (sym e) (λ by.
-      let same : by.rec ≡ rec = same_Some _ _ (sym by.is ∙ here) in
-      let own : by.index ≡ index = same_Some _ _ (sym by.indexed ∙ has) in
-      on-method w n rec (λ m. ¬ (HasIndexTyping w m index)) here none
-      (subst (HasIndexTyping w (method_with w n rec)) own (subst (λ r. HasIndexTyping w (method_with w n r) by.index) same by.typing)))
+  served x b e typing none = grind (arith, on-method, same_Some)
 
 -- a method that is accepted over its index is accepted
 pub accepted-by : (w : Linked) (n : ℕ) (rec : MethodRec) (regs : List Ty) → slice_get w.methods n ≡ Some rec → CardIsFlow w
     → (r : Result (Unit {0}) CardFault) (b : Bool) → b ≡ is_ok r → IsSomeAnd (method_in w n) (λ m. IsMethodOf w m)
     → IsSomeAnd (method_in w n) (λ m. OnOk r (IsLeastCardTyping w m regs)) → IsTrue b → IsAcceptedAt w n
-accepted-by w n rec regs here flow (Err f) b e known least t other is code = let no : true ≡ false = sym t ∙ e in absurd cc
-accepted-by w n rec regs here flow (Ok u) b e known least t other is code =
-    let own = on-method w n rec (λ m. IsLeastCardTyping w m regs) here least in
-    let mo = on-method w n rec (λ m. IsMethodOf w m) here known in
-    let card : HasCardTyping w (method_with w n rec) = record { regs = regs; stacks = own.stacks; typing = own.typing } in
-    let same : rec ≡ other = same_Some _ _ (sym here ∙ is) in
-    subst (IsAccepted w n) same (record { card = card; flow = flow (method_with w n rec) mo card })
+accepted-by w n rec regs here flow x b e known least t other is code = grind (arith, on-method, same_Some)

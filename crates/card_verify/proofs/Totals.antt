@@ -1,6 +1,6 @@
 -- The steps over all methods of a world.
-use Rattle.std.proofs.Common.{◌≡◌, ℕ, zero, suc, ◌+◌, ◌-◌, ◌^◌, ◌<◌, ◌≤◌, List, length, Option, Some, None, IfSome, IsSomeAnd}
-use Rattle.std.proofs.Common.{sym, subst, arith}
+use Rattle.std.proofs.Common.{◌≡◌, ℕ, zero, suc, ◌+◌, ◌-◌, ◌^◌, ◌<◌, ◌≤◌, List, length, Option, Some, IsSomeAnd}
+use Rattle.std.proofs.Common.{subst, arith}
 use Rattle.jc_base.specs.World.{Linked, index_of}
 use Rattle.jc_control.specs.Method.{Method, method_in}
 use Rattle.card_verify.specs.Bound.{step_bound, IsShortAt, bound_over, bound_at, bounds_before}
@@ -11,18 +11,14 @@ module _ (w : Linked) (before after : ℕ) where
   paid-over : (index : List ℕ) (o : Option Method)
       → IsSomeAnd o (λ m. (digits : ℕ) → length index < 2 ^ digits → after ≤ before + step_bound w m (length index) digits) → (digits : ℕ)
       → length index < 2 ^ digits → after ≤ before + bound_over w digits o (Some index)
-  paid-over index (Some m) paid digits lt = paid digits lt
-  paid-over index None paid digits lt = absurd paid
+  paid-over index x paid digits lt = grind (arith)
 
 pub cost-served :
     (w : Linked) (n : ℕ) (index : List ℕ) (before after : ℕ)
     → index_of w n ≡ Some index
     → IsSomeAnd (method_in w n) (λ m. (digits : ℕ) → length index < 2 ^ digits → after ≤ before + step_bound w m (length index) digits)
     → (digits : ℕ) → IsShortAt w digits n → after ≤ before + bound_at w digits n
-cost-served w n index before after has paid digits short =
-    let lt : length index < 2 ^ digits = subst (λ (o : Option (List ℕ)). IfSome o (λ xs. length xs < 2 ^ digits)) has short in
-    subst (λ (o : Option (List ℕ)). after ≤ before + bound_over w digits (method_in w n) o) (sym has)
-    (paid-over w before after index (method_in w n) paid digits lt)
+cost-served w n index before after has paid digits short = grind (arith, length, paid-over)
 
 -- ---- one after another
 

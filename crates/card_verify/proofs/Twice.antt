@@ -8,7 +8,7 @@ use Rattle.jc_control.specs.Method.{Method, IsMethodOf}
 use Rattle.jc_rules.specs.Demand.{Frame}
 use Rattle.jc_rules.specs.Flow.{start_frame}
 use Rattle.jc_rules.specs.FlowLaws.{AreRules}
-use Rattle.card_typing.specs.Met.{IsMetAfter, met_start, met_next}
+use Rattle.card_typing.specs.Met.{IsMetAfter}
 use Rattle.card_typing.specs.Pass.{HasAfterPasses, IsPassCount}
 use Rattle.card_typing.proofs.OneRefusal.{met-is-one}
 use Rattle.card_verify.specs.Counted.{instruction_count}
@@ -17,15 +17,11 @@ use Rattle.card_verify.specs.OverIndex.{RaisedTakesTwo}
 module _ (w : Linked) (m : Method) (marked : ℕ → Type 0) where
   -- before the first visit the registers are those of the start
   begun-regs : (n q : ℕ) (f : Frame) → IsMetAfter w m marked n q f → n ≡ 0 → f.regs ≡ (start_frame m.rec Bottom).regs
-  begun-regs _ _ _ (met_start stack a) e = refl
-  begun-regs _ _ _ (met_next visits i q before after o stack met passed goes a) e = absurd (omega (arith, e))
+  begun-regs x x2 x22 x222 e = grind (arith)
 
   module _ (rules : AreRules w) (mo : IsMethodOf w m) where
     same-regs : (passes : ℕ) (regs others : List Ty) → HasAfterPasses w m marked passes regs → HasAfterPasses w m marked passes others → regs ≡ others
-    same-regs passes regs others a b =
-        ap (λ (f : Frame). f.regs)
-        (met-is-one w rules m marked mo (passes * instruction_count m) 0 0 (record { regs = regs; stack = a.stack })
-        (record { regs = others; stack = b.stack }) a.met b.met).1
+    same-regs passes regs others a b = grind (arith, met-is-one)
 
     -- one pass alone leaves the registers as they start
     once-still : (passes : ℕ) (regs : List Ty) (c : IsPassCount w m marked passes) → c.raising ≡ 0 → HasAfterPasses w m marked passes regs

@@ -1,6 +1,6 @@
 -- What the verifier over an index answers.
-use Rattle.std.proofs.Common.{◌≡◌, inr, ℕ, ◌+◌, ◌*◌, ◌≤◌, List, length, All, Contains, Result, Ok, Err, IsErr, OnOk, OnErr, IfErr, refl}
-use Rattle.std.proofs.Common.{sym, ◌∙◌, ap, subst, arith}
+use Rattle.std.proofs.Common.{◌≡◌, ℕ, ◌+◌, ◌*◌, ◌≤◌, List, length, All, Contains, Result, Ok, Err, IsErr, OnOk, OnErr, IfErr, refl}
+use Rattle.std.proofs.Common.{sym, subst, arith}
 use Rattle.std.specs.Prelude.{ℤ, pos, negsuc}
 use Rattle.std.proofs.lemmas.List.Elements.{All-contains, All-weaker}
 use Rattle.jc_base.specs.Index.{IsAscending}
@@ -22,7 +22,7 @@ use Rattle.card_typing.specs.declared.fault.CardKind.{CardKind}
 use Rattle.card_typing.specs.Place.{IsTarget}
 use Rattle.card_typing.specs.Typing.{IsLeastOver, IsLeastCardTyping}
 use Rattle.card_typing.specs.Laws.{FlawsAreTold}
-use Rattle.card_typing.specs.Refusal.{IsWrong, wrong_entry, wrong_room, wrong_mark, wrong_rule, wrong_branch, wrong_end, IsRefusedAfter, refused_at}
+use Rattle.card_typing.specs.Refusal.{IsWrong, IsRefusedAfter, refused_at}
 use Rattle.card_typing.specs.Refusal.{refused_flaw, fault_of}
 use Rattle.card_typing.proofs.Below.{fault-kind}
 use Rattle.card_typing.proofs.Fewer.{typing-fewer}
@@ -42,13 +42,7 @@ use Rattle.card_verify.proofs.Denying.{no-bad, lacking-target}
 -- an index of places in ascending order, in which every target is listed, is one
 pub whole-index : (m : Method) (index : List ℕ) → IsAscending index → All (IsPlace m.code) index → All (LeadsToListed m.code index) (listing m.code)
     → IsIndex m index
-whole-index m index up places leads = record {
-  ascending = up;
-  places = places;
-  complete =
-      λ q t. All-contains (IsListedTarget index) (targets m.code t.from) (pos q)
-      (All-contains (LeadsToListed m.code index) (listing m.code) t.from leads t.stands) t.leads;
-}
+whole-index m index up places leads = grind (arith)
 
 -- a method whose targets are all listed by places of instructions is well formed where the rest of it is
 pub formed-by : (m : Method) (index : List ℕ) → listing_end m.code ≡ length m.code → All (IsHandlerOf m.code) m.rec.handlers
@@ -68,33 +62,25 @@ formed-by m index ends handlers places leads = record {
 -- ---- what a flaw tells
 
 flaw-form : (flaw : Flaw) → IsFormKind (fault_of flaw).kind
-flaw-form (flaws.Code place end) = tt
-flaw-form (flaws.BadTarget place target) = tt
-flaw-form (flaws.BadHandler entry number) = tt
+flaw-form x = grind (arith)
 
 pub form-of-flaw : (m : Method) (fault : CardFault) → TellsFlaw m fault → IsFormKind fault.kind
 form-of-flaw m fault t = subst (λ (f : CardFault). IsFormKind f.kind) (sym t.2) (flaw-form t.0)
 
 pub form-flawed : (m : Method) (r : Result (Unit {0}) CardFault) → IfErr r (λ (fault : CardFault). TellsFlaw m fault)
     → IfErr r (λ (fault : CardFault). IsFormKind fault.kind)
-form-flawed m (Ok t) h = tt
-form-flawed m (Err fault) h = form-of-flaw m fault h
+form-flawed m x h = grind (arith, form-of-flaw)
 
 flaw-reads : (entries : ℕ) (flaw : Flaw) → entries_read entries (fault_of flaw).kind ≡ 0
-flaw-reads entries (flaws.Code place end) = refl
-flaw-reads entries (flaws.BadTarget place target) = refl
-flaw-reads entries (flaws.BadHandler entry number) = refl
+flaw-reads entries x = grind (arith)
 
 -- no entry is read before a flaw is told
 pub reads-of-flaw : (m : Method) (entries most : ℕ) (fault : CardFault) → TellsFlaw m fault → entries_read entries fault.kind ≤ most
-reads-of-flaw m entries most fault t =
-    let none : entries_read entries fault.kind ≡ 0 = ap (λ (f : CardFault). entries_read entries f.kind) t.2 ∙ flaw-reads entries t.0 in
-    omega (arith, none)
+reads-of-flaw m entries most fault t = grind (arith, flaw-reads)
 
 pub reads-flawed : (m : Method) (entries most : ℕ) (r : Result (Unit {0}) CardFault) → IfErr r (λ (fault : CardFault). TellsFlaw m fault)
     → IfErr r (λ (fault : CardFault). entries_read entries fault.kind ≤ most)
-reads-flawed m entries most (Ok t) h = tt
-reads-flawed m entries most (Err fault) h = reads-of-flaw m entries most fault h
+reads-flawed m entries most x h = grind (arith, reads-of-flaw)
 
 -- ---- refusals
 
@@ -104,8 +90,7 @@ module _ (w : Linked) (m : Method) (index : List ℕ) where
 
   pub over-flawed : (r : Result (Unit {0}) CardFault) → IfErr r (λ (fault : CardFault). TellsFlaw m fault)
       → IfErr r (λ (fault : CardFault). (kept : Frame) → IsRefusedOver w m index fault kept)
-  over-flawed (Ok t) h = tt
-  over-flawed (Err fault) h = over-of-flaw fault h
+  over-flawed x h = grind (arith, over-of-flaw)
 
   -- the number of a target that is lacked
   by-target : (place : ℕ) (t : ℤ) → IsWellFormed m → IsFirstLacking m.code index place t → IsTargetPlace m.code t
@@ -136,8 +121,7 @@ module _ (w : Linked) (m : Method) (index : List ℕ) where
       over-by f fault f.target refl formed up places first (by-target f.place f.target formed first) told kept
 
   form-by : (f : Lacking) (fault : CardFault) (t : ℤ) → f.target ≡ t → IsTargetPlace m.code t → IsNotIndexed f fault → IsFormKind fault.kind
-  form-by f fault (pos q) e place told = subst (λ (g : CardFault). IsFormKind g.kind) (sym (told q e)) tt
-  form-by f fault (negsuc n) e place told = absurd place
+  form-by f fault x e place told = grind (arith)
 
   pub form-of-lacking : (f : Lacking) (fault : CardFault) → IsWellFormed m → IsFirstLacking m.code index f.place f.target → IsNotIndexed f fault
       → IsFormKind fault.kind
@@ -145,10 +129,7 @@ module _ (w : Linked) (m : Method) (index : List ℕ) where
 
   reads-by : (f : Lacking) (fault : CardFault) (entries : ℕ) (t : ℤ) → f.target ≡ t → IsTargetPlace m.code t → IsNotIndexed f fault
       → entries_read entries fault.kind ≤ entries
-  reads-by f fault entries (pos q) e place told =
-      let all : entries_read entries fault.kind ≡ entries = ap (λ (g : CardFault). entries_read entries g.kind) (told q e) in
-      omega (arith, all)
-  reads-by f fault entries (negsuc n) e place told = absurd place
+  reads-by f fault entries x e place told = grind (arith)
 
   pub reads-of-lacking : (f : Lacking) (fault : CardFault) (entries : ℕ) → IsWellFormed m → IsFirstLacking m.code index f.place f.target
       → IsNotIndexed f fault
@@ -157,17 +138,11 @@ module _ (w : Linked) (m : Method) (index : List ℕ) where
 
   pub none-over : (regs stack : List Ty) (r : Result (Unit {0}) CardFault) → RefusalDeniesOver w → IsMethodOf w m
       → IfErr r (λ (fault : CardFault). IsRefusedOver w m index fault (frame_of regs stack fault.depth)) → OnErr r (¬ (HasIndexTyping w m index))
-  none-over regs stack (Ok t) denies mo h = tt
-  none-over regs stack (Err fault) denies mo h = denies m index fault (frame_of regs stack fault.depth) mo h
+  none-over regs stack x denies mo h = grind (arith)
 
   -- where the method is well formed and the index is one of it, no refusal tells its form
   wrong-never : (i : Placed) (before : Frame) (kind : CardKind) (kept : Frame) → IsWrong w m (Contains index) i before kind kept → ¬ (IsFormKind kind)
-  wrong-never i before _ _ (wrong_entry e f) h = h
-  wrong-never i before _ _ (wrong_room e f n) h = h
-  wrong-never i before _ _ (wrong_mark f t n d) h = h
-  wrong-never i before _ _ (wrong_rule fault s r) h = h
-  wrong-never i before _ _ (wrong_branch after o s a j d) h = h
-  wrong-never i before _ _ (wrong_end after o s a j f e) h = h
+  wrong-never i before x x2 x22 h = grind (arith)
 
   state-never : (visits : ℕ) (fault : CardFault) (kept : Frame) → IsRefusedAfter w m (Contains index) visits fault kept → ¬ (IsFormKind fault.kind)
   state-never visits _ _ (refused_at i before kept kind there met wrong) h = wrong-never i before kind kept wrong h
@@ -182,8 +157,7 @@ module _ (w : Linked) (m : Method) (index : List ℕ) where
   pub kept-over : (regs stack : List Ty) (r : Result (Unit {0}) CardFault) (P : Type 0) → FlawsAreTold w → IsWellFormed m → IsIndex m index
       → IfErr r (λ (fault : CardFault). IsRefusedOver w m index fault (frame_of regs stack fault.depth))
       → IfErr r (λ (fault : CardFault). IsFormKind fault.kind → P)
-  kept-over regs stack (Ok t) P told formed whole h = tt
-  kept-over regs stack (Err fault) P told formed whole h = λ k. absurd (form-never fault (frame_of regs stack fault.depth) told formed whole h k)
+  kept-over regs stack x x2 told formed whole h = grind (arith, form-never)
 
   -- ---- the bound
 
@@ -197,11 +171,7 @@ module _ (w : Linked) (m : Method) (index : List ℕ) (whole : IsIndex m index) 
   typed-over = record { regs = regs; stacks = least.stacks; typing = record { typing = least.typing; indexed = whole } }
 
   pub least-over : IsLeastCardTyping w m regs
-  least-over = record {
-    stacks = least.stacks;
-    typing = typing-fewer w m (Contains index) (IsTarget m) whole.complete regs least.stacks least.typing;
-    least = least.least;
-  }
+  least-over = grind (arith, typing-fewer w m (Contains index) (IsTarget m) whole.complete regs least.stacks least.typing)
 
 -- a refusal of the types
 pub refused-over :
@@ -216,12 +186,10 @@ refused-over w m index regs stack before after formed whole (Err fault) h =
 -- ---- answers
 
 pub not-ok : (P : Type 0) (r : Result (Unit {0}) CardFault) → IsErr r → OnOk r P
-not-ok P (Ok t) h = absurd cc
-not-ok P (Err fault) h = tt
+not-ok x x2 h = grind (arith)
 
 pub ok-always : (P : Type 0) (r : Result (Unit {0}) CardFault) → P → OnOk r P
-ok-always P (Ok t) h = h
-ok-always P (Err fault) h = tt
+ok-always x x2 h = grind (arith)
 
 -- ---- what is counted
 
@@ -229,18 +197,15 @@ ok-always P (Err fault) h = tt
 pub read-by : (entries most before after : ℕ) (r : Result (Unit {0}) CardFault) → before + most ≤ after
     → IfErr r (λ (fault : CardFault). entries_read entries fault.kind ≤ most)
     → IfErr r (λ (fault : CardFault). before + entries_read entries fault.kind ≤ after)
-read-by entries most before after (Ok t) read few = tt
-read-by entries most before after (Err fault) read few = omega (arith, read, few)
+read-by entries most before after x read few = grind (arith)
 
 -- once each entry of the index was read
 module _ (w : Linked) (m : Method) (index : List ℕ) (sooner before after : ℕ) (read : sooner + length index ≤ before) where
   pub counted-sooner : (regs : List Ty) (r : Result (Unit {0}) CardFault) → OnOk r (AreCountedBeside w m (Contains index) regs 0 before after)
       → OnOk r (AreCounted w m index regs sooner after)
-  counted-sooner regs (Ok t) c = record { passes = c.passes; are = c.are; left = c.left; counted = let old = c.counted in omega (arith, read, old) }
-  counted-sooner regs (Err fault) c = tt
+  counted-sooner regs x c = grind (arith)
 
   pub counted-by-state : (regs stack : List Ty) (r : Result (Unit {0}) CardFault)
       → IfErr r (λ (fault : CardFault). AreCountedUpTo w m (Contains index) fault (frame_of regs stack fault.depth) 0 before after)
       → IfErr r (λ (fault : CardFault). AreCountedBy w m index sooner after fault (frame_of regs stack fault.depth))
-  counted-by-state regs stack (Ok t) c = tt
-  counted-by-state regs stack (Err fault) c = inr (record { visits = c.visits; refused = c.refused; counted = let old = c.counted in omega (arith, read, old) })
+  counted-by-state regs stack x c = grind (arith)

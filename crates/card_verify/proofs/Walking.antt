@@ -8,7 +8,7 @@ use Rattle.jc_base.specs.declared.ty.Ty.{Ty}
 use Rattle.jc_base.specs.Order.{rises_left}
 use Rattle.jc_base.specs.World.{Linked}
 use Rattle.jc_decode.specs.declared.insn.Placed.{Placed}
-use Rattle.jc_decode.specs.Listing.{falls, listing, Lists, end_from}
+use Rattle.jc_decode.specs.Listing.{falls, listing, end_from}
 use Rattle.jc_control.specs.Method.{Method}
 use Rattle.jc_control.specs.WellFormed.{HasInstruction}
 use Rattle.jc_control.proofs.PlacesWithin.{at-end}
@@ -23,7 +23,7 @@ use Rattle.card_typing.specs.Place.{IsEntry, IsFallenInto, fallen_first, fallen_
 use Rattle.card_typing.specs.Met.{Arrives, arrives_falling, arrives_empty, arrives_caught, arrives_full, IsPassed, GoesTo, goes_there, goes_again, IsMetAfter}
 use Rattle.card_typing.specs.Met.{met_next}
 use Rattle.card_typing.specs.Refusal.{IsRefusedAfter, refused_at}
-use Rattle.card_typing.specs.Pass.{IsQuiet, quiet_end, quiet_more}
+use Rattle.card_typing.specs.Pass.{quiet_end, quiet_more}
 use Rattle.card_verify.specs.declared.verifier.Verifier.{Verifier}
 use Rattle.card_verify.specs.declared.pass.Arrival.{Arrival}
 use Rattle.card_verify.specs.Verifier.{method, world_of}
@@ -136,8 +136,7 @@ module _ (v : Verifier) (marked : ℕ → Type 0) (is : IsVerifier v marked) whe
   -- at the end of the code nothing falls through
   never-falls : (visits at : ℕ) (arrival : Arrival) (regs stack : List Ty) → at ≡ length m.code → IsComing v marked visits at arrival regs stack
       → (b : Bool) → arrival.may_fall ≡ b → b ≡ false
-  never-falls visits at arrival regs stack end coming true e = absurd (omega (arith, coming.inside e, end))
-  never-falls visits at arrival regs stack end coming false e = refl
+  never-falls visits at arrival regs stack end coming x e = grind (arith, inside)
 
   pub begun-again : (visits at : ℕ) (arrival : Arrival) (regs stack : List Ty) → at ≡ length m.code → IsComing v marked visits at arrival regs stack
       → CanBeginPass v marked visits regs stack
@@ -167,11 +166,7 @@ module _ (v : Verifier) (marked : ℕ → Type 0) (is : IsVerifier v marked) whe
   -- ---- what a pass has done so far
 
   pub progress-first : (begun given : List Ty) → given ≡ [] → IsProgress v marked begun false begun true given []
-  progress-first begun given e = (
-    refl,
-    λ rest whole q. subst (λ (xs : List Placed). IsQuiet (world_of v) m marked begun true [] xs) whole
-        (subst (λ (s : List Ty). IsQuiet (world_of v) m marked begun true s rest) e q),
-  )
+  progress-first begun given e = grind (arith)
 
   pub progress-next :
       (begun : List Ty) (rose : Bool) (i : Placed) (yielded : List Placed) (before : Arrival) (regs stack regs_after stack_after : List Ty) (o : Outcome)
@@ -232,8 +227,7 @@ module _ (v : Verifier) (marked : ℕ → Type 0) (is : IsVerifier v marked) whe
   -- where the next instruction stands
   pub next-place : (yielded rest : List Placed) (i : Placed) (after : List Placed) → yielded ++ rest ≡ listing m.code → rest ≡ i ∷ after
       → i.place ≡ end_from 0 yielded
-  next-place yielded rest i after whole e =
-      at-end m.code 0 yielded i after (subst (Lists m.code 0) (sym (ap (λ (r : List Placed). yielded ++ r) (sym e) ∙ whole)) (is.order m.code).lists)
+  next-place yielded rest i after whole e = grind (arith, at-end, after)
 
   pub next-stands : (yielded rest : List Placed) (i : Placed) (after : List Placed) → yielded ++ rest ≡ listing m.code → rest ≡ i ∷ after
       → HasInstruction m.code i

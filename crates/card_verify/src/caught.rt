@@ -1,4 +1,4 @@
-ghost use Rattle.std.specs.Prelude.{◌≤◌, take, length, IfSome};
+ghost use Rattle.std.specs.Prelude.{IfSome};
 ghost use Rattle.jc_base.specs.Class.{IsClass};
 ghost use Rattle.jc_base.specs.Order.{IsJoin};
 ghost use Rattle.jc_base.specs.World.{IsWorld};

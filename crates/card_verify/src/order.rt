@@ -1,4 +1,4 @@
-ghost use Rattle.std.specs.Prelude.{◌≡◌, ℕ, ◌+◌, ◌<◌, ◌≤◌, length, All, IfNone, IfSome, MatchBool};
+ghost use Rattle.std.specs.Prelude.{◌+◌, ◌<◌, ◌≤◌, length, All, IfNone, IfSome, MatchBool};
 ghost use Rattle.jc_base.specs.Index.{IsAscending};
 ghost use Rattle.jc_control.specs.WellFormed.{IsPlace};
 ghost use Rattle.jc_decode.specs.Instructions.{rest_of};

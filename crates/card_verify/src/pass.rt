@@ -1,4 +1,4 @@
-ghost use Rattle.std.specs.Prelude.{◌≡◌, ℕ, ◌||◌, ◌+◌, ◌*◌, ◌<◌, ◌≤◌, true, [], ◌∷◌, length, All, IsTrue, IfOk, IfErr, IfNone, IfSome, OnOk, MatchBool};
+ghost use Rattle.std.specs.Prelude.{◌≡◌, ℕ, ◌||◌, ◌+◌, ◌*◌, ◌<◌, ◌≤◌, true, length, All, IfOk, IfErr, IfNone, IfSome, OnOk, MatchBool};
 ghost use Rattle.jc_base.specs.Order.{IsKnown};
 ghost use Rattle.jc_decode.specs.Listing.{falls, jumps};
 ghost use Rattle.jc_control.specs.WellFormed.{HasInstruction};

@@ -1,4 +1,4 @@
-ghost use Rattle.std.specs.Prelude.{◌≡◌, ◌+◌, ◌<◌, length, slice_index_or};
+ghost use Rattle.std.specs.Prelude.{◌≡◌, length, slice_index_or};
 ghost use Rattle.jc_base.specs.declared.ty.Ty.TheVariants.{Bottom};
 ghost use Rattle.jc_rules.specs.Flow.{start_frame};
 
