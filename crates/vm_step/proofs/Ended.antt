@@ -1,15 +1,12 @@
 -- What is left where a run ends.
-use Rattle.std.proofs.Common.{◌≡◌, ◌≢◌, ℕ, suc, ◌+◌, ℤ, pos, negsuc, Bool, true, false, List, [], ◌∷◌, ◌++◌, length, map}
-use Rattle.std.proofs.Common.{refl, sym, ap, ◌∙◌, subst, arith, inl, inr, ◌⊎◌}
-use Rattle.std.specs.Prelude.{Option, Some, None, if◌then◌else◌, nat_lt, ◌==◌, ◌*◌, slice_get, unwrap_or}
+use Rattle.std.proofs.Common.{◌≡◌, ◌≢◌, ℕ, suc, ◌+◌, ℤ, Bool, List, [], ◌∷◌, ◌++◌, length, map}
+use Rattle.std.proofs.Common.{refl, ap, ◌∙◌, arith, inl, inr, ◌⊎◌}
+use Rattle.std.specs.Prelude.{Option, Some, if◌then◌else◌, ◌==◌, slice_get}
 use Rattle.jc_base.specs.declared.ty.Ty.{Ty}
-use Rattle.jc_base.specs.declared.ty.Ty.TheVariants.{Short}
 use Rattle.jc_base.specs.declared.record.Handler.{Handler}
-use Rattle.jc_base.specs.Cell.{width}
-use Rattle.jc_base.specs.Dispatch.{cells_of, dispatched}
+use Rattle.jc_base.specs.Dispatch.{cells_of}
 use Rattle.jc_base.specs.World.{Linked}
 use Rattle.jc_decode.specs.declared.insn.Insn.{Insn}
-use Rattle.jc_decode.specs.Listing.{target}
 use Rattle.jc_ops.specs.declared.operation.Operation.{Operation}
 use Rattle.jc_ops.specs.declared.operation.Operation.TheVariants as ops
 use Rattle.jc_ops.specs.declared.operation.Arithmetic.TheVariants as arithmetic
@@ -19,32 +16,24 @@ use Rattle.jc_ops.specs.declared.operation.Choice.{Choice}
 use Rattle.jc_ops.specs.declared.operation.Choice.TheVariants as choices
 use Rattle.vm_store.specs.declared.kind.ObjectKind.{ObjectKind}
 use Rattle.vm_store.specs.declared.kind.ObjectKind.TheVariants.{Instance}
-use Rattle.vm_store.specs.Kind.{kind_of_handle}
 use Rattle.vm_store.specs.Cells.{Cells}
-use Rattle.vm_store.specs.State.{Frame, Object, State, top, nth, with_place, with_stack, with_call, without_top, frame_limit}
-use Rattle.vm_store.specs.Objects.{kinds, object_cells, has_room, new_instance_cells, with_object}
-use Rattle.vm_store.specs.Value.{with_value, value_in}
-use Rattle.vm_arithmetic.specs.Arithmetic.{short_of_word}
+use Rattle.vm_store.specs.State.{Frame, Object, State, top, with_place}
+use Rattle.vm_store.specs.Objects.{has_room, new_instance_cells, with_object}
 use Rattle.vm_step.specs.declared.ending.Ending.{Ending}
 use Rattle.vm_step.specs.declared.ending.Ending.TheVariants.{Plain, Faulted}
 use Rattle.vm_step.specs.declared.ending.Fault.{Fault}
-use Rattle.vm_step.specs.declared.ending.Fault.TheVariants.{StackFault, TypeFault, JumpFault}
-use Rattle.vm_step.specs.declared.ending.Plain.TheVariants.{Returned, Threw, Spent, TooDeep, HeapFull, InterfaceMissing}
+use Rattle.vm_step.specs.declared.ending.Fault.TheVariants.{StackFault}
+use Rattle.vm_step.specs.declared.ending.Plain.TheVariants.{Threw, Spent, HeapFull, InterfaceMissing}
 use Rattle.vm_step.specs.declared.exception.Exception.{Exception}
 use Rattle.vm_step.specs.declared.exception.Exception.TheVariants as exceptions
-use Rattle.vm_step.specs.Numbers.{handle_at, short_at, number_cells, dropped, replaced}
-use Rattle.vm_step.specs.Values.{binary, both_widths}
-use Rattle.vm_step.specs.Fields.{held_handle, with_field_read, with_field_write, element_index, elements_of, at_element, keeps_kind, with_element}
-use Rattle.vm_step.specs.Methods.{code_at, instruction_at}
 use Rattle.vm_step.specs.Act.{Act, goes, jumps, makes, calls, gives, raises, throws, lacks, unless_null, if_some}
-use Rattle.vm_step.specs.Objects.{array_of_count, kind_of_type, may_cast}
-use Rattle.vm_step.specs.Branching.{is_taken, branch_width, leads_if}
-use Rattle.vm_step.specs.Calls.{class_of, class_with_methods, served, made_at, readied, with_ready, args_of, served_act, interface_act, chosen_act, return_act}
+use Rattle.vm_step.specs.Objects.{array_of_count}
+use Rattle.vm_step.specs.Branching.{leads_if}
+use Rattle.vm_step.specs.Calls.{class_of, class_with_methods, readied, served_act, interface_act, chosen_act, return_act}
 use Rattle.vm_step.specs.Performed.{act}
-use Rattle.vm_step.specs.Raising.{Outcome, running, ended, ends, handler_for, has_no_room, caught, caught_or, unwound, thrown, raised}
-use Rattle.vm_step.specs.Tests.{fault_before}
-use Rattle.vm_step.specs.Settled.{unless_fault, fault_next, fault_target, place_number, return_place, goes_to, with_new, settled}
-use Rattle.vm_step.specs.Step.{Steps, misplaced, unresolved, performs}
+use Rattle.vm_step.specs.Raising.{Outcome, running, ended, ends, caught_or, unwound, thrown, raised}
+use Rattle.vm_step.specs.Settled.{unless_fault, fault_next, fault_target, place_number, goes_to, settled}
+use Rattle.vm_step.specs.Step.{Steps}
 use Rattle.vm_step.specs.Run.{Runs, stands, stops, steps}
 use Rattle.vm_step.specs.Leaving.{class_raised, IsLeft, EndingsLeave, ComesToEnd, RunsLeave}
 
@@ -80,88 +69,37 @@ module _ {A : Type 0} (k : Cells A) (w : Linked) (s : State A) where
   Keeps _ = Unit {0}
 
   keeps-if : (b : Bool) (x y : Act A) → Keeps x → Keeps y → Keeps (if b then x else y)
-  keeps-if true x y h g = h
-  keeps-if false x y h g = g
+  keeps-if x x2 y h g = grind (arith)
 
   keeps-null : (h : ℕ) (f : ℕ → Act A) → Keeps (f h) → Keeps (unless_null h f)
   keeps-null h f there = keeps-if (h == 0) (raises exceptions.NullPointer) (f h) (tt {0}) there
 
   keeps-some : {X : Type 0} (e : Exception) (o : Option X) (f : X → Act A) → ((x : X) → Keeps (f x)) → Keeps (if_some e o f)
-  keeps-some e None f all = tt {0}
-  keeps-some e (Some x) f all = all x
+  keeps-some e x f all = grind (arith)
 
   keeps-leads : (b : Bool) (to : ℤ) (z : State A) → IsKept z → Keeps (leads_if b to z)
-  keeps-leads true to z h = h
-  keeps-leads false to z h = tt {0}
+  keeps-leads x to z h = grind (arith)
 
   keeps-count : (kind : ObjectKind) (n : ℤ) (z : State A) → IsKept z → Keeps (array_of_count k kind n z)
-  keeps-count kind (pos n) z h = h
-  keeps-count kind (negsuc n) z h = tt {0}
+  keeps-count kind x z h = grind (arith)
 
   kept-ready : (o : Option ℕ) → IsKept (readied k s o)
-  kept-ready None = kept
-  kept-ready (Some place) = record { heap = refl; statics = refl }
+  kept-ready x = grind (arith, kept)
 
   keeps-served : (o : Option ℕ) (class count : ℕ) → Keeps (served_act o class count s)
-  keeps-served None class count = tt {0}
-  keeps-served (Some n) class count = kept
+  keeps-served x class count = grind (arith, kept)
 
   keeps-interface : (interface token count : ℕ) (o : Option ObjectKind) → Keeps (interface_act w.classes interface token count o s)
-  keeps-interface interface token count (Some (Instance class)) = keeps-served (served w.classes interface token class) class count
-  keeps-interface interface token count _ = tt {0}
+  keeps-interface interface token count x = grind (arith, keeps-served)
 
   keeps-chosen : (callee : Callee) (args : ℕ) (choice : Choice) → Keeps (chosen_act k w.classes callee args choice s)
-  keeps-chosen callee args choices.Static = kept
-  keeps-chosen callee args choices.Special =
-      keeps-null (handle_at k (top s).stack args) (λ h. calls callee.method (args + 1) (with_ready k w.classes callee args s))
-      (kept-ready (made_at callee.receiver (k.type_of w.classes (kinds s) (nth k (top s).stack args))))
-  keeps-chosen callee args (choices.Virtual class token) =
-      keeps-null (handle_at k (top s).stack args)
-      (λ h. calls (unwrap_or (dispatched w.classes class token (class_of w.classes s h)) callee.method) (args + 1) s) kept
-  keeps-chosen callee args (choices.Interface class token words) =
-      keeps-null (handle_at k (top s).stack args) (λ h. interface_act w.classes class token (args + 1) (kind_of_handle (kinds s) h) s)
-      (keeps-interface class token (args + 1) (kind_of_handle (kinds s) (handle_at k (top s).stack args)))
+  keeps-chosen callee args x = grind (arith, kept, keeps-null, kept-ready, keeps-interface)
 
   keeps-return : (o : Option Ty) → Keeps (return_act k o s)
-  keeps-return (Some Short) = tt {0}
-  keeps-return _ = tt {0}
+  keeps-return x = grind (arith)
 
   keeps-act : (i : Insn) (op : Operation) → Keeps (act k w i op s)
-  keeps-act i (ops.Arithmetic (arithmetic.Binary operator width)) =
-      keeps-some exceptions.Arithmetic (binary k operator width (top s).stack)
-      (λ n. goes (replaced s (both_widths width) (number_cells k width n))) (λ n. tt {0})
-  keeps-act i (ops.ArrayRead kind) =
-      let read : ℕ → ℕ → Act A = λ h n. goes (replaced s 2 (value_in k kind (object_cells s h) (n * width kind))) in
-      let index = short_at k (top s).stack 0 in
-      keeps-null (handle_at k (top s).stack 1) (λ h. at_element index (elements_of s h) (read h))
-      (keeps-some exceptions.ArrayIndex (element_index index (elements_of s (handle_at k (top s).stack 1))) (read (handle_at k (top s).stack 1))
-      (λ n. tt {0}))
-  keeps-act i (ops.ArrayWrite kind) =
-      let write : ℕ → ℕ → Act A = λ h n.
-      if keeps_kind k w.classes kind s h then goes (with_element k kind h n s) else raises exceptions.ArrayStore in
-      let index = short_at k (top s).stack (width kind) in
-      let handle = handle_at k (top s).stack (width kind + 1) in
-      keeps-null handle (λ h. at_element index (elements_of s h) (write h))
-      (keeps-some exceptions.ArrayIndex (element_index index (elements_of s handle)) (write handle)
-      (λ n. keeps-if (keeps_kind k w.classes kind s handle) (goes (with_element k kind handle n s)) (raises exceptions.ArrayStore) (tt {0}) (tt {0})))
-  keeps-act i ops.ArrayLength =
-      keeps-null (handle_at k (top s).stack 0) (λ h. goes (replaced s 1 (k.short (short_of_word (elements_of s h)) ∷ []))) (tt {0})
-  keeps-act i (ops.Branch branch) =
-      keeps-leads (is_taken k branch (top s).stack) (target (top s).place i.x) (dropped s (branch_width branch)) (record { heap = refl; statics = refl })
-  keeps-act i (ops.Switch width) = record { heap = refl; statics = refl }
-  keeps-act i (ops.FieldRead f holder) =
-      keeps-null (held_handle k holder 0 s) (λ h. goes (with_field_read k f holder h s)) (tt {0})
-  keeps-act i (ops.FieldWrite f holder) =
-      keeps-null (held_handle k holder (width f.kind) s) (λ h. goes (with_field_write k f holder h s)) (tt {0})
-  keeps-act i (ops.Call callee) = keeps-chosen callee (args_of w callee.method) callee.choice
-  keeps-act i (ops.New place class) = kept
-  keeps-act i (ops.NewArray ty) =
-      keeps-count (kind_of_type ty) (short_at k (top s).stack 0) (dropped s 1) (record { heap = refl; statics = refl })
-  keeps-act i ops.Throw = keeps-null (handle_at k (top s).stack 0) throws (tt {0})
-  keeps-act i (ops.TypeTest tests.Cast ty) =
-      keeps-if (may_cast w.classes s ty (handle_at k (top s).stack 0)) (goes s) (raises exceptions.ClassCast) (tt {0}) (tt {0})
-  keeps-act i (ops.Return result) = keeps-return result
-  keeps-act i _ = tt {0}
+  keeps-act i x = grind (arith, keeps-some, keeps-null, keeps-if, keeps-leads, keeps-chosen, kept, keeps-count, keeps-return)
 
   -- ---- where a step ends
 
@@ -176,12 +114,10 @@ module _ {A : Type 0} (k : Cells A) (w : Linked) (s : State A) where
   fault-reached f e = absurd cc
 
   leaves-if : (b : Bool) (x y : Outcome A) → Leaves x → Leaves y → Leaves (if b then x else y)
-  leaves-if true x y h g = h
-  leaves-if false x y h g = g
+  leaves-if x x2 y h g = grind (arith)
 
   leaves-unless : (z : State A) (o : Option Fault) (x : Outcome A) → IsKept z → Leaves x → Leaves (unless_fault z o x)
-  leaves-unless z None x h there = there
-  leaves-unless z (Some f) x h there = leaves-kept z (Faulted f) (fault-reached f) h
+  leaves-unless z x x2 h there = grind (arith, leaves-kept, fault-reached)
 
   -- an object is thrown in a state with which the run may end so
   leaves-caught :
@@ -189,21 +125,16 @@ module _ {A : Type 0} (k : Cells A) (w : Linked) (s : State A) where
       → Leaves (ends (Faulted StackFault) z)
       → Leaves x
       → Leaves (caught_or k w n z f below x o)
-  leaves-caught n z f below x (Some h) full there =
-      leaves-if (has_no_room k w f) (ends (Faulted StackFault) z) (running (record z { frames = caught k h n f ∷ below })) full (tt {0})
-  leaves-caught n z f below x None full there = there
+  leaves-caught n z f below x x2 full there = grind (arith, leaves-if)
 
   leaves-unwound : (class n : ℕ) (z : State A) (fs : List (Frame A)) → Leaves (ends (Faulted StackFault) z)
       → Leaves (ends (Plain (Threw class n)) z)
       → Leaves (unwound k w class n z fs)
   leaves-unwound class n z [] full free = free
-  leaves-unwound class n z (f ∷ fs) full free =
-      leaves-caught n z f fs (unwound k w class n z fs) (handler_for w class f) full (leaves-unwound class n z fs full free)
+  leaves-unwound class n z (f ∷ fs) full free = grind (arith, leaves-caught, leaves-unwound class n z fs full free)
 
   leaves-thrown : (n : ℕ) → Leaves (thrown k w n s)
-  leaves-thrown n =
-      leaves-unwound (class_of w.classes s n) n s s.frames (leaves-kept s (Faulted StackFault) (fault-reached StackFault) kept)
-      (leaves-kept s (Plain (Threw (class_of w.classes s n) n)) (λ e. absurd cc) kept)
+  leaves-thrown n = grind (arith, leaves-unwound, leaves-kept, fault-reached, kept)
 
   leaves-raised : (exception : Exception) → Leaves (raised k w exception s)
   leaves-raised exception =
@@ -230,32 +161,15 @@ module _ {A : Type 0} (k : Cells A) (w : Linked) (s : State A) where
   leaves-settled : (next : ℕ) (a : Act A) → Keeps a → Leaves (settled k w next s a)
   leaves-settled next (goes z) h = leaves-goes s z next kept
   leaves-settled next (jumps to z) h = leaves-unless z (fault_target k w z to) (running (with_place z (place_number to))) h (tt {0})
-  leaves-settled next (makes kind cells reference z) h =
-      let new : Outcome A = running (with_place (with_new z kind cells (reference (length z.heap + 1))) next) in
-      leaves-unless z (fault_next k w z (length (top z).stack + 1) next) (if has_room z (length cells) then new else ends (Plain HeapFull) z) h
-      (leaves-if (has_room z (length cells)) new (ends (Plain HeapFull) z) (tt {0}) (leaves-kept z (Plain HeapFull) (λ e. absurd cc) h))
-  leaves-settled next (calls method count z) h =
-      leaves-if (nat_lt (length z.frames) frame_limit) (running (with_call k w.methods z method count)) (ends (Plain TooDeep) z) (tt {0})
-      (leaves-kept z (Plain TooDeep) (λ e. absurd cc) h)
-  leaves-settled next (gives value cells) h =
-      let z : State A = without_top s in
-      let same : IsKept z = record { heap = refl; statics = refl } in
-      let back : State A = with_stack z (with_value cells (top z).stack) in
-      let after = return_place (instruction_at (code_at w (top z).method) (top z).place) in
-      leaves-if (nat_lt 0 (length z.frames)) (goes_to k w after z back) (ends (Plain (Returned value)) z) (leaves-goes z back after same)
-      (leaves-kept z (Plain (Returned value)) (λ e. absurd cc) same)
+  leaves-settled next (makes kind cells reference z) h = grind (arith, length, leaves-unless, leaves-if, leaves-kept)
+  leaves-settled next (calls method count z) h = grind (arith, leaves-if, length, leaves-kept)
+  leaves-settled next (gives value cells) h = grind (arith, leaves-if, length, leaves-goes, leaves-kept)
   leaves-settled next (raises exception) h = leaves-raised exception
   leaves-settled next (throws handle) h = leaves-thrown handle
   leaves-settled next (lacks class) h = leaves-kept s (Plain (InterfaceMissing class)) (λ e. absurd cc) kept
 
   leaves-step : {o : Outcome A} → Steps k w s o → Leaves o
-  leaves-step (misplaced c run e) = leaves-kept s (Faulted JumpFault) (fault-reached JumpFault) kept
-  leaves-step (unresolved c f fault r) = leaves-kept s (Faulted TypeFault) (fault-reached TypeFault) kept
-  leaves-step (performs {i = i} f op r is) =
-      let done = settled k w (i.place + i.insn.len) s (act k w i.insn op s) in
-      subst Leaves (sym is)
-      (leaves-unless s (fault_before k w op s) done kept
-      (leaves-settled (i.place + i.insn.len) (act k w i.insn op s) (keeps-act i.insn op)))
+  leaves-step x = grind (arith, leaves-kept, fault-reached, kept, leaves-unless, leaves-settled, keeps-act)
 
 -- ---- steps and runs
 

@@ -1,5 +1,6 @@
 -- The state in which a run of words begins is that of tagged cells without their kinds.
-use Rattle.std.proofs.Common.{◌≡◌, ◌+◌, ◌-◌, ℕ, List, [], ◌∷◌, ◌++◌, length, map, refl, ap, ◌∙◌}
+use Rattle.std.proofs.Common.{arith}
+use Rattle.std.proofs.Common.{◌≡◌, ◌+◌, ℕ, List, [], ◌∷◌, ◌++◌, length, map, refl, ap, ◌∙◌}
 use Rattle.std.specs.Prelude.{flat_map, slice_get}
 use Rattle.std.proofs.lemmas.List.{map-append}
 use Rattle.jc_base.specs.declared.ty.Ty.{Ty}
@@ -11,14 +12,12 @@ use Rattle.jc_base.specs.declared.record.ArrayRec.{ArrayRec}
 use Rattle.jc_base.specs.World.{Linked}
 use Rattle.vm_store.specs.declared.cell.Cell.{Cell}
 use Rattle.vm_store.specs.declared.kind.ObjectKind.{ObjectKind}
-use Rattle.vm_store.specs.declared.kind.ObjectKind.TheVariants.{Bytes, Ints}
+use Rattle.vm_store.specs.declared.kind.ObjectKind.TheVariants.{Bytes}
 use Rattle.vm_store.specs.Cells.{tagged, words, word_of}
-use Rattle.vm_arithmetic.specs.Arithmetic.{short_of_word}
 use Rattle.vm_store.specs.State.{State, Frame, Object, erased, map_object, map_frame, entered}
 use Rattle.vm_store.specs.Objects.{with_object}
 use Rattle.vm_store.specs.Value.{byte_of_word}
 use Rattle.vm_store.proofs.Erasing.{entered-erased}
-use Rattle.vm_step.specs.Objects.{kind_of_type}
 use Rattle.vm_step.specs.Methods.{of_method}
 use Rattle.vm_step.specs.Arguments.{Argument, number, null, bytes}
 use Rattle.vm_step.specs.Start.{field_cells, int_cells, initial_element_cells, initial_object, initial, with_arrays, argument_cells, arrays_made, cells_handed}
@@ -32,19 +31,12 @@ each-word f (w ∷ ws) = ap (λ (xs : List ℕ). word_of (f w) ∷ xs) (each-wor
 -- ---- what the world has
 
 field-erased : (kind : Kind) (ws : List ℕ) → map word_of (field_cells tagged kind ws) ≡ field_cells words kind ws
-field-erased fields.Ref ws = each-word tagged.reference ws
-field-erased fields.Int [] = refl
-field-erased fields.Int (a ∷ []) = refl
-field-erased fields.Int (a ∷ b ∷ ws) = refl
-field-erased kind ws = each-word (λ w. tagged.short (short_of_word w)) ws
+field-erased kind ws = grind (arith, each-word)
 
 statics-erased : (fs : List StaticRec) → map word_of (flat_map (λ f. field_cells tagged f.kind f.initial) fs)
     ≡ flat_map (λ f. field_cells words f.kind f.initial) fs
 statics-erased [] = refl
-statics-erased (f ∷ fs) =
-    map-append word_of (field_cells tagged f.kind f.initial) (flat_map (λ f. field_cells tagged f.kind f.initial) fs)
-    ∙ (ap (λ (xs : List ℕ). xs ++ map word_of (flat_map (λ f. field_cells tagged f.kind f.initial) fs)) (field-erased f.kind f.initial)
-    ∙ ap (λ (xs : List ℕ). field_cells words f.kind f.initial ++ xs) (statics-erased fs))
+statics-erased (f ∷ fs) = grind (arith, map-append, map, field-erased, statics-erased fs)
 
 ints-erased : (ws : List ℕ) → map word_of (int_cells tagged ws) ≡ int_cells words ws
 ints-erased [] = refl
@@ -52,26 +44,18 @@ ints-erased (a ∷ []) = refl
 ints-erased (a ∷ b ∷ ws) = ap (λ (xs : List ℕ). a ∷ b ∷ xs) (ints-erased ws)
 
 elements-erased : (kind : ObjectKind) (ws : List ℕ) → map word_of (initial_element_cells tagged kind ws) ≡ initial_element_cells words kind ws
-elements-erased Ints ws = ints-erased ws
-elements-erased kind ws = each-word (λ w. tagged.short (short_of_word w)) ws
+elements-erased kind ws = grind (arith, ints-erased, each-word)
 
 objects-erased : (xs : List ArrayRec) → map (map_object word_of) (map (initial_object tagged) xs) ≡ map (initial_object words) xs
 objects-erased [] = refl
-objects-erased (a ∷ xs) =
-    let kind = kind_of_type a.kind in
-    ap (λ (cells : List ℕ). record { kind = kind; cells = cells } ∷ map (map_object word_of) (map (initial_object tagged) xs))
-    (elements-erased kind a.initial)
-    ∙ ap (λ (os : List (Object ℕ)). initial_object words a ∷ os) (objects-erased xs)
+objects-erased (a ∷ xs) = grind (arith, map, elements-erased, objects-erased xs)
 
 made : List (Object ℕ) → List ℕ → State ℕ
 made heap statics = record { frames = []; heap = heap; statics = statics }
 
 initial-erased : (w : Linked) → erased (initial tagged w) ≡ initial words w
 unfolding made
-initial-erased w =
-    ap (λ (os : List (Object ℕ)). made os (map word_of (flat_map (λ (f : StaticRec). field_cells tagged f.kind f.initial) w.statics)))
-    (objects-erased w.arrays)
-    ∙ ap (made (map (initial_object words) w.arrays)) (statics-erased w.statics)
+initial-erased w = grind (arith, objects-erased w.arrays, made (map (initial_object words) w.arrays), statics-erased w.statics)
 
 -- ---- what is handed in
 
@@ -88,8 +72,7 @@ arrays-erased (bytes bs ∷ args) s =
     (each-word (λ b. tagged.short (byte_of_word b)) bs))
 
 argument-erased : (objects : ℕ) (arg : Argument) (ty : Ty) → map word_of (argument_cells tagged objects arg ty) ≡ argument_cells words objects arg ty
-argument-erased objects (number n) types.Short = refl
-argument-erased objects arg ty = refl
+argument-erased objects arg ty = grind (arith)
 
 handed-erased : (objects : ℕ) (args : List Argument) (tys : List Ty) → map word_of (cells_handed tagged objects args tys) ≡ cells_handed words objects
     args tys

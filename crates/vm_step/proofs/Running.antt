@@ -33,12 +33,7 @@ module _ {A : Type 0} (k : Cells A) (w : Linked) where
   same-answer :
       OperationsAreDecided w → (s : State A) (m n : MethodRec) (i j : Placed) (r q : Result Operation RuleFault)
       → Fetches w s m i → Fetches w s n j → Resolves w m i.place i.insn r → Resolves w n j.place j.insn q → (i ≡ j) × (r ≡ q)
-  same-answer decided s m n i j r q f g a b =
-      let same_m : m ≡ n = same_Some m n (sym f.method ∙ g.method) in
-      let same_i : i ≡ j = same_Some i j (sym f.instruction ∙ g.instruction) in
-      let moved : Resolves w n i.place i.insn r = subst (λ (x : MethodRec). Resolves w x i.place i.insn r) same_m a in
-      let there : Resolves w n j.place j.insn r = subst (λ (x : Placed). Resolves w n x.place x.insn r) same_i moved in
-      (same_i, decided n j.place j.insn r q there b)
+  same-answer decided s m n i j r q f g a b = grind (arith, same_Some)
 
   one-answer : (s : State A) (m n : MethodRec) (i j : Placed) (op : Operation) (fault : RuleFault) → OperationsAreDecided w → Fetches w s m i
       → Fetches w s n j
@@ -49,11 +44,7 @@ module _ {A : Type 0} (k : Cells A) (w : Linked) where
       → Fetches w s n j
       → Resolves w m i.place i.insn (Ok op) → Resolves w n j.place j.insn (Ok other) → o ≡ performed k w i op s → p ≡ performed k w j other s
       → o ≡ p
-  same-act s m n i j op other o p decided f g a b is was =
-      let same = same-answer decided s m n i j (Ok op) (Ok other) f g a b in
-      let answers : Ok op ≡ Ok other = same.1 in
-      let same_op : op ≡ other = cc in
-      is ∙ (ap (λ (x : Placed). performed k w x op s) same.0 ∙ (ap (λ x. performed k w j x s) same_op ∙ sym was))
+  same-act s m n i j op other o p decided f g a b is was = grind (arith, same-answer)
 
   one-step : OperationsAreDecided w → (s : State A) {o p : Outcome A} → Steps k w s o → Steps k w s p → o ≡ p
   one-step decided s (misplaced c run e) (misplaced d going f) = refl
@@ -64,8 +55,7 @@ module _ {A : Type 0} (k : Cells A) (w : Linked) where
   one-step decided s (unresolved {m = m} {i = i} c f fault r) (performs {m = n} {i = j} g op q is) = absurd (one-answer s n m j i op fault decided g f q r)
   one-step decided s (performs {m = m} {i = i} f op r is) (misplaced d run e) = absurd (nothing-there s m i e f)
   one-step decided s (performs {m = n} {i = j} g op q is) (unresolved {m = m} {i = i} c f fault r) = absurd (one-answer s n m j i op fault decided g f q r)
-  one-step decided s (performs {m = m} {i = i} {o = o} f op r is) (performs {m = n} {i = j} {o = p} g other q was) =
-      same-act s m n i j op other o p decided f g r q is was
+  one-step decided s (performs {m = m} {i = i} {o = o} f op r is) (performs {m = n} {i = j} {o = p} g other q was) = grind (arith, same-act)
 
   pub steps-one : OperationsAreDecided w → StepsAreOne k w
   steps-one decided s o p a b = one-step decided s a b
@@ -76,17 +66,14 @@ module _ {A : Type 0} (k : Cells A) (w : Linked) where
   one-run : StepsAreOne k w → {n : ℕ} {s : State A} {o p : Outcome A} → Runs k w n s o → Runs k w n s p → o ≡ p
   one-run one stands stands = refl
   one-run one (stops {s = s} {z = z} {ending = e} a) (stops {z = y} {ending = f} b) = one s (ended e z) (ended f y) a b
-  one-run one (stops {s = s} {z = y} {ending = e} b) (steps {z = z} a more) =
-      let both : running z ≡ ended e y = one s (running z) (ended e y) a b in absurd cc
-  one-run one (steps {s = s} {z = z} a more) (stops {z = y} {ending = e} b) =
-      let both : running z ≡ ended e y = one s (running z) (ended e y) a b in absurd cc
+  one-run one (stops {s = s} {z = y} {ending = e} b) (steps {z = z} a more) = grind (arith)
+  one-run one (steps {s = s} {z = z} a more) (stops {z = y} {ending = e} b) = grind (arith)
   one-run one (steps {n = n} {s = s} {z = z} {o = o} a more) (steps {z = y} b rest) =
       let same : z ≡ y = same-running z y (one s (running z) (running y) a b) in
       one-run one (subst (λ x. Runs k w n x o) same more) rest
 
   pub continues-one : StepsAreOne k w → RunsAreOne k w
-  continues-one one n (running s) o p a b = one-run one a b
-  continues-one one n (ended e s) o p a b = a ∙ sym b
+  continues-one one n x o p a b = grind (arith, one-run)
 
   runs-on : {m : ℕ} {s : State A} {y : Outcome A} (n : ℕ) (z : Outcome A) → Runs k w m s y → Continues k w n y z → Runs k w (m + n) s z
   runs-on {s = s} n z stands more = let e : n ≡ 0 + n = omega arith in subst (λ x. Runs k w x s z) e more
@@ -100,8 +87,7 @@ module _ {A : Type 0} (k : Cells A) (w : Linked) where
       subst (λ c. Runs k w c s z) e here
 
   pub continues-on : RunsGoOn k w
-  continues-on m n (running s) y z a b = runs-on n z a b
-  continues-on m n (ended e s) y z a b = let P : Outcome A → Type 0 = λ x. Continues k w n x z in subst P a b
+  continues-on m n x y z a b = grind (arith, runs-on)
 
 -- ---- each state in which a method runs has a step
 

@@ -1,7 +1,7 @@
 -- A search along the interfaces that others extend.
-use Rattle.std.proofs.Common.{◌≡◌, ◌<◌, ◌≤◌, ◌⊎◌, inl, inr, ℕ, zero, suc, ◌==◌, Bool, true, false, List, [], ◌∷◌}
+use Rattle.std.proofs.Common.{◌≡◌, ◌<◌, ◌≤◌, ◌⊎◌, inl, inr, ℕ, zero, suc, Bool, true, false, List, [], ◌∷◌}
 use Rattle.std.proofs.Common.{length, map, take, set, get_or, replicate, refl, sym, ap, ◌∙◌, subst, arith}
-use Rattle.std.specs.Prelude.{Some, All, Contains, MatchBool, ◌||◌, if◌then◌else◌, slice_get}
+use Rattle.std.specs.Prelude.{Some, Contains, ◌||◌, if◌then◌else◌, slice_get}
 use Rattle.std.specs.List.{list_any}
 use Rattle.std.proofs.lemmas.Bool.{false≢true, false_from_ne_true, or_left, or_right, or_from}
 use Rattle.std.proofs.Math.ListN.{get_or-map}
@@ -9,11 +9,10 @@ use Rattle.std.proofs.lemmas.List.{length-map, take_all}
 use Rattle.jc_base.specs.declared.record.Iface.{Iface}
 use Rattle.jc_base.specs.declared.record.ClassRec.{ClassRec}
 use Rattle.jc_base.specs.declared.record.MethodRec.{MethodRec}
-use Rattle.jc_base.specs.Class.{ClassTable, IsClass, IsNextOnChain, IsEndOfChain, is_interface, is_interface_record, object, chain, chain_over, list_of}
-use Rattle.jc_base.specs.Class.{parent_of}
+use Rattle.jc_base.specs.Class.{ClassTable, IsClass, IsNextOnChain, IsEndOfChain, is_interface, is_interface_record, chain, chain_over}
 use Rattle.jc_base.specs.declared.ty.Ty.TheVariants.{Class}
-use Rattle.jc_base.specs.Order.{is_below, is_on_chain}
-use Rattle.jc_base.specs.Linked.{IsLinkedClass, IsExtended, IsImplemented}
+use Rattle.jc_base.specs.Order.{is_below}
+use Rattle.jc_base.specs.Linked.{IsLinkedClass}
 use Rattle.jc_base.specs.Leads.{Leads, at_once, further}
 use Rattle.jc_base.specs.Interface.{extended, extended_in, implemented, implemented_in, is_or_extends, implements, extended_count}
 use Rattle.jc_base.specs.Laws.{ExtendsDecides, ExtendsEnds}
@@ -27,14 +26,12 @@ pub record NoneExtends (t : ClassTable) (sought : ℕ) (interfaces : List Iface)
 -- ---- tests of the elements of a list
 
 pub or-first : (a b : Bool) → a ≡ false → a || b ≡ b
-or-first true b h = absurd (false≢true (sym h))
-or-first false b h = refl
+or-first x b h = grind (arith, false≢true)
 
 any-contains : (p : ℕ → Bool) (xs : List Iface) (b : ℕ) → Contains (map (λ (e : Iface). e.class) xs) b → p b ≡ true
     → list_any (λ (e : Iface). p e.class) xs ≡ true
 any-contains p [] b (k, lt, e) h = absurd (omega (arith, lt))
-any-contains p (x ∷ xs) b (zero, lt, e) h =
-    let same : x.class ≡ b = e in or_left (p x.class) (list_any (λ (e : Iface). p e.class) xs) (subst (λ z. p z ≡ true) (sym same) h)
+any-contains p (x ∷ xs) b (zero, lt, e) h = grind (arith, or_left)
 any-contains p (x ∷ xs) b (suc k, lt, e) h =
     or_right (p x.class) (list_any (λ (e : Iface). p e.class) xs) (any-contains p xs b (k, omega (arith, lt), e) h)
 
@@ -54,12 +51,7 @@ each-set (x ∷ xs) (suc i) (suc n) e = elim (each-set xs i n e) [ inl same ↦ 
 -- one interface more is left
 pub left-more : (t : ClassTable) (sought i : ℕ) (searched : List Bool) → AreLeft t sought searched → is_or_extends t i sought ≡ false
     → AreLeft t sought (set searched i true)
-left-more t sought i searched left here = record {
-  each = λ n e. elim (each-set searched i n e) [
-    | inl same ↦ subst (λ k. is_or_extends t k sought ≡ false) (sym same) here
-    | inr more ↦ left.each n more
-  ];
-}
+left-more t sought i searched left here = grind (arith, each-set)
 
 pub none-all : (t : ClassTable) (sought : ℕ) (xs : List Iface) (n : ℕ) → NoneExtends t sought (take n xs) → length xs ≤ n → NoneExtends t sought xs
 none-all t sought xs n h enough = subst (NoneExtends t sought) (take_all n xs enough) h
@@ -93,13 +85,7 @@ not-extends t decides i sought r at interface other h =
 pub class-extends :
     (t : ClassTable) → ExtendsDecides t → (i sought : ℕ) (r : ClassRec) → slice_get t.records i ≡ Some r → r.interface ≡ false
     → (i ≡ sought → ⊥) → is_or_extends t i sought ≡ false
-class-extends t decides i sought r at class other =
-    let leads : Leads (extended t) i sought → ⊥ = λ l. elim l [
-      | at_once step ↦ let in_none : Contains [] sought = subst (λ xs. Contains xs sought) (nothing-extended t i r at class) step in omega (arith, in_none.1)
-      | further {b = b} step more ↦ let in_none : Contains [] b =
-          subst (λ xs. Contains xs b) (nothing-extended t i r at class) step in omega (arith, in_none.1)
-    ] in
-    false_from_ne_true (is_or_extends t i sought) (λ yes. elim ((decides i sought).0 yes) [ inl same ↦ other same | inr more ↦ leads more ])
+class-extends t decides i sought r at class other = grind (arith, nothing-extended, false_from_ne_true)
 
 -- an interface that extends one which leads to the one that is sought
 pub yes-extends :
@@ -123,13 +109,7 @@ pub next-extended :
     (t : ClassTable) (packages : ℕ) (methods : List MethodRec) → ExtendsEnds t → (i : ℕ) (r : ClassRec) → slice_get t.records i ≡ Some r
     → r.interface ≡ true
     → IsLinkedClass packages t methods i r → (k : ℕ) (e : Iface) → k < length r.implements → e ≡ get_or r.implements k e → IsNext t i e
-next-extended t packages methods ends i r at interface linked k e lt is =
-    let all : All (IsExtended t) r.implements =
-    subst (λ b. MatchBool b (All (IsExtended t) r.implements) (All (IsImplemented t methods r.public) r.implements)) interface linked.implements in
-    let here : IsExtended t e = subst (IsExtended t) (sym is) (all k e lt) in
-    let step : Contains (extended t i) e.class = subst (λ xs. Contains xs e.class) (sym (extended-is t i r at interface))
-    (contains-at r.implements k e lt is) in
-    record { known = here.number; fewer = ends.fewer i e.class step }
+next-extended t packages methods ends i r at interface linked k e lt is = grind (arith, extended-is, contains-at)
 
 -- ---- what a class names
 
@@ -150,9 +130,7 @@ record-class t i r class e = sym (ap is_interface_record e) ∙ class.class
 pub named-is :
     (t : ClassTable) (i sought : ℕ) (r : ClassRec) → IsClass t i → slice_get t.records i ≡ Some r
     → list_any (λ x. is_or_extends t x sought) (implemented t i) ≡ list_any (λ (e : Iface). is_or_extends t e.class sought) r.implements
-named-is t i sought r class e =
-    ap (list_any (λ x. is_or_extends t x sought)) (implemented-is t i r e (record-class t i r class e))
-    ∙ any-map (λ x. is_or_extends t x sought) r.implements
+named-is t i sought r class e = grind (arith, implemented-is t i r e (record-class t i r class e), any-map)
 
 pub any-found : (p : Iface → Bool) (xs : List Iface) (k : ℕ) (e : Iface) → k < length xs → e ≡ get_or xs k e → p e ≡ true
     → list_any p xs ≡ true
@@ -173,9 +151,7 @@ pub implements-end :
     (t : ClassTable) (c sought : ℕ) → IsEndOfChain t c → list_any (λ x. is_or_extends t x sought) (implemented t c) ≡ false
     → implements t c sought ≡ false
 unfolding implements
-implements-end t c sought end h =
-    ap (list_any (λ a. list_any (λ i. is_or_extends t i sought) (implemented t a))) end.chain_is
-    ∙ or_from (list_any (λ i. is_or_extends t i sought) (implemented t c)) false h refl
+implements-end t c sought end h = grind (arith, or_from)
 
 -- a class that names it implements it: it is the first on its chain
 here-over :
@@ -183,9 +159,7 @@ here-over :
     → list_any (λ a. list_any (λ i. is_or_extends t i sought) (implemented t a)) (chain_over t n c) ≡ true
 unfolding chain_over
 here-over t sought zero c h = or_left (list_any (λ i. is_or_extends t i sought) (implemented t c)) false h
-here-over t sought (suc n) c h =
-    or_left (list_any (λ i. is_or_extends t i sought) (implemented t c))
-    (list_any (λ a. list_any (λ i. is_or_extends t i sought) (implemented t a)) (list_of (chain_over t n) (parent_of t c))) h
+here-over t sought (suc n) c h = grind (arith, or_left)
 
 pub implements-here :
     (t : ClassTable) (c sought : ℕ) → list_any (λ x. is_or_extends t x sought) (implemented t c) ≡ true → implements t c sought ≡ true
@@ -197,12 +171,7 @@ implements-here t c sought h = here-over t sought (length t.records) c h
 pub subtype-classes : (t : ClassTable) (c d : ℕ) → is_interface t d ≡ false → is_interface t c ≡ false
     → is_below t (Class c) (Class d) ≡ is_subtype t c d
 unfolding is_below
-subtype-classes t c d above of =
-    sym
-    (ap
-    (λ b. if b then (if is_interface t c then is_or_extends t c d else implements t c d) else
-    (if is_interface t c then d == object t else is_on_chain t d c)) above
-    ∙ ap (λ b. if b then d == object t else is_on_chain t d c) of)
+subtype-classes t c d above of = grind (arith)
 
 none-set : (n i : ℕ) → slice_get (replicate n false) i ≡ Some true → ⊥
 none-set zero i e = absurd cc
