@@ -1,11 +1,11 @@
 -- A run in a world whose methods with code have dataflow typings.
-use Rattle.std.proofs.Common.{◌≡◌, ℕ, List, Option, Some, None, sym, subst}
+use Rattle.std.proofs.Common.{arith}
+use Rattle.std.proofs.Common.{◌≡◌, ℕ, List, Option, sym, subst}
 use Rattle.jc_base.specs.World.{Linked}
 use Rattle.vm_store.specs.declared.cell.Cell.{Cell}
 use Rattle.vm_store.specs.Cells.{tagged}
 use Rattle.vm_store.specs.State.{State}
 use Rattle.vm_step.specs.declared.ending.Ending.{Ending}
-use Rattle.vm_step.specs.declared.ending.Ending.TheVariants.{Plain, Faulted}
 use Rattle.vm_step.specs.Arguments.{Argument}
 use Rattle.vm_step.specs.Run.{Continues}
 use Rattle.vm_run.specs.Turn.{with_ending}
@@ -18,19 +18,14 @@ use Rattle.vm_defend.specs.Safe.{IsPlainEnding, BeginsSafely, GoesSafely}
 module _ (w : Linked) where
   on : RunsAreSafe w → (typings : Typings) → AreTypings w typings → (n : ℕ) (e f : Option Ending) (s z : State Cell)
       → Continues tagged w n (with_ending e s) (with_ending f z) → IsTypedOutcome w typings (with_ending e s) → IsTypedOutcome w typings (with_ending f z)
-  on law typings typed n None f s z runs safe = law typings n s (with_ending f z) typed safe runs
-  on law typings typed n (Some e) f s z same safe = subst (IsTypedOutcome w typings) (sym same) safe
+  on law typings typed n x f s z runs safe = grind (arith)
 
   answered : (typings : Typings) (e : Option Ending) (s : State Cell) → IsTypedOutcome w typings (with_ending e s) → IsPlainEnding (answer e)
-  answered typings None s safe = tt {0}
-  answered typings (Some (Plain plain)) s safe = tt {0}
-  answered typings (Some (Faulted fault)) s safe = safe
+  answered typings x s safe = grind (arith)
 
   pub goes-safely : RunsAreSafe w → (n : ℕ) (before after : Held) (a : Ending) → a ≡ answer after.ending
       → Continues tagged w n (reached before) (reached after) → GoesSafely w before after a
-  goes-safely law n before after a is runs typings typed safe =
-      let come : IsTypedOutcome w typings (reached after) = on law typings typed n before.ending after.ending before.state after.state runs safe in
-      (come, subst IsPlainEnding (sym is) (answered typings after.ending after.state come))
+  goes-safely law n before after a is runs typings typed safe = grind (arith, on, answered)
 
   pub begins-safely : StartsAreTyped w → (entry : ℕ) (args : List Argument) (run : Held) → IsBegun w entry args run → BeginsSafely w run
   begins-safely law entry args run begun typings typed =
