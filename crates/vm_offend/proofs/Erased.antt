@@ -1,7 +1,7 @@
 -- The words of a typed state have what its cells have: shape, and what an operation asks.
 use Rattle.std.proofs.Common.{◌≡◌, ℕ, zero, suc, ◌+◌, ◌<◌, ◌≤◌, ◌==◌, Bool, true, false, List, ◌∷◌, length, map, refl, sym, ap}
 use Rattle.std.proofs.Common.{◌∙◌, subst, arith}
-use Rattle.std.specs.Prelude.{Option, Some, None, IsSome, IsSomeAnd, MatchBool, ⊤, option_map}
+use Rattle.std.specs.Prelude.{Option, None, IsSome, IsSomeAnd, MatchBool, ⊤, option_map}
 use Rattle.std.proofs.lemmas.List.{length-map}
 use Rattle.std.proofs.lemmas.List.Elements.{All-map, All-weaker}
 use Rattle.std.proofs.lemmas.Option.{slice_get-map, slice_get_past}
@@ -22,12 +22,11 @@ use Rattle.jc_ops.specs.declared.operation.InstanceField.{InstanceField}
 use Rattle.jc_ops.specs.declared.operation.Operation.{Operation}
 use Rattle.jc_ops.specs.declared.operation.Operation.TheVariants as ops
 use Rattle.vm_store.specs.declared.cell.Cell.{Cell}
-use Rattle.vm_store.specs.Kind.{kind_of_handle, element_width}
+use Rattle.vm_store.specs.Kind.{kind_of_handle}
 use Rattle.vm_store.specs.Cells.{tagged, words, word_of}
 use Rattle.vm_store.specs.State.{Frame, State, Object, map_frame, map_object, erased}
 use Rattle.vm_store.specs.Objects.{object_at, object_cells}
 use Rattle.vm_store.specs.Erasing.{StatesErase}
-use Rattle.vm_step.specs.Instance.{IsRecorded}
 use Rattle.vm_step.specs.Calls.{args_of, class_of, class_with_methods}
 use Rattle.vm_step.specs.Fields.{held_handle}
 use Rattle.vm_step.specs.Numbers.{handle_at}
@@ -42,27 +41,20 @@ object-erased s zero = refl
 object-erased s (suc h) = slice_get-map (map_object word_of) s.heap h
 
 some-erased : {X Y : Type 0} (g : X → Y) (o : Option X) → IsSome o → IsSome (option_map g o)
-some-erased g None h = h
-some-erased g (Some x) h = refl
+some-erased g x h = grind (arith)
 
 and-erased : {X Y : Type 0} (g : X → Y) (P : X → Type 0) (Q : Y → Type 0) → ((x : X) → P x → Q (g x)) → (o : Option X) → IsSomeAnd o P
     → IsSomeAnd (option_map g o) Q
-and-erased g P Q go None h = absurd h
-and-erased g P Q go (Some x) h = go x h
+and-erased g x x2 go x22 h = grind (arith)
 
 there-erased : (s : State Cell) (h : ℕ) → IsSome (object_at s h) → IsSome (object_at (erased s) h)
 there-erased s h some = subst (λ (o : Option (Object ℕ)). IsSome o) (sym (object-erased s h)) (some-erased (map_object word_of) (object_at s h) some)
 
 recorded-erased : (t : ClassTable) (s : State Cell) (h : ℕ) → IsObject t s h → IsObject t (erased s) h
-recorded-erased t s h object =
-    subst (λ (o : Option (Object ℕ)). IsSomeAnd o (λ (x : Object ℕ). IsRecorded t x.kind)) (sym (object-erased s h))
-    (and-erased (map_object word_of) (λ (x : Object Cell). IsRecorded t x.kind) (λ (x : Object ℕ). IsRecorded t x.kind) (λ x r. r) (object_at s h) object)
+recorded-erased t s h object = grind (arith, object-erased, and-erased)
 
 array-erased : (kind : Kind) (s : State Cell) (h : ℕ) → IsArrayFor kind s h → IsArrayFor kind (erased s) h
-array-erased kind s h array =
-    subst (λ (o : Option (Object ℕ)). IsSomeAnd o (λ (x : Object ℕ). element_width x.kind ≡ width kind)) (sym (object-erased s h))
-    (and-erased (map_object word_of) (λ (x : Object Cell). element_width x.kind ≡ width kind) (λ (x : Object ℕ). element_width x.kind ≡ width kind)
-    (λ x e. e) (object_at s h) array)
+array-erased kind s h array = grind (arith, object-erased, and-erased)
 
 -- where there is no object
 pub none-null : (z : State ℕ) (h : ℕ) → h ≤ 0 → None ≡ option_map (λ (o : Object ℕ). o.kind) (object_at z h)
@@ -79,11 +71,7 @@ object-shaped : (t : ClassTable) (o : Object Cell) → IsShapedObject t o → Is
 object-shaped t o shaped = subst (IsShapedFor t o.kind) (sym (length-map o.cells word_of)) shaped
 
 frame-shaped : (w : Linked) (f : Frame Cell) → IsShapedFrame w f → IsShapedFrame w (map_frame word_of f)
-frame-shaped w f shaped = record {
-  known = shaped.known;
-  registers = length-map f.registers word_of ∙ shaped.registers;
-  cells = omega (arith, shaped.cells, length-map f.stack word_of);
-}
+frame-shaped w f shaped = grind (arith, length-map)
 
 pub shaped-erased : (w : Linked) (s : State Cell) → IsShaped w s → IsShaped w (erased s)
 shaped-erased w s shaped = record {
@@ -114,9 +102,7 @@ module _ (w : Linked) (erase : StatesErase w.methods w.classes) (f : Frame Cell)
 
   handle-erased : (n : ℕ) (P Q : ℕ → Type 0) → ((h : ℕ) → P h → Q h) → IsNullOr (handle_at tagged f.stack n) (P (handle_at tagged f.stack n))
       → IsNullOr (handle_at words (map word_of f.stack) n) (Q (handle_at words (map word_of f.stack) n))
-  handle-erased n P Q go held =
-      let h : ℕ = handle_at tagged f.stack n in
-      subst (λ k. IsNullOr k (Q k)) (sym (word-at f.stack n)) (or-weaker h (P h) (Q h) (go h) held)
+  handle-erased n P Q go held = grind (arith, word-at, or-weaker)
 
   class-is : (h : ℕ) → class_of w.classes now h ≡ class_of w.classes (erased now) h
   class-is h = ap (λ ks. class_with_methods w.classes (kind_of_handle ks h)) (sym (erase.0 now).0.kinds_are)
@@ -125,16 +111,12 @@ module _ (w : Linked) (erase : StatesErase w.methods w.classes) (f : Frame Cell)
   cells-are h = sym (length-map (object_cells now h) word_of) ∙ ap (λ (cs : List ℕ). length cs) ((erase.0 now).0.cells h)
 
   held-is : (holder : Holder) (under : ℕ) → held_handle words holder under (erased now) ≡ held_handle tagged holder under now
-  held-is holders.Stack under = word-at f.stack under
-  held-is holders.This under = word-at f.registers 0
+  held-is x under = grind (arith, word-at)
 
   field-erased : (fd : InstanceField) (holder : Holder) (under : ℕ)
       → IsNullOr (held_handle tagged holder under now) (HasField fd now (held_handle tagged holder under now))
       → IsNullOr (held_handle words holder under (erased now)) (HasField fd (erased now) (held_handle words holder under (erased now)))
-  field-erased fd holder under held =
-      let h : ℕ = held_handle tagged holder under now in
-      subst (λ k. IsNullOr k (HasField fd (erased now) k)) (sym (held-is holder under))
-      (or-weaker h (HasField fd now h) (HasField fd (erased now) h) (λ there. omega (arith, there, cells-are h)) held)
+  field-erased fd holder under held = grind (arith, held-is, or-weaker, cells-are)
 
   compare-erased : (kind : Kind) (h : ℕ) → MayCompare tagged w.classes kind now h → MayCompare words w.classes kind (erased now) h
   compare-erased fields.Ref h may =

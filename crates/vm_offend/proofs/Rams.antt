@@ -24,10 +24,7 @@ window_below xs ys n k lt e =
 pub frames_below : (methods : List MethodRec) (xs ys : List ℕ) (n k : ℕ) → n ≤ k → take (513 * k) xs ≡ take (513 * k) ys
     → frames_in methods xs n ≡ frames_in methods ys n
 frames_below methods xs ys zero k le e = refl
-frames_below methods xs ys (suc n) k le e =
-    let w = window_below xs ys n k le e in
-    let rest = frames_below methods xs ys n k (omega arith) e in
-    ap (λ v. frame_in methods v ∷ frames_in methods xs n) w ∙ ap (λ fs. frame_in methods (window ys n) ∷ fs) rest
+frames_below methods xs ys (suc n) k le e = grind (arith, window_below xs ys n k le e, frames_below methods xs ys n k (omega arith) e)
 
 pub fits_below : (methods : List MethodRec) (xs ys : List ℕ) (n k : ℕ) → n ≤ k → take (513 * k) xs ≡ take (513 * k) ys
     → FitWindows methods xs n → FitWindows methods ys n
@@ -57,17 +54,13 @@ module _ (methods : List MethodRec) (ram ws : List ℕ) (n : ℕ) (reach : 513 *
       ∙ omega (arith, front, len, length-append ws (drop 513 (drop (513 * n) ram)), length-drop 513 (drop (513 * n) ram), length-drop (513 * n) ram)
 
   pub put_frames : frames_in methods (put_mid (513 * n) 513 ram ws) (suc n) ≡ frame_in methods ws ∷ frames_in methods ram n
-  put_frames =
-      ap (λ v. frame_in methods v ∷ frames_in methods (put_mid (513 * n) 513 ram ws) n) put_window
-      ∙ ap (λ fs. frame_in methods ws ∷ fs) (frames_below methods (put_mid (513 * n) 513 ram ws) ram n n (omega arith) put_below)
+  put_frames = grind (arith, put_window, frames_below, put_below)
 
   pub put_fits : FitsWindow methods ws → FitWindows methods ram n → FitWindows methods (put_mid (513 * n) 513 ram ws) (suc n)
-  put_fits here rest =
-      (subst (FitsWindow methods) (sym put_window) here, fits_below methods ram (put_mid (513 * n) 513 ram ws) n n (omega arith) (sym put_below) rest)
+  put_fits here rest = grind (arith, put_window, fits_below, put_below)
 
 pub frames_whole : (fs : List (Frame ℕ)) → 0 < length fs → first_frame fs ∷ other_frames fs ≡ fs
-frames_whole [] h = absurd (omega (arith, h))
-frames_whole (f ∷ fs) h = refl
+frames_whole x h = grind (arith)
 
 -- ---- the frame on top, in the words that the code takes for it
 
@@ -123,69 +116,26 @@ module _ (w : Linked) (ram heap : List ℕ) (counts : Counts) (laid : AreLaid w 
       ≡ change (frame_in w.methods (take (513 * (counts.frames - 1) + 513 - 513 * (counts.frames - 1)) (drop (513 * (counts.frames - 1)) ram)))
       → words_state w.methods (put_mid (513 * (counts.frames - 1)) (513 * (counts.frames - 1) + 513 - 513 * (counts.frames - 1)) ram ws) heap statics counts
       ≡ with_top (words_state w.methods ram heap statics counts) (change (first_frame (frames_in w.methods ram counts.frames)))
-  put_top statics ws change same e =
-      let n = counts.frames - 1 in
-      let f : Frame ℕ = change (first_frame (frames_in w.methods ram counts.frames)) in
-      let held : frame_in w.methods ws ≡ f = e ∙ ap change taken_is in
-      let framed : List (Frame ℕ) → State ℕ = λ fs. record (words_state w.methods ram heap statics counts) { frames = fs } in
-      let narrow : frames_in w.methods (put_mid (513 * n) (513 * n + 513 - 513 * n) ram ws) counts.frames ≡ frames_in w.methods
-      (put_mid (513 * n) 513 ram ws) counts.frames =
-      ap (λ k. frames_in w.methods (put_mid (513 * n) k ram ws) counts.frames) width in
-      let counted : frames_in w.methods (put_mid (513 * n) 513 ram ws) counts.frames ≡ frames_in w.methods (put_mid (513 * n) 513 ram ws) (suc n) =
-      ap (frames_in w.methods (put_mid (513 * n) 513 ram ws)) (sym last) in
-      let others : frames_in w.methods ram n ≡ other_frames (frames_in w.methods ram counts.frames) = ap other_frames (sym frames_are) in
-      ap framed
-      (narrow
-      ∙ (counted
-      ∙ (put_frames w.methods ram ws n within (whole ws same)
-      ∙ (ap (λ g. g ∷ frames_in w.methods ram n) held ∙ ap (λ fs. f ∷ fs) others))))
+  put_top statics ws change same e = grind (arith, taken_is, width, suc, last, frames_are, put_frames, within, whole)
 
   pub put_laid :
       (ws : List ℕ) → length ws ≡ length (take (513 * (counts.frames - 1) + 513 - 513 * (counts.frames - 1)) (drop (513 * (counts.frames - 1)) ram))
       → FitsWindow w.methods ws
       → AreLaid w (put_mid (513 * (counts.frames - 1)) (513 * (counts.frames - 1) + 513 - 513 * (counts.frames - 1)) ram ws) heap counts
-  put_laid ws same fits =
-      let n = counts.frames - 1 in
-      let len = whole ws same in
-      let P : ℕ → Type 0 = λ k. AreLaid w (put_mid (513 * n) k ram ws) heap counts in
-      subst P (sym width)
-      (record {
-        ram_length = put_length w.methods ram ws n within len ∙ laid.ram_length;
-        heap_length = laid.heap_length;
-        some_frames = laid.some_frames;
-        some_objects = laid.some_objects;
-        some_cells = laid.some_cells;
-        windows = subst (FitWindows w.methods (put_mid (513 * n) 513 ram ws)) last (put_fits w.methods ram ws n within len fits fits_all.1);
-        laid = laid.laid;
-        kinds = laid.kinds;
-      })
+  put_laid ws same fits = grind (arith, whole, width, put_length, within, last, put_fits, fits_all)
 
   -- the state without the frame on top
   pub left_state : (statics : List ℕ) → words_state w.methods ram heap statics (record counts { frames = counts.frames - 1 })
       ≡ without_top (words_state w.methods ram heap statics counts)
-  left_state statics =
-      let framed : List (Frame ℕ) → State ℕ = λ fs. record (words_state w.methods ram heap statics counts) { frames = fs } in
-      ap framed (ap other_frames (sym frames_are))
+  left_state statics = grind (arith, frames_are)
 
   pub left_laid : AreLaid w ram heap (record counts { frames = counts.frames - 1 })
-  left_laid =
-      record {
-        ram_length = laid.ram_length;
-        heap_length = laid.heap_length;
-        some_frames = omega (arith, below);
-        some_objects = laid.some_objects;
-        some_cells = laid.some_cells;
-        windows = fits_all.1;
-        laid = laid.laid;
-        kinds = laid.kinds;
-      }
+  left_laid = grind (arith, below, fits_all)
 
   -- nothing is done to the frame on top
   pub same_state : (statics : List ℕ) → words_state w.methods ram heap statics counts ≡ with_top (words_state w.methods ram heap statics counts)
       (first_frame (frames_in w.methods ram counts.frames))
-  same_state statics =
-      let framed : List (Frame ℕ) → State ℕ = λ fs. record (words_state w.methods ram heap statics counts) { frames = fs } in
-      ap framed (sym (frames_whole (frames_in w.methods ram counts.frames) running))
+  same_state statics = grind (arith, frames_whole)
 
 -- ---- one frame more, in the words after those of the frames that are there
 
@@ -201,9 +151,7 @@ module _ (w : Linked) (ram heap : List ℕ) (counts : Counts) (laid : AreLaid w 
   next_width = omega arith
 
   pub next_length : length (take (513 * counts.frames + 513 - 513 * counts.frames) (drop (513 * counts.frames) ram)) ≡ 513
-  next_length =
-      ap (λ k. length (take k (drop (513 * counts.frames) ram))) next_width
-      ∙ omega (arith, next_within, length-take 513 (drop (513 * counts.frames) ram), length-drop (513 * counts.frames) ram)
+  next_length = grind (arith, length, take, drop, next_width, next_within, length-take, length-drop)
 
   pub next_state :
       (statics ws : List ℕ) (f : Frame ℕ)
@@ -276,16 +224,8 @@ module _ (methods : List MethodRec) (ram lower was caller callee above rest : Li
     pub called_frames :
         frames_in methods ((lower ++ caller) ++ (callee ++ rest)) (suc (suc n))
         ≡ frame_in methods callee ∷ (frame_in methods caller ∷ frames_in methods ram n)
-    called_frames =
-        let now = (lower ++ caller) ++ (callee ++ rest) in
-        ap (λ v. frame_in methods v ∷ (frame_in methods (window now n) ∷ frames_in methods now n)) second
-        ∙ (ap (λ v. frame_in methods callee ∷ (frame_in methods v ∷ frames_in methods now n)) first
-        ∙ ap (λ fs. frame_in methods callee ∷ (frame_in methods caller ∷ fs)) (frames_below methods now ram n n (omega arith) same_below))
+    called_frames = grind (arith, second, first, frames_below, same_below)
 
     pub called_fits : FitsWindow methods callee → FitsWindow methods caller → FitWindows methods ram n
         → FitWindows methods ((lower ++ caller) ++ (callee ++ rest)) (suc (suc n))
-    called_fits two one others =
-        let now = (lower ++ caller) ++ (callee ++ rest) in (
-          subst (FitsWindow methods) (sym second) two,
-          (subst (FitsWindow methods) (sym first) one, fits_below methods ram now n n (omega arith) (sym same_below) others),
-        )
+    called_fits two one others = grind (arith, second, first, fits_below, same_below)

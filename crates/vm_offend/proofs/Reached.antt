@@ -6,7 +6,7 @@ use Rattle.vm_store.specs.declared.cell.Cell.{Cell}
 use Rattle.vm_store.specs.Cells.{tagged}
 use Rattle.vm_store.specs.State.{State, IsRunning, erased}
 use Rattle.vm_step.specs.Raising.{Outcome, running, ended}
-use Rattle.vm_step.specs.Step.{Steps, misplaced, unresolved, performs}
+use Rattle.vm_step.specs.Step.{Steps}
 use Rattle.vm_step.specs.Run.{Runs, stands, stops, steps, Continues}
 use Rattle.vm_step.specs.Laws.{StepsAreOne, RunsExist, RunsGoOn}
 use Rattle.law_sound.specs.Soundness.{HasTypings, IsTypedOutcome, RunsAreSafe, StartsAreTyped}
@@ -44,13 +44,10 @@ module _ (w : Linked) where
   -- ---- a method runs
 
   step-runs : (s : State Cell) {o : Outcome Cell} → Steps tagged w s o → IsRunning s
-  step-runs s (misplaced checks runs e) = runs
-  step-runs s (unresolved checks fetched fault names) = fetched.runs
-  step-runs s (performs fetched op names is) = fetched.runs
+  step-runs s x = grind (arith)
 
   first-runs : {n : ℕ} {s : State Cell} {o : Outcome Cell} → Runs tagged w (suc n) s o → IsRunning s
-  first-runs (stops {s = s} step) = step-runs s step
-  first-runs (steps {s = s} step more) = step-runs s step
+  first-runs x = grind (arith, step-runs)
 
   same-running : (z y : State Cell) → running z ≡ running y → z ≡ y
   same-running z y e = cc

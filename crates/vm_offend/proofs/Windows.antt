@@ -1,6 +1,6 @@
 -- A frame in its words, and what a write to them does to it.
 use Rattle.std.proofs.Common.{◌≡◌, ◌≢◌, ℕ, ◌+◌, ◌-◌, ◌<◌, ◌≤◌, List, [], ◌∷◌, ◌++◌, length, take, drop, reverse}
-use Rattle.std.proofs.Common.{replicate, set, get_or, sym, ◌∙◌, ap, subst, inl, inr, refl, arith, length-drop, length-take, length-set}
+use Rattle.std.proofs.Common.{replicate, set, get_or, sym, ◌∙◌, ap, inl, inr, refl, arith, length-drop, length-take, length-set}
 use Rattle.std.proofs.lemmas.List.{take_more, take_more_set, take-set-le, take_all, take_at, take-append-le, take-append-drop, drop_at, drop-drop, drop-take}
 use Rattle.std.proofs.lemmas.List.{drop-set-lt, drop-set-add, drop-append-le, get_or-set_other, get_or-set_same, get_or-reverse, get_or-take, get_or-drop}
 use Rattle.std.proofs.lemmas.List.{get_or_append_left, get_or-append_right, get_or-replicate, get_or_past, reverse-append, reverse-reverse, length-reverse}
@@ -43,36 +43,21 @@ module _ (methods : List MethodRec) (ws : List ℕ) (len : length ws ≡ 513) (f
       ∙ (get_or-drop 258 ws (get_or ws 2 0 - 1 - n) 0 ∙ ap (λ k. get_or ws k 0) place))))
 
   pub placed : (place : ℕ) → frame_in methods (set ws 1 place) ≡ record (frame_in methods ws) { place = place }
-  placed place =
-      let zero_kept : get_or (set ws 1 place) 0 0 ≡ get_or ws 0 0 = get_or-set_other ws 1 0 place 0 (omega arith) in
-      let depth_kept : get_or (set ws 1 place) 2 0 ≡ get_or ws 2 0 = get_or-set_other ws 1 2 place 0 (omega arith) in
-      let place_set : get_or (set ws 1 place) 1 0 ≡ place = get_or-set_same ws 1 place 0 (omega arith) in
-      let regs : drop 3 (set ws 1 place) ≡ drop 3 ws = drop-set-lt 3 ws 1 place (omega arith) in
-      let cells : drop 258 (set ws 1 place) ≡ drop 258 ws = drop-set-lt 258 ws 1 place (omega arith) in
-      cc
+  placed place = grind (arith, get_or, set, get_or-set_other, get_or-set_same, drop, drop-set-lt)
 
   module _ (cell : ℕ) (room : length (frame_in methods ws).stack < 255) where
     pub below : get_or ws 2 0 < 255
     below = omega (arith, depth_is)
 
     kept : (k : ℕ) → k < 258 → k ≢ 2 → get_or (set (set ws (258 + get_or ws 2 0) cell) 2 (get_or ws 2 0 + 1)) k 0 ≡ get_or ws k 0
-    kept k h ne =
-        let far : k ≢ 258 + get_or ws 2 0 = omega arith in
-        get_or-set_other (set ws (258 + get_or ws 2 0) cell) 2 k (get_or ws 2 0 + 1) 0 ne ∙ get_or-set_other ws (258 + get_or ws 2 0) k cell 0 far
+    kept k h ne = grind (arith, get_or, get_or-set_other, set)
 
     deeper : get_or (set (set ws (258 + get_or ws 2 0) cell) 2 (get_or ws 2 0 + 1)) 2 0 ≡ get_or ws 2 0 + 1
-    deeper =
-        let lt : 2 < length (set ws (258 + get_or ws 2 0) cell) = omega (arith, length-set ws (258 + get_or ws 2 0) cell) in
-        get_or-set_same (set ws (258 + get_or ws 2 0) cell) 2 (get_or ws 2 0 + 1) 0 lt
+    deeper = grind (arith, length, set, get_or, length-set, get_or-set_same)
 
     registers_kept :
         (n : ℕ) → n ≤ 255 → take n (drop 3 (set (set ws (258 + get_or ws 2 0) cell) 2 (get_or ws 2 0 + 1))) ≡ take n (drop 3 ws)
-    registers_kept n h =
-        let at : 258 + get_or ws 2 0 ≡ 3 + (255 + get_or ws 2 0) = omega arith in
-        let far : n ≤ 255 + get_or ws 2 0 = omega arith in
-        ap (take n) (drop-set-lt 3 (set ws (258 + get_or ws 2 0) cell) 2 (get_or ws 2 0 + 1) (omega arith))
-        ∙ (ap (λ k. take n (drop 3 (set ws k cell))) at
-        ∙ (ap (take n) (drop-set-add 3 ws (255 + get_or ws 2 0) cell) ∙ take-set-le n (drop 3 ws) (255 + get_or ws 2 0) cell far))
+    registers_kept n h = grind (arith, get_or, take, drop-set-lt, set, drop, drop-set-add, take-set-le)
 
     stack_is :
         reverse (take (get_or ws 2 0 + 1) (drop 258 (set (set ws (258 + get_or ws 2 0) cell) 2 (get_or ws 2 0 + 1))))
@@ -87,23 +72,10 @@ module _ (methods : List MethodRec) (ws : List ℕ) (len : length ws ≡ 513) (f
     pub pushed :
         frame_in methods (set (set ws (258 + get_or ws 2 0) cell) 2 (get_or ws 2 0 + 1))
         ≡ record (frame_in methods ws) { stack = cell ∷ (frame_in methods ws).stack }
-    pushed =
-        let ws' = set (set ws (258 + get_or ws 2 0) cell) 2 (get_or ws 2 0 + 1) in
-        let m : get_or ws' 0 0 ≡ get_or ws 0 0 = kept 0 (omega arith) (omega arith) in
-        let p : get_or ws' 1 0 ≡ get_or ws 1 0 = kept 1 (omega arith) (omega arith) in
-        let d = deeper in
-        let r : take (register_count methods (get_or ws 0 0)) (drop 3 ws') ≡ take (register_count methods (get_or ws 0 0)) (drop 3 ws) =
-        registers_kept (register_count methods (get_or ws 0 0)) fits.registers in
-        let s = stack_is in
-        cc
+    pushed = grind (arith, set, get_or, kept, deeper, take, drop, registers_kept, stack_is)
 
     pub pushed_fits : FitsWindow methods (set (set ws (258 + get_or ws 2 0) cell) 2 (get_or ws 2 0 + 1))
-    pushed_fits =
-        let m : get_or (set (set ws (258 + get_or ws 2 0) cell) 2 (get_or ws 2 0 + 1)) 0 0 ≡ get_or ws 0 0 = kept 0 (omega arith) (omega arith) in
-        record {
-          registers = rw m fits.registers;
-          stack = rw deeper (omega (arith, below));
-        }
+    pushed_fits = grind (arith, get_or, set, kept, stack, deeper, below)
 
   -- ---- cells taken from the stack
 
@@ -127,28 +99,15 @@ module _ (methods : List MethodRec) (ws : List ℕ) (len : length ws ≡ 513) (f
         cc
 
     pub dropped_fits : FitsWindow methods (set ws 2 (get_or ws 2 0 - count))
-    dropped_fits =
-        let d = get_or ws 2 0 in
-        let small : d ≤ 255 = fits.stack in
-        let m : get_or (set ws 2 (d - count)) 0 0 ≡ get_or ws 0 0 = get_or-set_other ws 2 0 (d - count) 0 (omega arith) in
-        let n : get_or (set ws 2 (d - count)) 2 0 ≡ d - count = get_or-set_same ws 2 (d - count) 0 (omega arith) in
-        record {
-          registers = rw m fits.registers;
-          stack = rw n (omega arith);
-        }
+    dropped_fits = grind (arith, get_or, stack, set, get_or-set_other, get_or-set_same)
 
   -- ---- registers
 
   pub register_within : (x : ℕ) → x < length (frame_in methods ws).registers → x < 255
-  register_within x h =
-      let c = register_count methods (get_or ws 0 0) in
-      omega (arith, h, fits.registers, length-take c (drop 3 ws))
+  register_within x h = grind (arith, get_or, length-take, drop)
 
   pub register_is : (x : ℕ) → x < length (frame_in methods ws).registers → get_or ws (3 + x) 0 ≡ get_or (frame_in methods ws).registers x 0
-  register_is x h =
-      let c = register_count methods (get_or ws 0 0) in
-      let lt : x < c = omega (arith, h, length-take c (drop 3 ws)) in
-      sym (get_or-take c (drop 3 ws) x 0 lt ∙ get_or-drop 3 ws x 0)
+  register_is x h = grind (arith, get_or, length-take, drop, get_or-take, get_or-drop)
 
   module _ (x cell : ℕ) (there : x < length (frame_in methods ws).registers) where
     same_word : (k : ℕ) → k < 3 → get_or (set ws (3 + x) cell) k 0 ≡ get_or ws k 0
@@ -167,13 +126,7 @@ module _ (methods : List MethodRec) (ws : List ℕ) (len : length ws ≡ 513) (f
         cc
 
     pub registered_fits : FitsWindow methods (set ws (3 + x) cell)
-    registered_fits =
-        let m = same_word 0 (omega arith) in
-        let d = same_word 2 (omega arith) in
-        record {
-          registers = rw m fits.registers;
-          stack = rw d fits.stack;
-        }
+    registered_fits = grind (arith, same_word, stack)
 
   -- ---- the stack as a part of the words
 
@@ -263,22 +216,16 @@ module _ (methods : List MethodRec) (ws args : List ℕ) (method : ℕ) (len : l
     (args ++ replicate (register_count methods method - length args) 0))
   where
     begun_method : get_or (set (set (set ws 0 method) 1 0) 2 0) 0 0 ≡ method
-    begun_method =
-        get_or-set_other (set (set ws 0 method) 1 0) 2 0 0 0 (omega arith)
-        ∙ (get_or-set_other (set ws 0 method) 1 0 0 0 (omega arith) ∙ get_or-set_same ws 0 method 0 (omega (arith, len)))
+    begun_method = grind (arith, get_or-set_other, set, get_or-set_same)
 
     begun_place : get_or (set (set (set ws 0 method) 1 0) 2 0) 1 0 ≡ 0
-    begun_place =
-        get_or-set_other (set (set ws 0 method) 1 0) 2 1 0 0 (omega arith)
-        ∙ get_or-set_same (set ws 0 method) 1 0 0 (omega (arith, len, length-set ws 0 method))
+    begun_place = grind (arith, get_or-set_other, set, get_or-set_same, length-set)
 
     begun_depth : get_or (set (set (set ws 0 method) 1 0) 2 0) 2 0 ≡ 0
     begun_depth = get_or-set_same (set (set ws 0 method) 1 0) 2 0 0 (omega (arith, len, length-set (set ws 0 method) 1 0, length-set ws 0 method))
 
     begun_registers : drop 3 (set (set (set ws 0 method) 1 0) 2 0) ≡ drop 3 ws
-    begun_registers =
-        drop-set-lt 3 (set (set ws 0 method) 1 0) 2 0 (omega arith)
-        ∙ (drop-set-lt 3 (set ws 0 method) 1 0 (omega arith) ∙ drop-set-lt 3 ws 0 method (omega arith))
+    begun_registers = grind (arith, drop-set-lt, set)
 
     pub begun : frame_in methods (set (set (set ws 0 method) 1 0) 2 0) ≡ entered words methods method args
     begun =
@@ -298,9 +245,4 @@ module _ (methods : List MethodRec) (ws args : List ℕ) (method : ℕ) (len : l
         cc
 
     pub begun_fits : FitsWindow methods (set (set (set ws 0 method) 1 0) 2 0)
-    begun_fits =
-        let ws' = set (set (set ws 0 method) 1 0) 2 0 in
-        record {
-          registers = subst (λ m. register_count methods m ≤ 255) (sym begun_method) few;
-          stack = omega (arith, begun_depth);
-        }
+    begun_fits = grind (arith, set, begun_method, stack, begun_depth)

@@ -1,14 +1,13 @@
 -- The objects in the words of the heap: headers first, and all cells from word 12,288 on.
 use Rattle.std.proofs.Common.{◌≡◌, ℕ, zero, suc, ◌+◌, ◌-◌, ◌*◌, ◌<◌, ◌≤◌, true, false, List, [], ◌∷◌, ◌++◌, length}
-use Rattle.std.proofs.Common.{take, drop, set, get_or, refl, sym, ◌∙◌, ap, subst, inl, inr, arith, length-drop, length-take, length-set}
-use Rattle.std.specs.Prelude.{nat_lt, if◌then◌else◌, ◌==◌}
+use Rattle.std.proofs.Common.{take, drop, set, get_or, refl, sym, ◌∙◌, ap, inl, inr, arith, length-drop, length-take, length-set}
+use Rattle.std.specs.Prelude.{nat_lt}
 use Rattle.std.proofs.lemmas.List.{get_or-set_other, get_or-set_same, get_or_append_left, get_or-append_right, get_or-take, length-append, length_push}
 use Rattle.std.proofs.lemmas.List.{drop-set-lt, drop-set-add, drop_at, drop_all, append-nil}
 use Rattle.std.proofs.lemmas.Bool.{cases_lt}
 use Rattle.std.proofs.lemmas.Bool.Decides.{nat_tests}
 use borrow.Rule.Slice.PartMut.{put_mid}
 use Rattle.vm_store.specs.declared.kind.ObjectKind.{ObjectKind}
-use Rattle.vm_store.specs.declared.kind.ObjectKind.TheVariants.{Instance, Booleans, Bytes, Shorts, Ints, References}
 use Rattle.vm_store.specs.declared.header.ObjectHeader.{ObjectHeader}
 use Rattle.vm_store.specs.Kind.{IsNumbered}
 use Rattle.vm_offend.specs.Words.{kind_of_word, word_of_kind, header_at, headers_in, HaveKindWords}
@@ -25,17 +24,7 @@ array_less : (c : ℕ) → c < 4096 → nat_lt (0x8000 + c) 0xF000 ≡ true
 array_less c h = grind (arith, nat_tests)
 
 pub kind-word : (k : ObjectKind) → IsNumbered k → kind_of_word (word_of_kind k) ≡ k
-kind-word (Instance c) h =
-    let others : ObjectKind = if nat_lt c 0xF000 then References (c - 0x8000) else if c == 0xF000 then Booleans else if c == 0xF001 then Bytes else if c ==
-    0xF002 then Shorts else Ints in
-    ap (λ b. if b then Instance c else others) (class_less c h)
-kind-word (References c) h =
-    let w = 0x8000 + c in
-    let others : ObjectKind = if w == 0xF000 then Booleans else if w == 0xF001 then Bytes else if w == 0xF002 then Shorts else Ints in
-    let whole : 0x8000 + c - 0x8000 ≡ c = omega arith in
-    ap (λ b. if b then Instance w else if nat_lt w 0xF000 then References (w - 0x8000) else others) (array_not_less c)
-    ∙ (ap (λ b. if b then References (w - 0x8000) else others) (array_less c h) ∙ ap References whole)
-kind-word kind h = refl
+kind-word kind h = grind (arith, class_less, array_not_less, array_less)
 
 -- ---- headers
 
@@ -58,26 +47,16 @@ header-read ws (suc n) k d lt =
 
 -- words that agree up to a place have the same headers there
 same_header : (xs ys : List ℕ) (n m : ℕ) → ((k : ℕ) → k < 3 * m → get_or xs k 0 ≡ get_or ys k 0) → n < m → header_at xs n ≡ header_at ys n
-same_header xs ys n m same lt =
-    let a : get_or xs (3 * n) 0 ≡ get_or ys (3 * n) 0 = same (3 * n) (omega arith) in
-    let b : get_or xs (3 * n + 1) 0 ≡ get_or ys (3 * n + 1) 0 = same (3 * n + 1) (omega arith) in
-    let c : get_or xs (3 * n + 2) 0 ≡ get_or ys (3 * n + 2) 0 = same (3 * n + 2) (omega arith) in
-    let make : ℕ → ℕ → ℕ → ObjectHeader = λ k s e. record { kind = kind_of_word k; start = s; elements = e } in
-    ap (λ k. make k (get_or xs (3 * n + 1) 0) (get_or xs (3 * n + 2) 0)) a
-    ∙ (ap (λ s. make (get_or ys (3 * n) 0) s (get_or xs (3 * n + 2) 0)) b ∙ ap (make (get_or ys (3 * n) 0) (get_or ys (3 * n + 1) 0)) c)
+same_header xs ys n m same lt = grind (arith, get_or)
 
 pub same_headers : (xs ys : List ℕ) (n m : ℕ) → ((k : ℕ) → k < 3 * m → get_or xs k 0 ≡ get_or ys k 0) → n ≤ m
     → headers_in xs n ≡ headers_in ys n
 same_headers xs ys zero m same le = refl
-same_headers xs ys (suc n) m same le =
-    ap (λ h. headers_in xs n ++ h ∷ []) (same_header xs ys n m same (omega arith))
-    ∙ ap (λ hs. hs ++ header_at ys n ∷ []) (same_headers xs ys n m same (omega arith))
+same_headers xs ys (suc n) m same le = grind (arith, same_header, same_headers xs ys n m same (omega arith))
 
 -- words that agree on the headers tell the kinds alike
 pub kinds-kept : (xs ys : List ℕ) (n : ℕ) → ((k : ℕ) → k < 3 * n → get_or xs k 0 ≡ get_or ys k 0) → HaveKindWords ys n → HaveKindWords xs n
-kinds-kept xs ys n same have k lt =
-    let at : get_or xs (3 * k) 0 ≡ get_or ys (3 * k) 0 = same (3 * k) (omega (arith, lt)) in
-    at ∙ (have k lt ∙ ap (λ w. word_of_kind (kind_of_word w)) (sym at))
+kinds-kept xs ys n same have k lt = grind (arith, get_or)
 
 -- ---- a write to a cell
 
@@ -128,55 +107,23 @@ module _ (heap ws : List ℕ) (n size : ℕ) (h : ObjectHeader) (few : n < 4096)
       ∙ (drop-set-lt 12288 ws₁ (3 * n + 1) h.start (omega arith) ∙ (drop-set-lt 12288 ws₀ (3 * n) (word_of_kind h.kind) (omega arith) ∙ filled_cells))
 
   pub new-length : length (set (set (set (put_mid 12288 size heap ws) (3 * n) (word_of_kind h.kind)) (3 * n + 1) h.start) (3 * n + 2) h.elements) ≡ 45056
-  new-length =
-      let ws₀ = put_mid 12288 size heap ws in
-      let ws₁ = set ws₀ (3 * n) (word_of_kind h.kind) in
-      let ws₂ = set ws₁ (3 * n + 1) h.start in
-      length-set ws₂ (3 * n + 2) h.elements ∙ (length-set ws₁ (3 * n + 1) h.start ∙ (length-set ws₀ (3 * n) (word_of_kind h.kind) ∙ filled_length))
+  new-length = grind (arith, set, length-set, filled_length)
 
   old_word :
       (k : ℕ) → k < 3 * n
       → get_or (set (set (set (put_mid 12288 size heap ws) (3 * n) (word_of_kind h.kind)) (3 * n + 1) h.start) (3 * n + 2) h.elements) k 0 ≡ get_or heap k 0
-  old_word k lt =
-      let ws₀ = put_mid 12288 size heap ws in
-      let ws₁ = set ws₀ (3 * n) (word_of_kind h.kind) in
-      let ws₂ = set ws₁ (3 * n + 1) h.start in
-      get_or-set_other ws₂ (3 * n + 2) k h.elements 0 (omega arith)
-      ∙ (get_or-set_other ws₁ (3 * n + 1) k h.start 0 (omega arith)
-      ∙ (get_or-set_other ws₀ (3 * n) k (word_of_kind h.kind) 0 (omega arith) ∙ filled_word k (omega arith)))
+  old_word k lt = grind (arith, set, get_or-set_other, filled_word)
 
   old_headers : headers_in (set (set (set (put_mid 12288 size heap ws) (3 * n) (word_of_kind h.kind)) (3 * n + 1) h.start) (3 * n + 2) h.elements) n
       ≡ headers_in heap n
-  old_headers =
-      let ws₃ = set (set (set (put_mid 12288 size heap ws) (3 * n) (word_of_kind h.kind)) (3 * n + 1) h.start) (3 * n + 2) h.elements in
-      same_headers ws₃ heap n n old_word (omega arith)
+  old_headers = grind (arith, set, same_headers, old_word)
 
   new_word : get_or (set (set (set (put_mid 12288 size heap ws) (3 * n) (word_of_kind h.kind)) (3 * n + 1) h.start) (3 * n + 2) h.elements) (3 * n) 0
       ≡ word_of_kind h.kind
-  new_word =
-      let ws₀ = put_mid 12288 size heap ws in
-      let ws₁ = set ws₀ (3 * n) (word_of_kind h.kind) in
-      let ws₂ = set ws₁ (3 * n + 1) h.start in
-      get_or-set_other ws₂ (3 * n + 2) (3 * n) h.elements 0 (omega arith)
-      ∙ (get_or-set_other ws₁ (3 * n + 1) (3 * n) h.start 0 (omega arith)
-      ∙ get_or-set_same ws₀ (3 * n) (word_of_kind h.kind) 0 (omega (arith, filled_length)))
+  new_word = grind (arith, set, get_or-set_other, get_or-set_same, filled_length)
 
   new_header : header_at (set (set (set (put_mid 12288 size heap ws) (3 * n) (word_of_kind h.kind)) (3 * n + 1) h.start) (3 * n + 2) h.elements) n ≡ h
-  new_header =
-      let ws₀ = put_mid 12288 size heap ws in
-      let ws₁ = set ws₀ (3 * n) (word_of_kind h.kind) in
-      let ws₂ = set ws₁ (3 * n + 1) h.start in
-      let ws₃ = set ws₂ (3 * n + 2) h.elements in
-      let l₁ : length ws₁ ≡ 45056 = length-set ws₀ (3 * n) (word_of_kind h.kind) ∙ filled_length in
-      let l₂ : length ws₂ ≡ 45056 = length-set ws₁ (3 * n + 1) h.start ∙ l₁ in
-      let a : get_or ws₃ (3 * n) 0 ≡ word_of_kind h.kind = new_word in
-      let b : get_or ws₃ (3 * n + 1) 0 ≡ h.start =
-      get_or-set_other ws₂ (3 * n + 2) (3 * n + 1) h.elements 0 (omega arith) ∙ get_or-set_same ws₁ (3 * n + 1) h.start 0 (omega (arith, l₁)) in
-      let c : get_or ws₃ (3 * n + 2) 0 ≡ h.elements = get_or-set_same ws₂ (3 * n + 2) h.elements 0 (omega (arith, l₂)) in
-      let make : ObjectKind → ℕ → ℕ → ObjectHeader = λ k s e. record { kind = k; start = s; elements = e } in
-      ap (λ w. make (kind_of_word w) (get_or ws₃ (3 * n + 1) 0) (get_or ws₃ (3 * n + 2) 0)) a
-      ∙ (ap (λ k. make k (get_or ws₃ (3 * n + 1) 0) (get_or ws₃ (3 * n + 2) 0)) (kind-word h.kind numbered)
-      ∙ (ap (λ s. make h.kind s (get_or ws₃ (3 * n + 2) 0)) b ∙ ap (make h.kind h.start) c))
+  new_header = grind (arith, set, length, length-set, filled_length, get_or, new_word, get_or-set_other, get_or-set_same, kind-word)
 
   pub new-headers : headers_in (set (set (set (put_mid 12288 size heap ws) (3 * n) (word_of_kind h.kind)) (3 * n + 1) h.start) (3 * n + 2) h.elements)
       (n + 1) ≡ headers_in heap n ++ h ∷ []
@@ -187,12 +134,4 @@ module _ (heap ws : List ℕ) (n size : ℕ) (h : ObjectHeader) (few : n < 4096)
 
   pub new-kinds : HaveKindWords heap n
       → HaveKindWords (set (set (set (put_mid 12288 size heap ws) (3 * n) (word_of_kind h.kind)) (3 * n + 1) h.start) (3 * n + 2) h.elements) (n + 1)
-  new-kinds have k lt =
-      let ws₃ = set (set (set (put_mid 12288 size heap ws) (3 * n) (word_of_kind h.kind)) (3 * n + 1) h.start) (3 * n + 2) h.elements in
-      elim (cases_lt k n) [
-        | inl less ↦ kinds-kept ws₃ heap n old_word have k less
-        | inr most ↦
-            let at : k ≡ n = omega (arith, lt, most) in
-            let kind : (header_at ws₃ n).kind ≡ h.kind = ap (λ (g : ObjectHeader). g.kind) new_header in
-            subst (λ i. get_or ws₃ (3 * i) 0 ≡ word_of_kind (header_at ws₃ i).kind) (sym at) (new_word ∙ ap word_of_kind (sym kind))
-      ]
+  new-kinds have k lt = grind (arith, set, cases_lt, kinds-kept, old_word, new_header, get_or, new_word)

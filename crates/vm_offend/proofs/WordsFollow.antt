@@ -1,7 +1,7 @@
 -- Words of a typed state are that of one after each step, and its tests, which nothing makes, would all be passed.
 use Rattle.std.proofs.Common.{◌≡◌, ℕ, ◌+◌, ◌<◌, ◌≤◌, Bool, true, false, if◌then◌else◌, List, [], ◌∷◌, length, map, reverse}
 use Rattle.std.proofs.Common.{refl, sym, ap, ◌∙◌, subst, arith}
-use Rattle.std.specs.Prelude.{ℤ, Option, Some, None, Ok, Err, All, IsSome, slice_get, nat_lt}
+use Rattle.std.specs.Prelude.{ℤ, Option, Some, None, Ok, Err, All, IsSome, slice_get}
 use Rattle.std.proofs.lemmas.Bool.{ltb-false}
 use Rattle.std.proofs.lemmas.Bool.Decides.{nat_tests}
 use Rattle.std.proofs.lemmas.List.{length-map, length-append, length-reverse}
@@ -11,7 +11,7 @@ use Rattle.jc_base.specs.declared.ty.Ty.TheVariants.{Bottom}
 use Rattle.jc_base.specs.declared.record.MethodRec.{MethodRec}
 use Rattle.jc_base.specs.Order.{IsKnown}
 use Rattle.jc_base.specs.Linked.{IsMethod}
-use Rattle.jc_base.specs.World.{Linked, IsWorld, code_of}
+use Rattle.jc_base.specs.World.{Linked, IsWorld}
 use Rattle.jc_base.proofs.Lists.{All-slice_get}
 use Rattle.jc_decode.specs.declared.insn.Placed.{Placed}
 use Rattle.jc_ops.specs.declared.fault.RuleFault.{RuleFault}
@@ -23,21 +23,19 @@ use Rattle.jc_rules.specs.Footprint.{footprint, OperationLeaves}
 use Rattle.vm_store.specs.declared.cell.Cell.{Cell}
 use Rattle.vm_store.specs.Typing.{least_type}
 use Rattle.vm_store.specs.Cells.{tagged, words, word_of}
-use Rattle.vm_store.specs.State.{Frame, State, Object, IsRunning, map_frame, erased, top, without_top, with_place, with_stack, register_count_of}
+use Rattle.vm_store.specs.State.{Frame, State, Object, IsRunning, map_frame, erased, top, without_top, register_count_of}
 use Rattle.vm_store.specs.Objects.{kinds}
 use Rattle.vm_store.specs.Value.{with_value}
 use Rattle.vm_store.specs.Erasing.{StatesErase}
 use Rattle.vm_step.specs.declared.ending.Value.{Value}
-use Rattle.vm_step.specs.declared.ending.Plain.TheVariants.{Returned}
 use Rattle.vm_step.specs.declared.ending.Ending.{Ending}
-use Rattle.vm_step.specs.declared.ending.Ending.TheVariants.{Plain}
 use Rattle.vm_step.specs.declared.ending.Fault.{Fault}
 use Rattle.vm_step.specs.declared.ending.Fault.TheVariants.{StackFault, JumpFault}
 use Rattle.vm_step.specs.Act.{Act, jumps, gives}
 use Rattle.vm_step.specs.Methods.{of_method, code_at, instruction_at, max_stack_of}
 use Rattle.vm_step.specs.Performed.{act}
-use Rattle.vm_step.specs.Raising.{Outcome, running, ended, ends}
-use Rattle.vm_step.specs.Settled.{unless_fault, is_over, is_past, is_target_place, place_number, return_place, goes_to, given_to, settled}
+use Rattle.vm_step.specs.Raising.{Outcome, running, ended}
+use Rattle.vm_step.specs.Settled.{unless_fault, is_target_place, given_to, settled}
 use Rattle.vm_step.specs.Step.{Fetches, Steps, unresolved, performs, performed}
 use Rattle.vm_step.specs.Tests.{fault_before}
 use Rattle.vm_act.specs.Reaches.{Reaches}
@@ -64,17 +62,13 @@ knows-types w s kept = record { each = λ c. tt {0} }
 
 -- the state of an outcome
 abbrev held : Outcome ℕ → State ℕ
-held (running s) = s
-held (ended e s) = s
+held x = grind (arith)
 
 module _ (w : Linked) (follow : TypedStepsFollow w) (safe : StepsAreSafe w) where
   stays-by : (z : State ℕ) (t : State Cell) (o : Outcome Cell) → running z ≡ erased_outcome o → (typings : Typings)
       → ((n : ℕ) → typings.unset n ≡ Bottom) → AreTypings w typings → IsTypedOutcome w typings o
       → IsShaped w t → Steps tagged w t o → StepsStay tagged (IsShaped w) w → AreTypedWords w z
-  stays-by z t (running y) e typings unset are typed shaped step stay =
-      let same : z ≡ erased y = ap held e in
-      record { typings = typings; unset = unset; methods = are; state = y; words = same; typed = typed; shaped = stay t y shaped step }
-  stays-by z t (ended ending y) e typings unset are typed shaped step stay = absurd (cc)
+  stays-by z t x e typings unset are typed shaped step stay = grind (arith)
 
   pub steps-stay : StepsStay tagged (IsShaped w) w → StepsStay words (AreTypedWords w) w
   steps-stay stay s z kept step =
@@ -86,9 +80,7 @@ module _ (w : Linked) (follow : TypedStepsFollow w) (safe : StepsAreSafe w) wher
   ends-by : (z : State ℕ) (e : Ending) (t : State Cell) (o : Outcome Cell) → ended e z ≡ erased_outcome o → IsShaped w t → Steps tagged w t o
       → StepsEnd tagged (IsShaped w) w → IsShaped w z
   ends-by z e t (running y) is shaped step last = absurd (cc)
-  ends-by z e t (ended ending y) is shaped step last =
-      let same : z ≡ erased y = ap held is in
-      subst (IsShaped w) (sym same) (shaped-erased w y (last t y ending shaped step))
+  ends-by z e t (ended ending y) is shaped step last = grind (arith, shaped-erased w y (last t y ending shaped step))
 
   pub steps-end : StepsEnd tagged (IsShaped w) w → StepsEnd words (AreTypedWords w) w
   steps-end last s z e kept step =
@@ -104,8 +96,7 @@ all-of P p (x ∷ xs) = All-cons P x xs (p x) (all-of P p xs)
 
 passed : (w : Linked) (assigned : Typings) (s : State Cell) (o : Option Fault) (x : Outcome Cell) → IsTypedOutcome w assigned (unless_fault s o x)
     → (o ≡ None) × IsTypedOutcome w assigned x
-passed w assigned s None x safe = (refl, safe)
-passed w assigned s (Some fault) x safe = absurd safe
+passed w assigned s x x2 safe = grind (arith)
 
 module _ (w : Linked) (is : IsWorld w) (erase : StatesErase w.methods w.classes) (safe : StepsAreSafe w) (assigned : Typings)
     (bottom : (n : ℕ) → assigned.unset n ≡ Bottom) (typings : AreTypings w assigned)
@@ -183,28 +174,18 @@ module _ (w : Linked) (is : IsWorld w) (erase : StatesErase w.methods w.classes)
     -- ---- where control goes
 
     standing-there : (g : Frame Cell) (st : Standing w assigned g) → IsSome (instruction_at (code_at w g.method) g.place)
-    standing-there g st =
-        let there : instruction_at (code_at w g.method) g.place ≡ Some st.instruction =
-        ap (λ bytes. instruction_at bytes g.place) (ap (of_method [] (code_of w.infos)) st.is_method) ∙ st.there in
-        subst (λ (o : Option Placed). IsSome o) (sym there) refl
+    standing-there g st = grind (arith)
 
     words-name : (m : MethodRec) (i : Placed) (fault : RuleFault) → Fetches w (erased now) m i → ¬ (Resolves w m i.place i.insn (Err fault))
     words-name m i fault fetched names = safe assigned now _ typings typed (unresolved refl (fetched-cells m i fetched) fault names)
 
     target-passes : (z : State Cell) (x : Outcome Cell) (over there : Bool)
         → IsTypedOutcome w assigned (unless_fault z (if over then Some StackFault else if there then None else Some JumpFault) x) → there ≡ true
-    target-passes z x true there h = absurd h
-    target-passes z x false true h = refl
-    target-passes z x false false h = absurd h
+    target-passes z x x2 there h = grind (arith)
 
     jump-lands : (next : ℕ) (a : Act Cell) (to : ℤ) (z : State ℕ) → IsTypedOutcome w assigned (settled tagged w next now a) → Stays tagged w now a
         → erased_act a ≡ jumps to z → is_target_place (code_at w f.method) to ≡ true
-    jump-lands next (jumps from y) to z h stays e =
-        let same : from ≡ to = cc in
-        let lands : is_target_place (code_at w (top y).method) from ≡ true =
-        target-passes y (running (with_place y (place_number from))) (is_over w y (length (top y).stack)) (is_target_place (code_at w (top y).method) from) h in
-        subst (λ n. is_target_place (code_at w f.method) n ≡ true) same (subst (λ n. is_target_place (code_at w n) from ≡ true) stays lands)
-    jump-lands next a to z h stays e = absurd (cc)
+    jump-lands next a to z h stays e = grind (arith, target-passes, length)
 
     words-land : ActsErase w → (m : MethodRec) (i : Placed) (op : Operation) (to : ℤ) (z : State ℕ) → Fetches w (erased now) m i
         → Resolves w m i.place i.insn (Ok op)
@@ -216,25 +197,15 @@ module _ (w : Linked) (is : IsWorld w) (erase : StatesErase w.methods w.classes)
 
     next-passes : (s : State Cell) (x : Outcome Cell) (over past : Bool)
         → IsTypedOutcome w assigned (unless_fault s (if over then Some StackFault else if past then Some JumpFault else None) x) → over ≡ false
-    next-passes s x true past h = absurd h
-    next-passes s x false past h = refl
+    next-passes s x x2 past h = grind (arith)
 
     taken-if : (b : Bool) (x y : Outcome Cell) → b ≡ true → IsTypedOutcome w assigned (if b then x else y) → IsTypedOutcome w assigned x
-    taken-if true x y e h = h
-    taken-if false x y e h = absurd (cc)
+    taken-if x x2 y e h = grind (arith)
 
     given-fits : (g : Frame Cell) (gs : List (Frame Cell)) (value : Value) (cs : List Cell)
         → IsTypedOutcome w assigned (given_to tagged w value cs (record { frames = g ∷ gs; heap = heap; statics = statics }))
         → length (with_value cs g.stack) ≤ max_stack_of w g.method
-    given-fits g gs value cs h =
-        let z : State Cell = record { frames = g ∷ gs; heap = heap; statics = statics } in
-        let back : State Cell = with_stack z (with_value cs g.stack) in
-        let after : ℕ = return_place (instruction_at (code_at w g.method) g.place) in
-        let some : nat_lt 0 (length (g ∷ gs)) ≡ true = grind (arith, nat_tests) in
-        let goes_on : IsTypedOutcome w assigned (goes_to tagged w after z back) = taken-if (nat_lt 0 (length (g ∷ gs))) (goes_to tagged w after z back)
-        (ends (Plain (Returned value)) z) some h in
-        ltb-false (max_stack_of w g.method) (length (with_value cs g.stack))
-        (next-passes z (running (with_place back after)) (is_over w back (length (with_value cs g.stack))) (is_past w back after) goes_on)
+    given-fits g gs value cs h = grind (arith, length, nat_tests, taken-if, ltb-false, next-passes)
 
     waits-fit :
         (bs : List (Frame Cell)) (next : ℕ) (a : Act Cell) (value : Value) (cells : List ℕ) (result : Option Ty)
@@ -277,9 +248,7 @@ module _ (w : Linked) (is : IsWorld w) (erase : StatesErase w.methods w.classes)
 -- ---- in any state
 
 cells-run : (s : State ℕ) (t : State Cell) → s ≡ erased t → IsRunning s → 0 < length t.frames
-cells-run s t e runs =
-    let there : IsRunning (erased t) = subst (λ (x : State ℕ). IsRunning x) e runs in
-    omega (arith, there, length-map t.frames (map_frame word_of))
+cells-run s t e runs = grind (arith, length-map)
 
 module _ (w : Linked) (is : IsWorld w) (erase : StatesErase w.methods w.classes) (safe : StepsAreSafe w)
     (reach : TestsReach 510 tagged (IsShaped w) w) (known : KnowsTypes tagged (IsShaped w) w)
@@ -294,10 +263,7 @@ module _ (w : Linked) (is : IsWorld w) (erase : StatesErase w.methods w.classes)
         words-verified w is erase safe assigned bottom typings reach known f below heap statics typed shaped acts
 
     pub are-verified : ActsErase w → AreVerified 255 words (AreTypedWords w) w
-    are-verified acts untested s kept runs =
-        subst (λ (x : State ℕ). IsVerified 255 words w x) (sym kept.words)
-        (verified-by acts kept.state.frames kept.state.heap kept.state.statics kept.typings kept.unset kept.methods kept.typed kept.shaped
-        (cells-run s kept.state kept.words runs))
+    are-verified acts untested s kept runs = grind (arith, verified-by, cells-run)
 
     reach-by : OperationsAreSound w → OperationLeaves w → TypedStatesApply w → (fs : List (Frame Cell)) (heap : List (Object Cell))
         (statics : List Cell) (m : MethodRec) (i : Placed) (op : Operation)

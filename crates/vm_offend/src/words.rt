@@ -1,6 +1,5 @@
-ghost use Rattle.std.specs.Prelude.{◌≡◌, ◌+◌, ◌*◌, ◌<◌, ◌≤◌, ◌∷◌, length, drop};
-ghost use Rattle.vm_store.specs.Cells.{words};
-ghost use Rattle.vm_store.specs.State.{IsRunning, top, first_frame, other_frames, arguments, entered, register_count};
+ghost use Rattle.std.specs.Prelude.{◌≡◌, ◌+◌, ◌*◌, ◌<◌, ◌≤◌, length};
+ghost use Rattle.vm_store.specs.State.{IsRunning, top, first_frame, register_count};
 ghost use Rattle.vm_offend.specs.Words.{AreLaid, FitsWindow, FitWindows, frame_in, frames_in, called_words, words_state};
 
 use crate::object::{FIRST_CELL, cell, header, set_cell, set_header};
