@@ -17,7 +17,6 @@ use Rattle.jc_ops.specs.declared.operation.Choice.{Choice}
 use Rattle.jc_ops.specs.declared.operation.Choice.TheVariants as choices
 use Rattle.jc_ops.specs.declared.operation.Callee.{Callee}
 use Rattle.jc_ops.specs.declared.operation.Holder.{Holder}
-use Rattle.jc_ops.specs.declared.operation.Holder.TheVariants as holders
 use Rattle.jc_ops.specs.declared.operation.InstanceField.{InstanceField}
 use Rattle.jc_ops.specs.declared.operation.Operation.{Operation}
 use Rattle.jc_ops.specs.declared.operation.Operation.TheVariants as ops

@@ -1,6 +1,7 @@
 mod Windows
 mod Rams
 mod WordHeaps
+mod ObjectWords
 mod Erased
 mod Jumping
 mod WordsFollow

@@ -30,7 +30,7 @@ pub fn object_kind(heap: &[u16], counts: Counts, handle: u16) -> Option<ObjectKi
 }
 
 /// What the object of a handle is.
-fn kind_there(heap: &[u16], counts: Counts, handle: u16) -> ObjectKind
+pub(crate) fn kind_there(heap: &[u16], counts: Counts, handle: u16) -> ObjectKind
     requires laid { AreObjectsLaid heap.now counts }
     requires there { IsSome (object_at (objects_state heap.now counts) handle) }
     ensures { kind_of_handle (kinds (objects_state heap.now counts)) handle ≡ Some result }

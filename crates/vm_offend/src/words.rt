@@ -2,7 +2,8 @@ ghost use Rattle.std.specs.Prelude.{◌≡◌, ◌+◌, ◌*◌, ◌<◌, ◌≤
 ghost use Rattle.vm_store.specs.State.{IsRunning, top, first_frame, register_count};
 ghost use Rattle.vm_offend.specs.Words.{AreLaid, FitsWindow, FitWindows, frame_in, frames_in, called_words, words_state};
 
-use crate::object::{FIRST_CELL, cell, header, set_cell, set_header};
+use crate::object::{FIRST_CELL, set_cell, set_header};
+use crate::object_words::{kind_there, object_cell, object_elements};
 use crate::window;
 use jc_base::{Classes, Ty, World};
 use vm_store::{ObjectHeader, ObjectKind, Store, fill_array, fill_instance};
@@ -203,11 +204,11 @@ impl<'w, 'r, 'h, 's> Store for WordStore<'w, 'r, 'h, 's> {
     }
 
     fn kind(&self, handle: u16) -> ObjectKind {
-        header(self.heap, handle as usize - 1).kind
+        kind_there(self.heap, self.counts, handle)
     }
 
     fn element_count(&self, handle: u16) -> u16 {
-        header(self.heap, handle as usize - 1).elements
+        object_elements(self.heap, self.counts, handle)
     }
 
     fn make_instance(&mut self, world: &World<'_>, class: u16) -> u16 {
@@ -241,7 +242,7 @@ impl<'w, 'r, 'h, 's> Store for WordStore<'w, 'r, 'h, 's> {
     }
 
     fn object_cell(&self, handle: u16, i: usize) -> u16 {
-        cell(self.heap, handle as usize - 1, i)
+        object_cell(self.heap, self.counts, handle, i)
     }
 
     fn set_object_cell(&mut self, handle: u16, i: usize, cell: u16) {

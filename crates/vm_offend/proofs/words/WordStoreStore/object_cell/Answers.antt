@@ -1,56 +1,7 @@
-use Rattle.std.proofs.Common.{◌≡◌, ℕ, ◌+◌, ◌-◌, ◌<◌, ◌≤◌, length, drop, get_or, refl, sym, ap, ◌∙◌, subst, arith, length-drop}
-use Rattle.std.proofs.lemmas.List.{get_or-drop}
-use Rattle.vm_store.specs.State.{State}
-use Rattle.vm_store.specs.declared.header.ObjectHeader.{ObjectHeader}
-use Rattle.vm_offend.specs.Words.{words_state, headers_in, header_at}
-use Rattle.vm_offend.proofs.WordHeaps.{length-headers_in, header-read}
-use Rattle.vm_store.proofs.Handles.{cell_handle, cell_place, cell_read}
+use Rattle.vm_offend.proofs.ObjectWords.{objects-laid}
 use Rattle.vm_offend.proofs.words.WordStoreStore.object_cell.Goals as goal
 
-pub cell-requires-clause-there : goal.cell-requires-clause-there
-cell-requires-clause-there c =
-    let s = c.args.self.now in let laid = c.requires.well in let n = s.counts.objects in
-    let z : State ℕ = words_state s.world.now.methods s.ram.now s.heap.now s.statics.now s.counts in
-    let xs = drop 12288 s.heap.now in let hs = headers_in s.heap.now n in
-    let enough : s.counts.cells ≤ length xs = omega (arith, laid.heap_length, laid.some_cells, length-drop 12288 s.heap.now) in
-    let d : ObjectHeader = header_at s.heap.now (c.args.handle - 1) in
-    let h = cell_handle z xs hs s.counts.cells refl laid.laid enough d c.args.handle c.args.i c.requires.there in
-    let lt : c.args.handle - 1 < n = omega (arith, h.within, length-headers_in s.heap.now n) in
-    let read : get_or hs (c.args.handle - 1) d ≡ d = header-read s.heap.now n (c.args.handle - 1) d lt in
-    let place : (get_or hs (c.args.handle - 1) d).start + c.args.i < s.counts.cells =
-    cell_place z xs hs s.counts.cells refl laid.laid enough d c.args.handle c.args.i c.requires.there in
-    let here : d.start + c.args.i < s.counts.cells = subst (λ (x : ObjectHeader). x.start + c.args.i < s.counts.cells) read place in
-    omega (arith, lt, laid.some_objects, laid.heap_length)
-
-pub cell-requires-clause-inside : goal.cell-requires-clause-inside
-cell-requires-clause-inside c =
-    let s = c.args.self.now in let laid = c.requires.well in let n = s.counts.objects in
-    let z : State ℕ = words_state s.world.now.methods s.ram.now s.heap.now s.statics.now s.counts in
-    let xs = drop 12288 s.heap.now in let hs = headers_in s.heap.now n in
-    let enough : s.counts.cells ≤ length xs = omega (arith, laid.heap_length, laid.some_cells, length-drop 12288 s.heap.now) in
-    let d : ObjectHeader = header_at s.heap.now (c.args.handle - 1) in
-    let h = cell_handle z xs hs s.counts.cells refl laid.laid enough d c.args.handle c.args.i c.requires.there in
-    let lt : c.args.handle - 1 < n = omega (arith, h.within, length-headers_in s.heap.now n) in
-    let read : get_or hs (c.args.handle - 1) d ≡ d = header-read s.heap.now n (c.args.handle - 1) d lt in
-    let place : (get_or hs (c.args.handle - 1) d).start + c.args.i < s.counts.cells =
-    cell_place z xs hs s.counts.cells refl laid.laid enough d c.args.handle c.args.i c.requires.there in
-    let here : d.start + c.args.i < s.counts.cells = subst (λ (x : ObjectHeader). x.start + c.args.i < s.counts.cells) read place in
-    omega (arith, here, laid.some_cells, laid.heap_length)
-
-pub returns : goal.returns
-returns c =
-    let s = c.args.self.now in let laid = c.requires.well in let n = s.counts.objects in
-    let z : State ℕ = words_state s.world.now.methods s.ram.now s.heap.now s.statics.now s.counts in
-    let xs = drop 12288 s.heap.now in let hs = headers_in s.heap.now n in
-    let enough : s.counts.cells ≤ length xs = omega (arith, laid.heap_length, laid.some_cells, length-drop 12288 s.heap.now) in
-    let d : ObjectHeader = header_at s.heap.now (c.args.handle - 1) in
-    let h = cell_handle z xs hs s.counts.cells refl laid.laid enough d c.args.handle c.args.i c.requires.there in
-    let lt : c.args.handle - 1 < n = omega (arith, h.within, length-headers_in s.heap.now n) in
-    let read : get_or hs (c.args.handle - 1) d ≡ d = header-read s.heap.now n (c.args.handle - 1) d lt in
-    let place : (get_or hs (c.args.handle - 1) d).start + c.args.i < s.counts.cells =
-    cell_place z xs hs s.counts.cells refl laid.laid enough d c.args.handle c.args.i c.requires.there in
-    let here : d.start + c.args.i < s.counts.cells = subst (λ (x : ObjectHeader). x.start + c.args.i < s.counts.cells) read place in
-    c.cell.ensures
-    ∙ (sym (get_or-drop 12288 s.heap.now (d.start + c.args.i) 0)
-    ∙ (ap (λ (x : ObjectHeader). get_or xs (x.start + c.args.i) 0) (sym read)
-    ∙ sym (cell_read z xs hs s.counts.cells refl laid.laid enough d c.args.handle c.args.i c.requires.there 0)))
+pub object_cell-requires-clause-laid : goal.object_cell-requires-clause-laid
+object_cell-requires-clause-laid c =
+    let s = c.args.self.now in
+    objects-laid s.world.now s.ram.now s.heap.now s.counts c.requires.well
