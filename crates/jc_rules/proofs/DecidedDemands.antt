@@ -1,18 +1,17 @@
 -- A want and a demand are decided.
-use Rattle.std.proofs.Common.{◌≡◌, ℕ, ◌-◌, ◌≤◌, ◌⊎◌, inl, inr, Bool, true, false, not, ◌&&◌, ◌||◌, ◌==◌, nat_le}
-use Rattle.std.proofs.Common.{MatchBool, Option, Some, IsSomeAnd, slice_get, refl, arith}
+use Rattle.std.proofs.Common.{◌≡◌, ℕ, ◌≤◌, ◌⊎◌, inl, inr, Bool, true, false, not, ◌&&◌, ◌||◌, ◌==◌, nat_le}
+use Rattle.std.proofs.Common.{MatchBool, Option, IsSomeAnd, slice_get, refl, arith}
 use Rattle.std.proofs.lemmas.Bool.Decides.{nat_tests}
 use Rattle.jc_base.specs.declared.ty.Ty.{Ty}
-use Rattle.jc_base.specs.declared.ty.Ty.TheVariants.{IntHigh, IntLow}
 use Rattle.jc_base.specs.Class.{ClassTable}
 use Rattle.jc_base.specs.Laws.{IsOrderOfTypes}
 use Rattle.jc_base.specs.Order.{Below, is_below}
 use Rattle.jc_rules.proofs.Types.{below-computed, below-told}
 use Rattle.jc_ops.specs.declared.want.Want.{Want}
 use Rattle.jc_rules.specs.declared.demand.Demand.{Demand}
-use Rattle.jc_rules.specs.Demand.{Frame, IsArrayOrNull, IsHalf, IsFreshOf, Meets, Satisfies}
-use Rattle.jc_rules.specs.Demand.{is_array_or_null, is_half, is_fresh_of, meets, is_low}
-use Rattle.jc_rules.specs.Demand.{is_high, met_at, satisfies, AreDecided}
+use Rattle.jc_rules.specs.Demand.{Frame, Meets, Satisfies}
+use Rattle.jc_rules.specs.Demand.{meets}
+use Rattle.jc_rules.specs.Demand.{met_at, satisfies, AreDecided}
 
 either : (a b : Bool) (P Q : Type 0) → MatchBool a P (¬ P) → MatchBool b Q (¬ Q) → MatchBool (a || b) (P ⊎ Q) (¬ (P ⊎ Q))
 either true b P Q p q = inl p
@@ -36,27 +35,12 @@ at-most a b = go (nat_le a b) refl
     go true e = grind (arith, nat_tests)
     go false e = λ h. grind (arith, nat_tests)
 
-array-decided : (ty : Ty) → MatchBool (is_array_or_null ty) (IsArrayOrNull ty) (¬ (IsArrayOrNull ty))
-array-decided x = grind (arith)
-
-half-decided : (ty : Ty) → MatchBool (is_half ty) (IsHalf ty) (¬ (IsHalf ty))
-half-decided x = grind (arith)
-
 equal-decided : (a b : ℕ) → MatchBool (a == b) (a ≡ b) (¬ (a ≡ b))
 equal-decided a b = go (a == b) refl
   where
     go : (x : Bool) → (a == b) ≡ x → MatchBool x (a ≡ b) (¬ (a ≡ b))
     go true e = grind (arith, nat_tests)
     go false e = λ h. grind (arith, nat_tests)
-
-fresh-decided : (c : ℕ) (ty : Ty) → MatchBool (is_fresh_of c ty) (IsFreshOf c ty) (¬ (IsFreshOf c ty))
-fresh-decided c y = grind (arith, equal-decided)
-
-low-decided : (o : Option Ty) → MatchBool (is_low o) (o ≡ Some IntLow) (¬ (o ≡ Some IntLow))
-low-decided x = grind (arith)
-
-high-decided : (o : Option Ty) → MatchBool (is_high o) (o ≡ Some IntHigh) (¬ (o ≡ Some IntHigh))
-high-decided x = grind (arith)
 
 module _ (t : ClassTable) (are : IsOrderOfTypes t) where
   below-decided : (a b : Ty) → MatchBool (is_below t a b) (Below t a b) (¬ (Below t a b))
@@ -67,13 +51,13 @@ module _ (t : ClassTable) (are : IsOrderOfTypes t) where
       go false e = λ h. let q : is_below t a b ≡ true = below-computed t are h in absurd (cc)
 
   want-decided : (want : Want) (found : Ty) → MatchBool (meets t want found) (Meets t want found) (¬ (Meets t want found))
-  want-decided x found = grind (arith, below-decided, array-decided, half-decided, fresh-decided)
+  want-decided x found = grind (arith, below-decided, equal-decided)
 
   met-decided : (want : Want) (o : Option Ty) → MatchBool (met_at t want o) (IsSomeAnd o (Meets t want)) (¬ (IsSomeAnd o (Meets t want)))
   met-decided want y = grind (arith, want-decided)
 
   demand-decided : (f : Frame) (d : Demand) → MatchBool (satisfies t f d) (Satisfies t f d) (¬ (Satisfies t f d))
-  demand-decided f y = grind (arith, at-most, met-decided, slice_get, both, low-decided, high-decided)
+  demand-decided f y = grind (arith, at-most, met-decided, slice_get, both)
 
   pub are-decided : AreDecided t
   are-decided = record { want = want-decided; demand = demand-decided }

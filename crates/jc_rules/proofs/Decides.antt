@@ -1,5 +1,5 @@
 -- The rule of an instruction has one outcome: it applies with one result, or it refuses with one fault.
-use Rattle.std.proofs.Common.{◌≡◌, ℕ, List, Some, Result, Ok, Err, slice_get, slice_set, refl, sym, ◌∙◌, ap, subst, arith, rules}
+use Rattle.std.proofs.Common.{◌≡◌, ℕ, List, Some, Result, Ok, Err, slice_get, slice_set, refl, sym, ◌∙◌, subst, arith, rules}
 use Rattle.std.proofs.lemmas.Option.{same_Some}
 use Rattle.jc_base.specs.declared.record.MethodRec.{MethodRec}
 use Rattle.jc_base.specs.declared.ty.Ty.{Ty}
@@ -51,20 +51,14 @@ module _ (t : ClassTable) (are : IsOrderOfTypes t) (mode : Mode) where
   cells-unique : (x : ℕ) (cells : Cells) (regs f g : List Ty) → WritesCells t mode x cells regs f → WritesCells t mode x cells regs g → f ≡ g
   cells-unique x y regs f g u v = grind (arith, writes-unique)
 
-frame-eta : (f : Frame) (regs stack : List Ty) → f.regs ≡ regs → f.stack ≡ stack → f ≡ record { regs = regs; stack = stack }
-frame-eta f regs stack e h = ap (λ x. record { regs = x; stack = f.stack }) e ∙ ap (λ x. record { regs = regs; stack = x }) h
-
-outcome-eta : (o p : Outcome) → o.falls ≡ p.falls → o.ends ≡ p.ends → o.depth ≡ p.depth → o.wrote ≡ p.wrote → o.rose ≡ p.rose → o ≡ p
-outcome-eta o p falls ends depth wrote rose = grind (arith)
-
 -- ---- an operation
 
 module _ (w : Linked) (are : IsOrderOfTypes w.classes) (limit : ℕ) (op : Operation) (mode : Mode) (before : Frame) where
   frames-agree : {f g : Frame} {o p : Outcome} → OperationApplies w limit op mode before f o → OperationApplies w limit op mode before g p → f ≡ g
-  frames-agree {f} {g} a b = grind (arith, frame-eta, cells-unique)
+  frames-agree {f} {g} a b = grind (arith, cells-unique)
 
   outcomes-agree : {f g : Frame} {o p : Outcome} → OperationApplies w limit op mode before f o → OperationApplies w limit op mode before g p → o ≡ p
-  outcomes-agree {f} {g} {o} {p} a b = grind (arith, outcome-eta, frames-agree)
+  outcomes-agree {f} {g} {o} {p} a b = grind (arith, frames-agree)
 
   faults-agree : {fault other : RuleFault} → OperationRefuses w limit op before fault → OperationRefuses w limit op before other → fault ≡ other
   faults-agree (unmet b) (unmet c) = breaks-unique w.classes before b c

@@ -1,7 +1,7 @@
 -- What an instruction asks suffices for what it does: the cells and registers are there, and what it gives is known.
 use Rattle.std.proofs.Common.{◌≡◌, ℕ, ◌+◌, ◌-◌, ◌<◌, ◌≤◌, List, [], ◌∷◌, ◌++◌, length, take, drop, map, reverse, rules}
 use Rattle.std.proofs.Common.{get_or, Option, Some, None, IsSomeAnd, IfSome, slice_get, All}
-use Rattle.std.proofs.Common.{refl, sym, subst, arith, cond, Bool, true, false}
+use Rattle.std.proofs.Common.{refl, arith, cond, Bool, true, false}
 use Rattle.std.proofs.Common.{if◌then◌else◌, length-append, length-take, length-drop}
 use Rattle.std.specs.Bool.{⊤}
 use Rattle.std.proofs.lemmas.List.{length-map, length-reverse}
@@ -38,8 +38,7 @@ use Rattle.jc_ops.specs.declared.operation.Operation.{Operation}
 use Rattle.jc_ops.specs.declared.operation.Operation.TheVariants as ops
 use Rattle.jc_ops.specs.declared.want.Want.{Want}
 use Rattle.jc_ops.specs.declared.want.Want.TheVariants.{Value, Storable, AnyArray, Whole}
-use Rattle.jc_ops.specs.declared.operation.Callee.{Callee}
-use Rattle.jc_ops.specs.Sound.{IsKnownWant, IsNamedType, IsCalleeOf, IsResult, receiver_count, IsSound}
+use Rattle.jc_ops.specs.Sound.{IsKnownWant, IsNamedType, IsSound}
 use Rattle.jc_rules.specs.declared.demand.Demand.{Demand}
 use Rattle.jc_rules.specs.declared.demand.Demand.TheVariants.{Cell}
 use Rattle.jc_rules.specs.declared.effect.Cells.{Cells}
@@ -60,7 +59,7 @@ use Rattle.jc_rules.specs.Rule.{branch_effect, field_read_demands, field_read_ef
 use Rattle.jc_rules.specs.Rule.{field_write_demands, field_write_effect, cells_wanted, call_demands}
 use Rattle.jc_rules.specs.Rule.{call_effect, ready_with, result_given, result_at}
 use Rattle.jc_rules.specs.Rule.{seen, type_test_effect, array_wanted, return_demands, return_effect, demands, effect}
-use Rattle.jc_rules.specs.Known.{IsValue, IsKnownCallee, IsKnownOperation}
+use Rattle.jc_rules.specs.Known.{IsValue, IsKnownOperation}
 use Rattle.jc_rules.specs.Flow.{IsNotFresh, IsNotTop}
 use Rattle.jc_rules.specs.Laws.{IsNotBottom}
 use Rattle.jc_rules.proofs.Falls.{plain_class, top_not_below_class}
@@ -175,12 +174,9 @@ pub record Suits (t : ClassTable) (f : Frame) (e : Effect) : Type 0 where
   pub stored : CellsKept t e.store.cells
   pub change : ChangeKnown t e.change
 
-cell_there_at : (xs : List Ty) (n : ℕ) (P : Ty → Type 0) (o : Option Ty) → slice_get xs n ≡ o → IsSomeAnd o P → n + 1 ≤ length xs
-cell_there_at xs n z u e h = grind (arith, slice_get_within)
-
 module _ (t : ClassTable) (f : Frame) where
   pub cell-there : (xs : List Ty) (n : ℕ) (P : Ty → Type 0) → IsSomeAnd (slice_get xs n) P → n + 1 ≤ length xs
-  cell-there xs n P h = cell_there_at xs n P (slice_get xs n) refl h
+  cell-there xs n P h = grind (arith, slice_get, slice_get_within)
 
   pub suits-replacing : (taken : ℕ) (cells : Cells) → taken ≤ length f.stack → CellsKnown t cells → Suits t f (replacing taken cells)
   suits-replacing taken cells h k = record { there = h; inside = omega arith; stored = tt; change = k }
@@ -351,15 +347,8 @@ module _ (t : ClassTable) (objects : IsClass t (object t)) where
   seen-known : (ty : Ty) → IsNamedType t ty → IsKnown t (seen t ty) × IsValue (seen t ty)
   seen-known x h = grind (arith, standing-class)
 
-result-full : (t : ClassTable) (o : Option Ty) → IfSome o (IsResult t) → IfSome o (λ ty. IsKnown t ty × IsValue ty)
-result-full t y h = grind (arith, declared-full)
-
--- what a sound operation speaks of is known
-callee-known : (w : Linked) (c : Callee) → IsCalleeOf w c → IsKnownCallee w c
-callee-known w c h = (subst (λ o. IsSomeAnd o (λ m. length m.sig.args + receiver_count c.receiver ≤ 255)) (sym h.is_method) h.room, h.known)
-
 pub sound-known : (w : Linked) (m : MethodRec) (place : ℕ) (op : Operation) → IsSound w m place op → IsKnownOperation w op
-sound-known w m place u h = grind (arith, declared-full, callee-known, result-full)
+sound-known w m place u h = grind (arith, declared-full, length)
 
 module _ (w : Linked) (is : IsWorld w) (f : Frame) (k : AreKnown w.classes f) where
   suits-nothing : Suits w.classes f (replacing 0 given.Nothing)

@@ -189,10 +189,6 @@ low_is : (b : Ty) → LowUp b → IsNotTop b → b ≡ IntLow
 unfolding LowUp
 low_is x h n = grind (arith)
 
-high_is : (b : Ty) → HighUp b → IsNotTop b → b ≡ IntHigh
-unfolding HighUp
-high_is x h n = grind (arith)
-
 plain_with : (taken : ℕ) (cells : Cells) (want : Want) (a : Ty) → IsNotFresh a → ready_with taken cells a want ≡ Replace taken cells
 unfolding IsNullDown
 plain_with taken cells want u h = grind (arith)
@@ -223,7 +219,7 @@ module _ (t : ClassTable) where
 
   high_above : {b : Ty} → Below t IntHigh b → IsNotTop b → b ≡ IntHigh
   unfolding HighUp
-  high_above {b = b} p n = high_is b (high-up t p tt) n
+  high_above {b = b} p n = grind (arith, high-up)
 
   pub half-up : (a : Ty) {b : Ty} → Below t a b → IsNotTop b → IsHalf a → IsHalf b
   half-up x p n h = grind (arith, high_above, low_above)

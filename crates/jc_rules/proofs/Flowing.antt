@@ -58,13 +58,9 @@ top-is-bottom w m frames ty = record {
         let le = start-below w.classes m.rec in
         record { regs = cells-trans w.classes le.regs h.regs; stack = cells-trans w.classes le.stack h.stack }
 
--- two frames below each other
-frames-apart : (t : ClassTable) → IsOrderOfTypes t → (f g : Frame) → FrameBelow t f g → FrameBelow t g f → f ≡ g
-frames-apart t are f g p q = grind (arith, cells-apart)
-
 below-both : (t : ClassTable) → IsOrderOfTypes t → (o p : Option Frame) → IsSomeAnd o (λ f. IsSomeAnd p (FrameBelow t f))
     → IsSomeAnd p (λ g. IsSomeAnd o (FrameBelow t g)) → o ≡ p
-below-both t are z p h k = grind (arith, frames-apart)
+below-both t are z p h k = grind (arith, cells-apart)
 
 pub least-is-one : (w : Linked) → IsOrderOfTypes w.classes → LeastIsOne w
 least-is-one w are m unset frames others one other p reached =

@@ -24,20 +24,17 @@ use Rattle.jc_rules.specs.declared.effect.Mode.TheVariants.{Card}
 use Rattle.jc_rules.specs.Effect.{in_stack_order, changed, cells_needed, depth_after, reg}
 use Rattle.jc_rules.specs.Effect.{WritesRegister, WritesCells, StoresInRegisters, raises_register}
 use Rattle.jc_rules.specs.Demand.{Frame, Meets, Satisfies, SatisfiesAll}
-use Rattle.jc_rules.specs.Rule.{on_stack, replacing, or_null, ready_with, call_effect, wrote, demands, effect}
+use Rattle.jc_rules.specs.Rule.{call_effect, wrote, demands, effect}
 use Rattle.jc_rules.specs.Rule.{receiver_wanted}
-use Rattle.jc_rules.specs.Footprint.{cells_asked, registers_asked, registers_read, IsInFrame, AreInFrame, footprint_of, cells_taken}
+use Rattle.jc_rules.specs.Footprint.{cells_asked, registers_asked, registers_read, IsInFrame, AreInFrame, cells_taken}
 use Rattle.jc_rules.specs.Footprint.{cells_given, MetIsThere, AskedIsThere, AgreeOn, OperationReads, OperationLeaves, FootprintIsOne}
-use Rattle.jc_rules.specs.Footprint.{OperationNamesNone, LeavesAlike, AlikeLeaveAlike}
+use Rattle.jc_rules.specs.Footprint.{OperationNamesNone, AlikeLeaveAlike}
 use Rattle.jc_rules.proofs.Effects.{suits, sound-known, length-changed}
 
 -- ---- what is asked
 
-read-there : (xs : List Ty) (n : ℕ) (P : Ty → Type 0) (o : Option Ty) → slice_get xs n ≡ o → IsSomeAnd o P → n < length xs
-read-there xs n z u e h = grind (arith, slice_get_within)
-
 met-there : (t : ClassTable) (f : Frame) (d : Demand) → Satisfies t f d → IsInFrame (length f.regs) (length f.stack) d
-met-there t f z h = grind (arith, read-there, slice_get)
+met-there t f z h = grind (arith, slice_get, slice_get_within)
 
 pub met-is-there : (w : Linked) → MetIsThere w
 met-is-there w f [] h = tt
@@ -100,29 +97,13 @@ call-alike : (args : List Ty) (result : Option Ty) (receiver : Option Want) (f g
     ≡ call_effect args result receiver g
 call-alike args result z f g e = grind (arith)
 
-load-alike : (w : Linked) (x : ℕ) (f g : Frame) → reg f.regs x ≡ reg g.regs x → effect w (ops.Load sorts.Reference x) f
-    ≡ effect w (ops.Load sorts.Reference x) g
-load-alike w x f g e = ap (λ ty. replacing 0 (given.One (or_null ty))) e
-
-done-alike : (w : Linked) (op : Operation) (f g : Frame) → f.stack ≡ g.stack → AgreeOn (registers_read (demands w op)) f.regs g.regs
-    → effect w op f ≡ effect w op g
-done-alike w y f g e a = grind (arith, load-alike, reg-alike, call-alike, slice_get)
-
 pub operation-reads : (w : Linked) → OperationReads w
-operation-reads w op f g stack registers agree = grind (arith, reads-hold, done-alike)
+operation-reads w op f g stack registers agree = grind (arith, reads-hold, reg-alike, call-alike, slice_get)
 
 -- ---- the footprint of each frame
 
-ready-footprint : (taken : ℕ) (cells : Cells) (found : Ty) (want : Want) → footprint_of (on_stack (ready_with taken cells found want))
-    ≡ record { taken = taken; given = length (in_stack_order cells); register = 0; written = 0 }
-ready-footprint taken cells z want = grind (arith)
-
-call-footprint : (args : List Ty) (result : Option Ty) (receiver : Option Want) (f g : Frame) → footprint_of (call_effect args result receiver f)
-    ≡ footprint_of (call_effect args result receiver g)
-call-footprint args result z f g = grind (arith, ready-footprint)
-
 pub footprint-is-one : (w : Linked) → FootprintIsOne w
-footprint-is-one w y f = grind (arith, call-footprint, slice_get)
+footprint-is-one w y f = grind (arith, slice_get)
 
 -- ---- what is left
 
@@ -187,11 +168,8 @@ operation-names-none w limit op before after o regs none a =
 
 -- ---- operations that are equal but for registers
 
-leaves-self : (w : Linked) (op : Operation) → LeavesAlike w op op
-leaves-self w op = record { cells = refl; taken = refl; given = refl; written = refl; falls = refl; jumps = refl; ends = refl }
-
 pub alike-leave-alike : (w : Linked) → AlikeLeaveAlike w
-alike-leave-alike w _ _ (equal {op = op}) = leaves-self w op
+alike-leave-alike w _ _ (equal {op = op}) = grind (arith)
 alike-leave-alike w _ _ (loads {s = sorts.Reference}) = grind (arith)
 alike-leave-alike w _ _ (loads {s = sorts.Short}) = record { cells = refl; taken = refl; given = refl; written = refl; falls = refl; jumps = refl; ends = refl }
 alike-leave-alike w _ _ (loads {s = sorts.Int}) = record { cells = refl; taken = refl; given = refl; written = refl; falls = refl; jumps = refl; ends = refl }

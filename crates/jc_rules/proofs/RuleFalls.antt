@@ -1,5 +1,5 @@
 -- The rule of an instruction that applies to a frame applies in the dataflow to each lesser one, with a lesser result.
-use Rattle.std.proofs.Common.{ℕ, zero, suc, ◌+◌, ◌-◌, ◌≤◌, List, [], ◌∷◌, length, arith}
+use Rattle.std.proofs.Common.{ℕ, zero, suc, ◌+◌, ◌≤◌, List, [], ◌∷◌, length, arith}
 use Rattle.std.proofs.Common.{reverse, get_or, Option, Some, None, IsSomeAnd, slice_get, All, refl, sym, subst}
 use Rattle.jc_base.specs.declared.ty.Ty.{Ty}
 use Rattle.jc_base.specs.declared.ty.Ty.TheVariants.{Short, Top}

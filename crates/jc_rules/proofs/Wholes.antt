@@ -43,7 +43,7 @@ use Rattle.jc_rules.specs.declared.demand.Demand.TheVariants.{Cell, Held}
 use Rattle.jc_rules.specs.declared.effect.Cells.{Cells}
 use Rattle.jc_rules.specs.declared.effect.Cells.TheVariants as given
 use Rattle.jc_rules.specs.Effect.{in_stack_order, ready, changed}
-use Rattle.jc_rules.specs.Demand.{Frame, IsHalf, IsArrayOrNull, IsFreshOf, Meets, Splits, SatisfiesAll}
+use Rattle.jc_rules.specs.Demand.{Frame, IsHalf, Meets, Splits, SatisfiesAll}
 use Rattle.jc_rules.specs.Rule.{constant_effect, load_demands, load_effect, store_demands}
 use Rattle.jc_rules.specs.Rule.{store_effect, increment_effect, move_demands, move_effect}
 use Rattle.jc_rules.specs.Rule.{arithmetic_demands, arithmetic_effect, array_read_demands}
@@ -168,19 +168,13 @@ TakesNoHalf : Want → Type 0
 TakesNoHalf (Value ty) = (¬ (IsHalf ty)) × IsNotTop ty
 TakesNoHalf _ = Unit {0}
 
-array-half : (ty : Ty) → IsArrayOrNull ty → ¬ (IsHalf ty)
-array-half x h = grind (arith)
-
-fresh-half : (c : ℕ) (ty : Ty) → IsFreshOf c ty → ¬ (IsHalf ty)
-fresh-half c y h = grind (arith)
-
 module _ (t : ClassTable) where
   below-half : (a b : Ty) → Below t a b → ¬ (IsHalf b) → IsNotTop b → ¬ (IsHalf a)
   below-half a b le n top = λ h. n (half-up t a le top h)
 
   met-half : (want : Want) (found : Ty) → TakesNoHalf want → Meets t want found → ¬ (IsHalf found)
   unfolding TakesNoHalf
-  met-half x found h m = grind (arith, below-half, array-half, fresh-half)
+  met-half x found h m = grind (arith, below-half)
 
   low-not_high : Below t IntLow IntHigh → ⊥
   unfolding LowUp

@@ -1,5 +1,5 @@
-ghost use Rattle.std.specs.Prelude.{◌≡◌, ◌↔◌, ◌≤◌, ◌<◌, length, reverse, IsTrue, All, slice_get, MatchOption, MatchResult, IfSome, IsSomeAnd};
-ghost use Rattle.jc_base.specs.Class.{ClassTable, IsClass, object};
+ghost use Rattle.std.specs.Prelude.{◌≡◌, ◌↔◌, ◌<◌, reverse, IsTrue, slice_get, MatchOption, MatchResult, IfSome, IsSomeAnd};
+ghost use Rattle.jc_base.specs.Class.{IsClass, object};
 ghost use Rattle.jc_base.specs.Order.{IsKnown};
 ghost use Rattle.jc_base.specs.declared.ty.Ty.TheVariants.{IntLow, IntHigh};
 ghost use Rattle.jc_ops.specs.declared.want.Want.TheVariants.{Value};

@@ -1,10 +1,10 @@
-ghost use Rattle.std.specs.Prelude.{◌≡◌, ◌+◌, ◌≤◌, ◌<◌, ◌++◌, ◌∷◌, [], length, reverse, MatchResult, IfSome, All};
+ghost use Rattle.std.specs.Prelude.{◌≡◌, ◌+◌, ◌<◌, ◌∷◌, []};
 ghost use Rattle.jc_base.specs.Class.{IsClass, object, throwable};
 ghost use Rattle.jc_base.specs.declared.ty.Ty.TheVariants.{Class};
 ghost use Rattle.jc_base.specs.Order.{IsKnown};
 ghost use Rattle.jc_ops.specs.declared.want.Want.TheVariants.{Value};
 ghost use Rattle.jc_rules.specs.declared.demand.Demand.TheVariants.{Cell};
-ghost use Rattle.jc_rules.specs.Demand.{AreKnown, SatisfiesAll, IsFirstUnmet, frame, IsJudged};
+ghost use Rattle.jc_rules.specs.Demand.{AreKnown, frame, IsJudged};
 ghost use Rattle.jc_ops.specs.Sound.{IsKnownWant};
 ghost use Rattle.jc_rules.specs.Rule.{a_reference, element, array_wanted, array_read_demands, array_read_effect, array_write_demands, array_write_effect, branch_demands, branch_effect, value_given, value_wanted, value_size, field_read_demands, field_read_effect, field_write_demands, field_write_effect, type_test_effect, replacing, number, size};
 

@@ -1,6 +1,5 @@
-ghost use Rattle.std.specs.Prelude.{◌≡◌, ◌≤◌, ◌<◌, length, take, drop, reverse, sum_by, All, IfOk, MatchBool, if◌then◌else◌, ◌||◌};
+ghost use Rattle.std.specs.Prelude.{◌≡◌, ◌≤◌, ◌<◌, length, take, drop, reverse, sum_by, All, MatchBool, if◌then◌else◌, ◌||◌};
 ghost use Rattle.jc_base.specs.Order.{IsKnown, rises_left};
-ghost use Rattle.jc_rules.specs.Demand.{Frame};
 ghost use Rattle.jc_rules.specs.Flow.{CellsJoin, IsNotTop};
 ghost use Rattle.jc_rules.specs.Held.{IsParted, parted, lent};
 ghost use Rattle.jc_rules.specs.Typing.{IsMerged, RaisesOrStays};

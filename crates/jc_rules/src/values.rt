@@ -1,9 +1,9 @@
-ghost use Rattle.std.specs.Prelude.{◌≡◌, ◌+◌, ◌≤◌, ◌<◌, length, reverse};
+ghost use Rattle.std.specs.Prelude.{◌≡◌, ◌+◌, ◌≤◌, ◌<◌, reverse};
 ghost use Rattle.jc_ops.specs.declared.operation.Sort.TheVariants as sorts;
 ghost use Rattle.jc_rules.specs.Demand.{AreKnown, frame, IsChecked, IsJudged};
 ghost use Rattle.jc_ops.specs.Sound.{IsMove};
 ghost use Rattle.jc_rules.specs.Effect.{reg};
-ghost use Rattle.jc_rules.specs.Rule.{cell, or_null, number, number_given, size, value_given, value_wanted, value_size, replacing, constant_effect, load_demands, load_effect, store_demands, store_effect, increment_demands, increment_effect, move_demands, move_effect, arithmetic_demands, arithmetic_effect, on_stack, storing, a_reference, two_numbers};
+ghost use Rattle.jc_rules.specs.Rule.{cell, or_null, number, number_given, size, replacing, constant_effect, load_demands, load_effect, store_demands, store_effect, increment_demands, increment_effect, move_demands, move_effect, arithmetic_demands, arithmetic_effect, on_stack, storing, a_reference, two_numbers};
 
 use crate::demand::{Before, Demand};
 use crate::effect::{Cells, Change, Effect, RegisterStore};
