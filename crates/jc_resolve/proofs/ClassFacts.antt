@@ -1,6 +1,6 @@
 -- Everything in named classes is a number of a class or a method.
-use Rattle.std.proofs.Common.{◌≡◌, ℕ, ◌+◌, ◌≤◌, ◌<◌, Bool, true, false, eqb, List, [], ◌∷◌, length, get_or, map, take, Option, Some}
-use Rattle.std.proofs.Common.{None, option_map, option_and_then, position, if◌then◌else◌, sym, ap, subst, ◌∙◌, arith, inl, inr}
+use Rattle.std.proofs.Common.{◌≡◌, ℕ, ◌+◌, ◌≤◌, ◌<◌, Bool, true, false, eqb, List, [], ◌∷◌, length, get_or, map, Option, Some}
+use Rattle.std.proofs.Common.{None, option_map, position, if◌then◌else◌, sym, ap, subst, ◌∙◌, arith, inl, inr}
 use Rattle.std.specs.Prelude.{All, IfSome, slice_get, flat_map}
 use Rattle.std.specs.List.{cons_option}
 use Rattle.std.proofs.lemmas.Bool.{false≢true}
@@ -9,12 +9,9 @@ use Rattle.std.proofs.lemmas.List.Elements.{All-nil, All-cons, All-head, All-tai
 use Rattle.std.proofs.lemmas.List.Quantifiers.{position-Some}
 use Rattle.std.proofs.lemmas.Option.{slice_get-map, slice_get_cases}
 use Rattle.jc_base.specs.declared.record.Iface.{Iface}
-use Rattle.cap_bytes.specs.declared.class_reference.ClassReference.{ClassReference}
-use Rattle.cap_bytes.specs.ClassReference.{reference_of}
 use Rattle.cap_class.specs.ClassFormat as format
 use Rattle.cap_class.specs.ClassFormat.{Interface}
 use Rattle.cap_desc.specs.DescriptorFormat.{FieldDescriptor}
-use Rattle.cap_frame.specs.PackageFormat.{Package}
 use Rattle.cap_package.specs.Descriptions.{Description, field_type}
 use Rattle.cap_package.specs.PackageRecord.{PackageRecord}
 use Rattle.cap_desc.specs.declared.type_item.TypeItem.{TypeItem}
@@ -23,7 +20,7 @@ use Rattle.jc_resolve.specs.declared.place.RecordPlace.{RecordPlace}
 use Rattle.jc_resolve.specs.Numbering.{NumberedClass, numbered_class, numbered_classes_of, classes_after}
 use Rattle.jc_resolve.specs.Numbering.{numbered_classes, numbered_methods, same_place}
 use Rattle.jc_resolve.specs.Numbering.{place_of_class, class_places, class_at}
-use Rattle.jc_resolve.specs.References.{meets_import, met_by, import_of, class_named, Refers}
+use Rattle.jc_resolve.specs.References.{met_by, class_named}
 use Rattle.jc_resolve.specs.NamedClasses.{by_token, cells_by, cells_of_field, cells_of_fields}
 use Rattle.jc_resolve.specs.NamedClasses.{instance_fields, dispatch_entry, dispatch_table, interface_named}
 use Rattle.jc_resolve.specs.NamedClasses.{implemented_interfaces, parent_named, named_interface, named_proper, named_class, named_classes}
@@ -69,17 +66,9 @@ package_at ps object place c h =
     ∙ home_by ps object (slice_get (numbered_classes ps) c) f.0 (sym (slice_get-map place_of_class (numbered_classes ps) c) ∙ f.1)
     ∙ ap (λ (q : RecordPlace). q.package) same
 
-met_by_earlier : (ps : List PackageRecord) (k j : ℕ) (o : Option Package) → option_and_then (λ asked. position (meets_import asked) (take k ps)) o
-    ≡ Some j → j < k
-met_by_earlier ps k j u h = grind (arith, position_below, length-take)
-
 met_earlier : (ps : List PackageRecord) (k token j : ℕ) → met_by ps k token ≡ Some j → j < k
 unfolding met_by
-met_earlier ps k token j h = met_by_earlier ps k j (import_of ps k token) h
-
-refers_earlier : (ps : List PackageRecord) (object k : ℕ) (reference : ClassReference) (c : ℕ) → Refers ps k reference c
-    → package_of (named_classes ps object) c ≤ k
-refers_earlier ps object k reference c w = grind (arith, package_at, met_earlier)
+met_earlier ps k token j h = grind (arith, position_below, length-take)
 
 -- ---- classes
 
@@ -103,7 +92,7 @@ module _ (ps : List PackageRecord) (object : ℕ) where
 
   named_earlier : (k reference : ℕ) (o : Option ℕ) → class_named ps k reference ≡ o → IsEarlier k o
   named_earlier k reference None e = tt
-  named_earlier k reference (Some c) e = refers_earlier ps object k (reference_of reference) c (named-refers ps k reference c e)
+  named_earlier k reference (Some c) e = grind (arith, named-refers, package_at, met_earlier)
 
   pub parent_earlier : (k reference : ℕ) → IsEarlier k (parent_named ps k reference)
   parent_earlier k reference = grind (arith, eqb, named_earlier)

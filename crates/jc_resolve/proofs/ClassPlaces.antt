@@ -16,7 +16,6 @@ use Rattle.jc_resolve.specs.declared.place.RecordPlace.{RecordPlace}
 use Rattle.jc_resolve.specs.Named.{IsAgreed}
 use Rattle.jc_resolve.specs.Numbering.{NumberedClass, numbered_class, numbered_classes_of, classes_after, place_of_class, class_places}
 use Rattle.jc_resolve.proofs.Pairwise.{Pairwise, pairwise-append, one-place}
-use Rattle.jc_resolve.specs.Numbering.{numbered_classes}
 use Rattle.jc_resolve.proofs.Repeats.{goes_on}
 
 -- ---- one component

@@ -27,9 +27,6 @@ use Rattle.jc_resolve.proofs.NumberLaws.{class_below}
 pub either : {X : Type 0} (P : X → Type 0) (b : Bool) (x y : X) → P x → P y → P (if b then x else y)
 either x y x2 y2 p q = grind (arith)
 
-no-half-first : (a : Ty) → IsNoHalf a → IsFirstCell a
-no-half-first a h = grind (arith)
-
 -- ---- numbers of named classes
 
 pub named-length : (ps : List PackageRecord) (object : ℕ) → length (named_classes ps object) ≡ length (numbered_classes ps)
@@ -123,7 +120,7 @@ module _ (ps : List PackageRecord) (object : ℕ) where
 
   first_by : (k : ℕ) (t : TypeItem) (b : Bool) → eqb t.nibble 5 ≡ b → IsFirstCell (type_of ps object k t)
   unfolding type_of
-  first_by k t z e = grind (arith, no-half-first, not_half)
+  first_by k t z e = grind (arith, not_half)
 
   cells_whole : (k : ℕ) (t : TypeItem) (b : Bool) (rest : List Ty) → eqb t.nibble 5 ≡ b → AreWhole rest
       → AreWhole (cells_of_type ps object k t ++ rest)

@@ -11,7 +11,6 @@ use Rattle.first_fault.proofs.LeastFaults.{faultless_first}
 use Rattle.cap_class.specs.ClassFormat.{Class}
 use Rattle.cap_desc.specs.DescriptorFormat as described
 use Rattle.cap_package.specs.NameChecks.{undescribed_fault}
-use Rattle.cap_components.specs.declared.fault.PackFault.{PackFault}
 use Rattle.cap_package.specs.PackageRecord.{PackageRecord}
 use Rattle.cap_package.proofs.Agreed.{agrees}
 use Rattle.cap_package.proofs.StaticsKnown.{three_empty}
@@ -127,13 +126,10 @@ record-found ds offset =
 
 -- ---- each class is described once
 
-once-by : (n : ℕ) (f : PackFault) (b : Bool) → eqb n 1 ≡ b → cond b None (Some f) ≡ None → n ≡ 1
-once-by n f z e h = grind (arith, eqb-true)
-
 module _ (ds : List described.ClassDescriptor) where
   once : (c : Class) → undescribed_fault ds c ≡ None → IsDescribedOnce ds c
   unfolding undescribed_fault
-  once c h = once-by (count_by (describes_at c.offset) ds) _ _ refl h
+  once c h = grind (arith, eqb-true)
 
   each_once : (cs : List Class) → filter_map (undescribed_fault ds) cs ≡ [] → AreDescribedOnce ds cs
   each_once [] e = tt {0}

@@ -1,5 +1,5 @@
 -- The type of a world that an item stands for is of the item's kind.
-use Rattle.std.proofs.Common.{◌≡◌, ℕ, zero, suc, ◌≤◌, Bool, true, false, ◌&&◌, ◌||◌, eqb, leb, refl, arith}
+use Rattle.std.proofs.Common.{◌≡◌, ℕ, zero, suc, ◌≤◌, true, false, eqb, leb, refl, arith}
 use Rattle.std.specs.Prelude.{List}
 use Rattle.std.proofs.lemmas.Bool.{leb-true}
 use Rattle.jc_base.specs.Cell.{IsOfKind}
@@ -8,11 +8,8 @@ use Rattle.cap_desc.specs.TypeFormat.{is_type}
 use Rattle.cap_package.specs.PackageRecord.{PackageRecord}
 use Rattle.jc_resolve.specs.WorldTypes.{type_of, kind_of}
 
-two_ranges : (n : ℕ) (a b c d : Bool) → leb n 6 ≡ b → leb n 14 ≡ d → ((a && b) || (c && d)) ≡ true → n ≤ 14
-two_ranges n y b c d e f h = grind (arith, leb-true)
-
 type_small : (n : ℕ) → is_type n ≡ true → n ≤ 14
-type_small n h = two_ranges n (leb 1 n) (leb n 6) (leb 10 n) (leb n 14) refl refl h
+type_small n h = grind (arith, leb, leb-true)
 
 by_nibble : (ps : List PackageRecord) (object k n r : ℕ) → is_type n ≡ true → eqb n 1 ≡ false
     → IsOfKind (kind_of (record { nibble = n; class_ref = r })) (type_of ps object k (record { nibble = n; class_ref = r }))

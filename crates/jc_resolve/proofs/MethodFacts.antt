@@ -1,5 +1,5 @@
 -- What holds of the methods that the Descriptor of a package describes, since its parts agree.
-use Rattle.std.proofs.Common.{◌≡◌, ℕ, ◌+◌, ◌≤◌, Bool, not, ◌&&◌, ◌||◌, ltb, eqb, cond, List, [], length}
+use Rattle.std.proofs.Common.{◌≡◌, ℕ, ◌+◌, ◌≤◌, Bool, ltb, eqb, List, [], length}
 use Rattle.std.proofs.Common.{Option, Some, None, refl, sym, ap, arith}
 use Rattle.std.specs.Prelude.{All, MatchBool}
 use Rattle.std.specs.List.{enumerate_from, filter_map}
@@ -7,7 +7,6 @@ use Rattle.std.proofs.lemmas.Bool.{ltb-false, eqb-true, eqb-false}
 use Rattle.cap_method.specs.MethodFormat.{Header}
 use Rattle.cap_desc.specs.DescriptorFormat.{MethodDescriptor}
 use Rattle.cap_desc.specs.Members.{methods_of}
-use Rattle.cap_components.specs.declared.fault.PackFault.{PackFault}
 use Rattle.cap_package.specs.Descriptions.{Description, argument_words}
 use Rattle.cap_package.specs.HandlerChecks.{numbered_fault}
 use Rattle.cap_package.specs.HeaderChecks.{header_in, is_abstract, registers_fault, length_fault}
@@ -30,19 +29,6 @@ use Rattle.jc_resolve.proofs.OwnedHandlers.{LiesIn, handlers-lie}
 abbrev pub HasLength : Bool → ℕ → Type 0
 HasLength abstract count = MatchBool abstract (count ≡ 0) (IsCodeLength count)
 
-code_length : (n : ℕ) (f : PackFault) (a b : Bool) → eqb n 0 ≡ a → ltb 32767 n ≡ b → cond (a || b) (Some f) None ≡ None → IsCodeLength n
-code_length n f z b e g none = grind (arith, eqb-false, ltb-false)
-
-no_length : (n : ℕ) (f : PackFault) (b : Bool) → eqb n 0 ≡ b → cond (not b) (Some f) None ≡ None → n ≡ 0
-no_length n f z e none = grind (arith, eqb-true)
-
-has_length : (n : ℕ) (f g : PackFault) (abstract : Bool) → cond (abstract && not (eqb n 0)) (Some f) None ≡ None
-    → cond (not abstract && (eqb n 0 || ltb 32767 n)) (Some g) None ≡ None → HasLength abstract n
-has_length n f g u none some = grind (arith, no_length, eqb, code_length, ltb)
-
-same_words : (h w : ℕ) (f : PackFault) (b : Bool) → eqb h w ≡ b → cond b None (Some f) ≡ None → h ≡ w
-same_words h w f u e none = grind (arith, eqb-true)
-
 -- ---- words
 
 -- the argument words that a method's descriptor tells, and that they are no more than some
@@ -51,12 +37,9 @@ pub record HasWords (d : Description) (m : MethodDescriptor) (most : ℕ) : Type
   pub told : argument_words d m.type_offset ≡ Some words
   pub few : words ≤ most
 
-words_at_most : (f : PackFault) (most w : ℕ) (b : Bool) → ltb most w ≡ b → cond b (Some f) None ≡ None → w ≤ most
-words_at_most f most w u e none = grind (arith, ltb-false)
-
 words_by : (d : Description) (m : MethodDescriptor) (most : ℕ) (o : Option ℕ) → argument_words d m.type_offset ≡ o
     → method_type_by most m.type_offset o ≡ None → HasWords d m most
-words_by d m most u e none = grind (arith, words_at_most, ltb)
+words_by d m most u e none = grind (arith, ltb, ltb-false)
 
 words_told : (d : Description) (m : MethodDescriptor) (most : ℕ) → method_type_fault d most m ≡ None → HasWords d m most
 unfolding method_type_fault
@@ -81,12 +64,12 @@ pub record IsPlaced (p : PackageRecord) (m : MethodDescriptor) : Type 0 where
 length_of : (info : List ℕ) (m : MethodDescriptor) (h : Header) → header_in info m.method_offset ≡ Some h → abstract_fault info m ≡ None
     → length_fault info m ≡ None → HasLength (is_abstract h) m.bytecode_count
 unfolding abstract_fault length_fault
-length_of info m h at none some = grind (arith, has_length)
+length_of info m h at none some = grind (arith, eqb, ltb, eqb-false, ltb-false, eqb-true)
 
 nargs_of : (info : List ℕ) (d : Description) (m : MethodDescriptor) (h : Header) (words : ℕ) → header_in info m.method_offset ≡ Some h
     → argument_words d m.type_offset ≡ Some words → arguments_fault info d m ≡ None → h.nargs ≡ words + this_words m
 unfolding arguments_fault
-nargs_of info d m h words at told none = grind (arith, same_words, eqb)
+nargs_of info d m h words at told none = grind (arith, eqb, eqb-true)
 
 begins_at : (info : List ℕ) (m : MethodDescriptor) (x : HasHeader info m.method_offset) → code_start info m ≡ m.method_offset + x.header.size
 unfolding code_start

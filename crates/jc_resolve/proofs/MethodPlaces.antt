@@ -25,7 +25,7 @@ use Rattle.jc_resolve.specs.Named.{IsAgreed}
 use Rattle.jc_resolve.specs.NamedMethods.{named_method, named_methods}
 use Rattle.jc_resolve.specs.Numbering.{NumberedMethod, numbered_method, is_placed, methods_of_class}
 use Rattle.jc_resolve.specs.Numbering.{methods_of_classes, methods_after, numbered_methods}
-use Rattle.jc_resolve.specs.Numbering.{place_of_method, method_places}
+use Rattle.jc_resolve.specs.Numbering.{place_of_method}
 use Rattle.jc_resolve.specs.OwnPlaces.{HaveOwnPlaces}
 use Rattle.jc_resolve.proofs.ClassPlaces.{classes_apart}
 use Rattle.jc_resolve.proofs.Faultless.{both_faultless}
@@ -270,10 +270,6 @@ at_place : (o : Option NumberedMethod) (place : RecordPlace) → option_map plac
     × (o ≡ Some m) × At place m
 at_place x place h = grind (arith)
 
-headers_apart : (ps : List PackageRecord) → All IsAgreed ps → (i j : ℕ) (place : RecordPlace) → slice_get (method_places ps) i ≡ Some (Some place)
-    → slice_get (method_places ps) j ≡ Some (Some place) → i ≡ j
-headers_apart ps agreed i j place e f = grind (arith, slice_get-map, one-place, packages_differ)
-
 -- the numbers of a method are those of its record
 pub record HasNumbers (m : NumberedMethod) (r : MethodRec) : Type 0 where
   pub home : m.home ≡ r.«package»
@@ -304,4 +300,4 @@ numbers_apart ps roles i j a b e f home class method =
 
 -- classes and methods of packages whose parts agree have places and numbers of their own
 pub own_places : (ps : List PackageRecord) (roles : List ℕ) → All IsAgreed ps → HaveOwnPlaces ps (named_methods ps roles)
-own_places ps roles agreed = grind (arith, classes_apart, headers_apart, numbers_apart)
+own_places ps roles agreed = grind (arith, classes_apart, numbers_apart, slice_get-map, one-place, packages_differ)

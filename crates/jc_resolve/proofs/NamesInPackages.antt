@@ -1,9 +1,8 @@
 -- Names of packages name classes and methods of theirs alone.
-use Rattle.std.proofs.Common.{◌≡◌, ℕ, List, length, Result, Ok, Err, sym, subst, arith}
+use Rattle.std.proofs.Common.{◌≡◌, ℕ, List, Result, Ok, Err, sym, subst, arith}
 use Rattle.std.specs.Prelude.{All, IfOk, slice_index}
 use Rattle.std.proofs.lemmas.List.{length-map}
 use Rattle.cap_package.specs.PackageRecord.{PackageRecord}
-use Rattle.jc_resolve.specs.declared.fault.LinkFault.{LinkFault}
 use Rattle.jc_resolve.specs.declared.fault.LinkEnd.{LinkEnd}
 use Rattle.jc_resolve.specs.Conditions.{conditions}
 use Rattle.first_fault.specs.Least.{◌>>=◌}
@@ -12,7 +11,7 @@ use Rattle.jc_resolve.specs.Named.{IsAgreed, IsSized, AreNamed, infos_of}
 use Rattle.jc_resolve.specs.NamedClasses.{named_classes}
 use Rattle.jc_resolve.specs.NamedMethods.{HasFewHandlers, named_methods}
 use Rattle.jc_resolve.specs.Due.{IsDue}
-use Rattle.jc_resolve.specs.Names.{NamesRecord, named, checked, names_of}
+use Rattle.jc_resolve.specs.Names.{NamesRecord, named, names_of}
 use Rattle.jc_resolve.proofs.ClassFacts.{classes-named}
 use Rattle.jc_resolve.proofs.NamedMethodLaws.{methods-named}
 use Rattle.jc_resolve.proofs.NamesTold.{names_told}
@@ -20,20 +19,14 @@ use Rattle.jc_resolve.specs.OwnPlaces.{HaveOwnPlaces}
 use Rattle.jc_resolve.proofs.MethodPlaces.{own_places}
 use Rattle.jc_resolve.proofs.Totals.{named_methods_many}
 
-infos_many : (ps : List PackageRecord) → length (infos_of ps) ≡ length ps
-infos_many ps = length-map ps (λ (p : PackageRecord). p.methods.info)
-
 names_right : (ps : List PackageRecord) (roles : List ℕ) → All IsAgreed ps → All HasFewHandlers ps → AllEmpty (conditions ps)
     → All IsSized (named_classes ps (slice_index roles 0))
     → AreNamed (infos_of ps) (slice_index roles 0) (named_classes ps (slice_index roles 0)) (named_methods ps roles)
-names_right ps roles agreed few none sized = grind (arith, infos_many, named_methods_many, classes-named, methods-named)
-
-answer_by : (r : Result (Unit {0}) LinkFault) (n m : NamesRecord) → (r >>= λ done. Ok n) ≡ Ok m → n ≡ m
-answer_by x n m h = grind (arith)
+names_right ps roles agreed few none sized = grind (arith, named_methods_many, classes-named, methods-named, length-map)
 
 answer_named : (ps : List PackageRecord) (roles : List ℕ) (n : NamesRecord) → names_of ps roles ≡ Ok n → named ps roles ≡ n
 unfolding names_of
-answer_named ps roles n h = answer_by (checked ps) (named ps roles) n h
+answer_named ps roles n h = grind (arith)
 
 -- the names that are answered, where the parts of the packages agree, are right
 pub answer_right : (ps : List PackageRecord) (roles : List ℕ) (answer : Result NamesRecord LinkEnd) → IsDue (names_of ps roles) answer

@@ -31,15 +31,12 @@ checked-told : (ps : List PackageRecord) → IsTold link_place (checked ps) (con
 unfolding checked
 checked-told ps = grind (arith, groups-told, indexable-told, things-told)
 
-accepted_by : (r : Result (Unit {0}) LinkFault) (n m : NamesRecord) → (r >>= λ done. Ok n) ≡ Ok m → r ≡ Ok (tt {0})
-accepted_by x n m h = grind (arith)
-
 refused_by : (r : Result (Unit {0}) LinkFault) (n : NamesRecord) (f : LinkFault) → (r >>= λ done. Ok n) ≡ Err f → r ≡ Err f
 refused_by x n f h = grind (arith)
 
 pub names_told : (ps : List PackageRecord) (roles : List ℕ) (answer : Result NamesRecord LinkEnd) → IsDue (names_of ps roles) answer
     → TellsNames ps answer
 unfolding names_of
-names_told ps roles (Ok m) h = accepted-empty link_place (conditions ps) (sym (checked-told ps).same ∙ accepted_by (checked ps) (named ps roles) m h)
+names_told ps roles (Ok m) h = accepted-empty link_place (conditions ps) (sym (checked-told ps).same ∙ (grind (arith)))
 names_told ps roles (Err (Fault f)) h = refused-first link_place (conditions ps) f (sym (checked-told ps).same ∙ refused_by (checked ps) (named ps roles) f h)
 names_told ps roles (Err Memory) h = tt

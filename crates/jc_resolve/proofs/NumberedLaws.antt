@@ -14,14 +14,8 @@ use Rattle.jc_resolve.proofs.Faultless.{IsOneOf, one_of_front, one_of_after}
 
 -- ---- the methods of classes
 
-in_both : {X : Type 0} (b : Bool) (xs ys : List X) (x : X) → b ≡ true → IsOneOf xs x → IsOneOf (cond b (xs ++ ys) ys) x
-in_both x xs ys x2 e h = grind (arith, one_of_front, false≢true)
-
 in_rest : {X : Type 0} (b : Bool) (xs ys : List X) (x : X) → IsOneOf ys x → IsOneOf (cond b (xs ++ ys) ys) x
 in_rest x xs ys x2 h = grind (arith, one_of_after)
-
-in_else : {X : Type 0} (b : Bool) (xs ys : List X) (x : X) → b ≡ false → IsOneOf xs x → IsOneOf (cond b ys (xs ++ ys)) x
-in_else x xs ys x2 e h = grind (arith, false≢true, one_of_front)
 
 in_later : {X : Type 0} (b : Bool) (xs ys : List X) (x : X) → IsOneOf ys x → IsOneOf (cond b ys (xs ++ ys)) x
 in_later x xs ys x2 h = grind (arith, one_of_after)
@@ -36,13 +30,13 @@ module _ (interfaces : ℕ → Bool) where
   pub from-class : (cs : List described.ClassDescriptor) (c : described.ClassDescriptor) (m : MethodDescriptor) → IsOneOf cs c
       → interfaces c.class_ref ≡ false → IsOneOf c.methods m → IsOneOf (methods_but interfaces cs) m
   from-class [] c m one e h = absurd one
-  from-class (d ∷ ds) c m (inl same) e h = grind (arith, in_else)
+  from-class (d ∷ ds) c m (inl same) e h = grind (arith, false≢true, one_of_front)
   from-class (d ∷ ds) c m (inr one) e h = in_later (interfaces d.class_ref) d.methods (methods_but interfaces ds) m (from-class ds c m one e h)
 
   pub from-interface : (cs : List described.ClassDescriptor) (c : described.ClassDescriptor) (m : MethodDescriptor) → IsOneOf cs c
       → interfaces c.class_ref ≡ true → IsOneOf c.methods m → IsOneOf (methods_in interfaces cs) m
   from-interface [] c m one e h = absurd one
-  from-interface (d ∷ ds) c m (inl same) e h = grind (arith, in_both)
+  from-interface (d ∷ ds) c m (inl same) e h = grind (arith, one_of_front, false≢true)
   from-interface (d ∷ ds) c m (inr one) e h = in_rest (interfaces d.class_ref) d.methods (methods_in interfaces ds) m (from-interface ds c m one e h)
 
 -- ---- numbered methods

@@ -1,5 +1,5 @@
 -- Several items of one kind: what holds of each, and how many bytes they take.
-use Rattle.std.proofs.Common.{◌≡◌, ℕ, zero, suc, ◌+◌, ◌≤◌, Bool, leb, List, [], ◌∷◌, length, Some, None, cond, Ok, Err}
+use Rattle.std.proofs.Common.{◌≡◌, ℕ, zero, suc, ◌+◌, ◌≤◌, List, [], ◌∷◌, length, Ok, Err}
 use Rattle.std.proofs.Common.{refl, sym, ap, subst, arith}
 use Rattle.std.proofs.lemmas.Bool.{leb-true}
 use Rattle.std.proofs.lemmas.List.Elements.{All-nil}
@@ -40,16 +40,12 @@ pub record LiesWithin (bytes : List ℕ) (at n after : ℕ) : Type 0 where
   pub room : n + at ≤ after
   pub reach : after ≤ length bytes
 
-number_reach : (b : Bool) (x w at n : ℕ) (bytes : List ℕ) → leb (at + w) (length bytes) ≡ b → cond b (Some x) None ≡ Some n
-    → at + w ≤ length bytes
-number_reach x x2 w at n bytes e h = grind (arith, leb-true)
-
 -- the place after what is spelled does not lie before it
 pub goes_on : {X : Type 0} (g : Grammar X) (bytes : List ℕ) (at : ℕ) (x : X) (after : ℕ) → at ≤ length bytes → Spells g bytes at x after
     → LiesWithin bytes at 0 after
 unfolding Spells
 goes_on (give y) bytes at x after le h = record { room = omega (arith, h.1); reach = omega (arith, h.1) }
-goes_on (number w wrong) bytes at n after le h = grind (arith, number_reach)
+goes_on (number w wrong) bytes at n after le h = grind (arith, leb-true)
 goes_on (piece n) bytes at x after le h = record { room = omega (arith, h.2); reach = omega (arith, h.2, h.0) }
 goes_on remaining bytes at x after le h = record { room = omega (arith, h.1); reach = omega (arith, h.1) }
 goes_on place bytes at x after le h = record { room = omega (arith, h.1); reach = omega (arith, h.1) }

@@ -1,7 +1,7 @@
 ghost use Rattle.std.specs.Prelude.{◌≡◌, ◌≤◌, ◌++◌, length, map, flat_map, slice_index, All, IfOk, OnOk};
 ghost use Rattle.cap_bytes.specs.Table.{numbers};
 ghost use Rattle.cap_class.specs.ClassFormat.{Interface};
-ghost use Rattle.cap_class.specs.ClassPart.{class_seen, classes_left};
+ghost use Rattle.cap_class.specs.ClassPart.{class_seen};
 ghost use Rattle.cap_class.specs.Lists.{interfaces_left};
 ghost use Rattle.first_fault.specs.Least.{least_from};
 ghost use Rattle.jc_resolve.specs.Conditions.{super_references, references_of_class, references_of_classes, no_class_fault, named_in};

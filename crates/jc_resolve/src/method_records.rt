@@ -1,10 +1,9 @@
 ghost use Rattle.std.specs.Prelude.{◌≡◌, ◌+◌, ◌≤◌, ◌<◌, [], ◌∷◌, ◌++◌, length, map, take, drop, All, IfOk, IfSome, OnOk, flat_map};
 ghost use Rattle.offset_set.specs.Bits.{holds};
-ghost use Rattle.cap_desc.specs.ClassRecords.{described_class_seen, described_left};
-ghost use Rattle.cap_desc.specs.MemberLists.{methods_left};
+ghost use Rattle.cap_desc.specs.ClassRecords.{described_class_seen};
 ghost use Rattle.cap_desc.specs.MemberRecords.{method_seen};
 ghost use Rattle.cap_method.specs.MethodPart.{handlers_left, header_seen};
-ghost use Rattle.cap_package.specs.PackageRecord.{PackageRecord, names_interface};
+ghost use Rattle.cap_package.specs.PackageRecord.{names_interface};
 ghost use Rattle.first_fault.specs.Least.{least_from};
 ghost use Rattle.jc_resolve.specs.Conditions.{references_of_method, no_class_fault, named_in};
 ghost use Rattle.jc_resolve.specs.Fault.{link_place};
