@@ -1,4 +1,5 @@
 -- An analysis from visit to visit, and its end.
+use Rattle.std.proofs.Common.{arith}
 use Rattle.std.proofs.Common.{◌≡◌, ℕ, ◌+◌, Option, Some, None, IsSome, IfSome, length, refl, subst, sym}
 use Rattle.jc_base.specs.declared.ty.Ty.TheVariants.{Top}
 use Rattle.jc_base.specs.World.{Linked}
@@ -28,16 +29,13 @@ module _ (w : Linked) (order : IsOrderOfCells w.classes) (m : Method) (p : ℕ) 
 pub least-found : (w : Linked) → AreRules w → (m : Method) → IsMethodOf w m → IsWellFormed m → (found end : Found) → end ≡ found
     → AreHeld w m found → AreClosed w m found → NonePending found
     → At (state_at found.states) 0 (FrameBelow w.classes (start_frame m.rec Top)) → IsLeastTyping w m Top (state_at end.states)
-least-found w is m mo formed found end e held closed none start =
-    subst (λ (x : Found). IsLeastTyping w m Top (state_at x.states)) (sym e) (settled-least w is m mo found formed held closed none start)
+least-found w is m mo formed found end e held closed none start = grind (arith, settled-least)
 
 some-there : {f : Frame} (o : Option Frame) → o ≡ Some f → IsSome o
-some-there None e = cc
-some-there (Some f) e = refl
+some-there x e = grind (arith)
 
 is-there : (o : Option Frame) → IsSome o → (f : Frame) × (o ≡ Some f)
-is-there None h = absurd (cc)
-is-there (Some f) h = (f, refl)
+is-there x h = grind (arith)
 
 -- the places with a frame are those that control reaches
 pub reached-are : (w : Linked) → AreRules w → (m : Method) → IsMethodOf w m → IsWellFormed m → (found end : Found) → end ≡ found

@@ -1,6 +1,6 @@
 -- The begin of an analysis: an empty table, and the frame of the method's start.
-use Rattle.std.proofs.Common.{◌≡◌, ℕ, zero, suc, ◌⊎◌, inl, inr, false, length, replicate, Option, Some, None, IsSomeAnd, refl, sym, ◌∙◌, ap}
-use Rattle.std.proofs.Common.{subst, arith}
+use Rattle.std.proofs.Common.{◌≡◌, ℕ, zero, suc, ◌⊎◌, inl, inr, false, length, replicate, Option, None, IsSomeAnd, refl, sym, ◌∙◌, ap}
+use Rattle.std.proofs.Common.{arith}
 use Rattle.std.proofs.lemmas.List.{length-replicate}
 use Rattle.std.proofs.lemmas.Option.{none-some}
 use Rattle.std.proofs.lemmas.List.Elements.{All-nil}
@@ -10,9 +10,8 @@ use Rattle.jc_rules.specs.Demand.{Frame}
 use Rattle.jc_control.specs.Method.{Method, IsMethodOf}
 use Rattle.jc_control.specs.WellFormed.{IsWellFormed}
 use Rattle.jc_rules.specs.Flow.{IsNotTop, IsNotFresh, start_frame, derived_start}
-use Rattle.jc_rules.specs.Typing.{state_at, Clashes}
+use Rattle.jc_rules.specs.Typing.{state_at}
 use Rattle.jc_flow.specs.declared.table.PutEnd.{PutEnd}
-use Rattle.jc_flow.specs.declared.table.PutEnd.TheVariants.{Clash, Memory}
 use Rattle.jc_flow.specs.Found.{Found, IsPending, Prevents}
 use Rattle.jc_flow.specs.Progress.{IsHeld, AreHeld, IsClosed, AreClosed}
 use Rattle.jc_flow.specs.Fails.{IsFailure}
@@ -31,11 +30,7 @@ nothing-at (suc n) (suc p) = nothing-at n p
 
 module _ (w : Linked) (m : Method) where
   pub empty-held : (found : Found) → found ≡ empty (length m.code) → AreHeld w m found
-  empty-held found e = subst (AreHeld w m) (sym e) (record {
-    places = length-replicate (length m.code) None;
-    flags = length-replicate (length m.code) false;
-    held = λ p f h. absurd (none-some _ (sym (nothing-at (length m.code) p) ∙ h));
-  })
+  empty-held found e = grind (arith, length-replicate, length, none-some, nothing-at)
 
   pub start-held : InstructionsArePlaced → IsMethodOf w m → IsWellFormed m → IsHeld w m 0 (start_frame m.rec Top)
   start-held placed mo formed = record {
@@ -54,12 +49,8 @@ module _ (w : Linked) (m : Method) where
       by (inl same) = absurd (none-some _ (sym (nothing-at (length m.code) p) ∙ ap (λ (x : Found). state_at x.states p) (sym e) ∙ sym same ∙ h))
 
   none-there : (P : Frame → Type 0) (o : Option Frame) → o ≡ None → IsSomeAnd o P → ⊥
-  none-there P None e h = h
-  none-there P (Some f) e h = none-some _ (sym e)
+  none-there x x2 e h = grind (arith, none-some)
 
   pub begin-failed : (old : Found) (f : Frame) (end : PutEnd) → old ≡ empty (length m.code) → Prevents w.classes old 0 f end
       → IsFailure w m (broken_at 0 end)
-  begin-failed old f Memory e h = tt
-  begin-failed old f Clash e h =
-      absurd (none-there (λ g. Clashes w.classes g f) (state_at old.states 0) (ap (λ (x : Found). state_at x.states 0) e ∙ nothing-at (length m.code) 0)
-      h)
+  begin-failed old f x e h = grind (arith, none-there, nothing-at, length)

@@ -1,8 +1,8 @@
 -- What holds of each derived frame, and that each flow typing is above it.
 use Rattle.std.proofs.Common.{◌≡◌, ℕ, ◌+◌, [], ◌∷◌, length, All, Option}
-use Rattle.std.proofs.Common.{Some, None, IsSomeAnd, refl, ◌∙◌, subst, arith}
+use Rattle.std.proofs.Common.{Some, IsSomeAnd, ◌∙◌, subst, arith}
 use Rattle.std.specs.List.{Contains}
-use Rattle.std.proofs.lemmas.List.Elements.{All-contains, All-nil, All-cons}
+use Rattle.std.proofs.lemmas.List.Elements.{All-contains, All-nil}
 use Rattle.jc_base.specs.declared.ty.Ty.TheVariants.{Class, Top}
 use Rattle.jc_base.specs.declared.record.Handler.{Handler}
 use Rattle.jc_base.specs.Order.{IsKnown}
@@ -28,16 +28,13 @@ use Rattle.jc_rules.proofs.Starts.{own-class, start-all, start-counted}
 
 pub some_both : {X : Type 0} (P Q R : X → Type 0) (o : Option X) → ((x : X) → o ≡ Some x → P x → Q x → R x) → IsSomeAnd o P
     → IsSomeAnd o Q → IsSomeAnd o R
-some_both P Q R None f p q = p
-some_both P Q R (Some x) f p q = f x refl p q
+some_both x x2 x22 x222 f p q = grind (arith)
 
 pub some_to : {X : Type 0} (P : X → Type 0) (R : Type 0) (o : Option X) → ((x : X) → o ≡ Some x → P x → R) → IsSomeAnd o P → R
-some_to P R None f p = absurd p
-some_to P R (Some x) f p = f x refl p
+some_to x x2 x22 f p = grind (arith)
 
 pub some_map : {X : Type 0} (P Q : X → Type 0) (o : Option X) → ((x : X) → P x → Q x) → IsSomeAnd o P → IsSomeAnd o Q
-some_map P Q None f p = p
-some_map P Q (Some x) f p = f x p
+some_map x x2 x22 f p = grind (arith)
 
 pub some_at : {X : Type 0} (P : X → Type 0) {o : Option X} {x : X} → o ≡ Some x → IsSomeAnd o P → P x
 some_at P {o} {x} e h = subst (λ r. IsSomeAnd r P) e h
@@ -73,28 +70,13 @@ module _ (w : Linked) (is : AreRules w) (m : Method) (mo : IsMethodOf w m) where
   }
 
   pub caught-fine : (h : Handler) (f : Frame) → Contains m.rec.handlers h → IsFine f → IsFine (caught_frame h f)
-  caught-fine h f c fine = record {
-    known = record {
-      few = fine.known.few;
-      regs = fine.known.regs;
-      stack = All-cons (IsKnown w.classes) (Class h.class) [] (handler_of h c).class (All-nil (IsKnown w.classes));
-      object = fine.known.object;
-    };
-    count = fine.count;
-    no_fresh = fine.no_fresh;
-    no_bottom = All-cons IsNotBottom (Class h.class) [] tt (All-nil IsNotBottom);
-  }
+  caught-fine h f c fine = grind (arith, handler_of h c)
 
   pub step-keeps : (i : Placed) (f g : Frame) → IsFine f → FlowSteps w m i f g → Keeps w f g
   step-keeps i f g fine s = is.keeps (site_of m i.place) i.insn Flow f g s.0 fine.known (at-site w m mo s.1)
 
   pub step-fine : (i : Placed) (f g : Frame) → IsFine f → FlowSteps w m i f g → IsFine g
-  step-fine i f g fine s = let k = step-keeps i f g fine s in record {
-    known = k.known;
-    count = k.count ∙ fine.count;
-    no_fresh = k.no_fresh fine.no_fresh;
-    no_bottom = k.no_bottom fine.no_bottom;
-  }
+  step-fine i f g fine s = grind (arith, step-keeps i f g fine s)
 
   pub joined-fine : (f g j : Frame) → IsFine f → IsFine g → Merges w.classes f g j → IsFine j
   joined-fine f g j a b merges = record {
@@ -143,9 +125,7 @@ module _ (w : Linked) (is : AreRules w) (m : Method) (mo : IsMethodOf w m) where
 
     -- what the rule gives for the lesser frame is below what it gives for the greater one
     pub step-below : (i : Placed) (f g : Frame) → (s : Follows i f) → FlowSteps w m i f g → FrameBelow w.classes g s.followed.after
-    step-below i f g s steps =
-        subst (λ x. FrameBelow w.classes x s.followed.after) ((is.decides (site_of m i.place) i.insn Flow f).one s.fallen.applies (at-site w m mo steps.1))
-        s.fallen.lower
+    step-below i f g s steps = grind (arith, at-site)
 
     pub record IsUnder (p : ℕ) (f : Frame) : Type 0 where
       pub reached : IsReached m p
@@ -169,12 +149,4 @@ module _ (w : Linked) (is : AreRules w) (m : Method) (mo : IsMethodOf w m) where
               some_map (FrameBelow w.classes follow.followed.after) (FrameBelow w.classes g) (frames q)
               (λ k above. frame-trans w.classes is.order (step-below i f g follow s) above) (follow.followed.below q to);
         }
-    derived-under (derived_joined {p} {f} {g} {j} d e merges) =
-        let u = derived-under d in
-        let v = derived-under e in
-        record {
-          reached = u.reached;
-          below = some_both (FrameBelow w.classes f) (FrameBelow w.classes g) (FrameBelow w.classes j) (frames p)
-              (λ k there a b. record { regs = join-least w.classes merges.regs a.regs b.regs; stack = join-least w.classes merges.stack a.stack b.stack })
-              u.below v.below;
-        }
+    derived-under (derived_joined {p} {f} {g} {j} d e merges) = grind (arith, some_both, join-least, derived-under d, derived-under e)

@@ -1,8 +1,9 @@
 -- Frames are ordered cell by cell, and joined cell by cell.
+use Rattle.std.proofs.Common.{arith}
 use Rattle.std.proofs.Common.{◌≡◌, ℕ, true, List, length, All, sym}
 use Rattle.std.proofs.lemmas.List.Elements.{All-nil, All-cons, All-head, All-tail}
 use Rattle.jc_base.specs.declared.ty.Ty.{Ty}
-use Rattle.jc_base.specs.declared.ty.Ty.TheVariants.{Bottom, Short, IntHigh, IntLow, Null, Class, ArrBool, ArrByte, ArrShort, ArrInt, ArrRef, Fresh, Top}
+use Rattle.jc_base.specs.declared.ty.Ty.TheVariants.{Fresh, Top}
 use Rattle.jc_base.specs.Class.{ClassTable}
 use Rattle.jc_base.specs.Laws.{IsOrderOfTypes}
 use Rattle.jc_base.specs.Order.{Below, IsJoin, is_below}
@@ -63,64 +64,16 @@ module _ (t : ClassTable) where
 
     over_top : (b : Ty) → is_below t Top b ≡ true → IsNotTop b → ⊥
     unfolding is_below
-    over_top Top e n = n
-    over_top Bottom e n = absurd (cc)
-    over_top Short e n = absurd (cc)
-    over_top IntHigh e n = absurd (cc)
-    over_top IntLow e n = absurd (cc)
-    over_top Null e n = absurd (cc)
-    over_top (Class c) e n = absurd (cc)
-    over_top ArrBool e n = absurd (cc)
-    over_top ArrByte e n = absurd (cc)
-    over_top ArrShort e n = absurd (cc)
-    over_top ArrInt e n = absurd (cc)
-    over_top (ArrRef c) e n = absurd (cc)
-    over_top (Fresh p c) e n = absurd (cc)
+    over_top x e n = grind (arith)
 
     -- what is below a type that is not Top is not Top
     pub topless-falls : (a b : Ty) → Below t a b → IsNotTop b → IsNotTop a
-    topless-falls Top b h n = over_top b ((are.decided Top b).1 h) n
-    topless-falls Bottom b h n = tt
-    topless-falls Short b h n = tt
-    topless-falls IntHigh b h n = tt
-    topless-falls IntLow b h n = tt
-    topless-falls Null b h n = tt
-    topless-falls (Class c) b h n = tt
-    topless-falls ArrBool b h n = tt
-    topless-falls ArrByte b h n = tt
-    topless-falls ArrShort b h n = tt
-    topless-falls ArrInt b h n = tt
-    topless-falls (ArrRef c) b h n = tt
-    topless-falls (Fresh p c) b h n = tt
+    topless-falls x b h n = grind (arith, over_top)
 
     over_fresh : (p c : ℕ) (b : Ty) → is_below t (Fresh p c) b ≡ true → IsNotFresh b → IsNotTop b → ⊥
     unfolding is_below
-    over_fresh p c Top e f n = n
-    over_fresh p c (Fresh q d) e f n = f
-    over_fresh p c Bottom e f n = absurd (cc)
-    over_fresh p c Short e f n = absurd (cc)
-    over_fresh p c IntHigh e f n = absurd (cc)
-    over_fresh p c IntLow e f n = absurd (cc)
-    over_fresh p c Null e f n = absurd (cc)
-    over_fresh p c (Class d) e f n = absurd (cc)
-    over_fresh p c ArrBool e f n = absurd (cc)
-    over_fresh p c ArrByte e f n = absurd (cc)
-    over_fresh p c ArrShort e f n = absurd (cc)
-    over_fresh p c ArrInt e f n = absurd (cc)
-    over_fresh p c (ArrRef d) e f n = absurd (cc)
+    over_fresh p c x e f n = grind (arith)
 
     -- what is below a type that is neither is no uninitialised object
     pub ready-falls : (a b : Ty) → Below t a b → IsReady b → IsNotFresh a
-    ready-falls (Fresh p c) b h n = over_fresh p c b ((are.decided (Fresh p c) b).1 h) n.0 n.1
-    ready-falls Top b h n = tt
-    ready-falls Bottom b h n = tt
-    ready-falls Short b h n = tt
-    ready-falls IntHigh b h n = tt
-    ready-falls IntLow b h n = tt
-    ready-falls Null b h n = tt
-    ready-falls (Class c) b h n = tt
-    ready-falls ArrBool b h n = tt
-    ready-falls ArrByte b h n = tt
-    ready-falls ArrShort b h n = tt
-    ready-falls ArrInt b h n = tt
-    ready-falls (ArrRef c) b h n = tt
+    ready-falls x b h n = grind (arith, over_fresh)

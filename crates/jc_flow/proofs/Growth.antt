@@ -59,12 +59,7 @@ pending-left found p q n h = get_or-set_other found.pending p q false false n �
 
 module _ (t : ClassTable) (order : IsOrderOfCells t) (most : ℕ) where
   pub grown-same : (found : Found) → Grown t most found found
-  grown-same found = record {
-    above = λ p f e. IsSomeAnd-from (FrameBelow t f) _ _ e (frame-same t order f);
-    stays = λ p. inl refl;
-    keeps = λ p h. h;
-    less = omega arith;
-  }
+  grown-same found = grind (arith, frame-same)
 
   pub at-above : (old new : Found) (f : Frame)
       → ((p : ℕ) (f : Frame) → state_at old.states p ≡ Some f → At (state_at new.states) p (FrameBelow t f)) → (p : ℕ)
@@ -126,26 +121,11 @@ module _ (t : ClassTable) (order : IsOrderOfCells t) (most : ℕ) where
 
   pub lands-grown : {old new : Found} {place : ℕ} {f : Frame} → place < length old.states → place < length old.pending → rises_of t f < most
       → Lands t old place f new → Grown t most old new
-  lands-grown {old} {new} {place} {f} inside flag less (comes_first e is) =
-      subst (Grown t most old) (sym is) (set-grown old place f inside flag None e less (λ g none. absurd (none-some none)))
-  lands-grown {old} {new} {place} {f} inside flag less (stays g e merges is) = subst (Grown t most old) (sym is) (grown-same old)
-  lands-grown {old} {new} {place} {f} inside flag less (rises g j e merges lt is) =
-      subst (Grown t most old) (sym is)
-      (set-grown old place j inside flag (Some g) e lt
-      (λ k same. subst (λ x. FrameBelow t x j) (some-one same) (record { regs = join-left t merges.regs; stack = join-left t merges.stack })))
+  lands-grown {old} {new} {place} {f} inside flag less x = grind (arith, set-grown, none-some, grown-same, some-one, join-left)
 
   pub lands-above : {old new : Found} {place : ℕ} {f : Frame} → place < length old.states → Lands t old place f new
       → At (state_at new.states) place (FrameBelow t f)
-  lands-above {old} {new} {place} {f} inside (comes_first e is) =
-      subst (λ x. At (state_at x.states) place (FrameBelow t f)) (sym is)
-      (IsSomeAnd-from (FrameBelow t f) _ _ (state_at-here old.states place f inside) (frame-same t order f))
-  lands-above {old} {new} {place} {f} inside (stays g e merges is) =
-      subst (λ x. At (state_at x.states) place (FrameBelow t f)) (sym is)
-      (IsSomeAnd-from (FrameBelow t f) _ _ e (record { regs = join-right t merges.regs; stack = join-right t merges.stack }))
-  lands-above {old} {new} {place} {f} inside (rises g j e merges lt is) =
-      subst (λ x. At (state_at x.states) place (FrameBelow t f)) (sym is)
-      (IsSomeAnd-from (FrameBelow t f) _ _ (state_at-here old.states place j inside)
-      (record { regs = join-right t merges.regs; stack = join-right t merges.stack }))
+  lands-above {old} {new} {place} {f} inside x = grind (arith, state_at-here, frame-same, join-right)
 
 -- ---- frames that may stand where they stand
 
@@ -200,8 +180,7 @@ module _ (w : Linked) (order : IsOrderOfCells w.classes) (ready_joins : JoinsSta
 
   module _ (most : ℕ) (old new : Found) (p : ℕ) (grown : Grown w.classes most (taken_up old p) new) (closed : AreClosed w m old) where
     other-closed : (q : ℕ) (g : Frame) → q ≢ p → IsPending old q ⊎ IsClosed w m old q g → IsPending new q ⊎ IsClosed w m new q g
-    other-closed q g n (inl k) = inl (grown.keeps q (pending-left old p q n k))
-    other-closed q g n (inr c) = inr (closed-raised old new q g grown.above c)
+    other-closed q g n x = grind (arith, pending-left, closed-raised)
 
     -- the place that was taken is closed, or has no frame
     pub visited : ((f : Frame) → state_at old.states p ≡ Some f → IsClosed w m new p f) → AreClosed w m new

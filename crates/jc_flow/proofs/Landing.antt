@@ -1,5 +1,5 @@
 -- A frame comes to a place of the table.
-use Rattle.std.proofs.Common.{◌≡◌, ℕ, zero, suc, ◌<◌, Bool, true, List, [], ◌∷◌, length, get_or, set, Option, Some, None}
+use Rattle.std.proofs.Common.{◌≡◌, ℕ, zero, suc, ◌<◌, Bool, true, List, [], ◌∷◌, length, get_or, set, Option, Some}
 use Rattle.std.proofs.Common.{IsSomeAnd, IfSome, is_some, refl, sym, ◌∙◌, ap, subst, arith}
 use Rattle.jc_base.specs.Class.{ClassTable}
 use Rattle.jc_rules.specs.Demand.{Frame}
@@ -23,12 +23,10 @@ set-state (x ∷ xs) (suc p) g e = ap (λ (os : List (Option Frame)). x ∷ os) 
 
 -- where a frame stands, this is known of it
 pub known-there : (t : ClassTable) (n : ℕ) (o : Option Frame) → is_some o ≡ true → IfSome o (HasKnown t n) → IsSomeAnd o (HasKnown t n)
-known-there t n None h k = cc
-known-there t n (Some f) h k = k
+known-there t n x h k = grind (arith)
 
 pub some-so : (P Q : Frame → Type 0) (o : Option Frame) → ((f : Frame) → P f → Q f) → IsSomeAnd o P → IsSomeAnd o Q
-some-so P Q None so h = h
-some-so P Q (Some f) so h = so f h
+some-so x x2 x22 so h = grind (arith)
 
 module _ (t : ClassTable) (states new : List (Option Frame)) (pending : List Bool) (p : ℕ) (f : Frame) where
   pub lands_same : IsMergedAt t states p f new Same → Lands t (record { states = states; pending = pending }) p f (record { states = new; pending = pending })

@@ -1,6 +1,6 @@
 -- Where the instruction at the place of a frame leads: what it gives may stand there, or the place fails.
-use Rattle.std.proofs.Common.{◌≡◌, ℕ, ◌+◌, ◌<◌, ◌≤◌, inl, inr, Bool, true, false, List, [], ◌∷◌, length, All, IsTrue, refl}
-use Rattle.std.proofs.Common.{◌∙◌, ap, arith, if◌then◌else◌, map}
+use Rattle.std.proofs.Common.{◌≡◌, ℕ, ◌+◌, ◌<◌, ◌≤◌, inl, inr, Bool, true, List, [], ◌∷◌, length, All, IsTrue, refl}
+use Rattle.std.proofs.Common.{arith, if◌then◌else◌, map}
 use Rattle.std.specs.Prelude.{ℤ, pos, ◌≤ℤ◌, ◌<ℤ◌}
 use Rattle.std.specs.List.{Contains}
 use Rattle.std.proofs.lemmas.List.Elements.{All-contains, All-nil, All-cons}
@@ -32,18 +32,14 @@ use Rattle.jc_flow.proofs.Steps.{stands-here}
 use Rattle.jc_control.proofs.PlacesWithin.{target-range}
 
 pub frame-is : (regs stack : List Ty) (f : Frame) → regs ≡ f.regs → stack ≡ f.stack → ◌≡◌ {A = Frame} (record { regs = regs; stack = stack }) f
-frame-is regs stack f e h =
-    let of_regs : List Ty → Frame = λ xs. record { regs = xs; stack = stack } in
-    let of_stack : List Ty → Frame = λ xs. record { regs = f.regs; stack = xs } in
-    ap of_regs e ∙ ap of_stack h
+frame-is regs stack f e h = grind (arith)
 
 pub goes-same : (w : Linked) → IsOrderOfCells w.classes → (m : Method) (found : Found) → AreHeld w m found → Goes w m found found
 goes-same w order m found h = record { grown = grown-same w.classes order (most_rises w.classes m) found; held = h }
 
 -- what has targets is a branch or a switch
 if-jumps : (b : Bool) (xs : List ℤ) (t : ℤ) → Contains (if b then xs else []) t → b ≡ true
-if-jumps true xs t c = refl
-if-jumps false xs t c = absurd (omega (arith, c.1))
+if-jumps x xs t c = grind (arith)
 
 pub targets-jump : (code : List ℕ) (i : Placed) (t : ℤ) → Contains (targets code i) t → IsTrue (jumps i.insn.op)
 unfolding targets
@@ -79,9 +75,7 @@ module _ (w : Linked) (is : AreRules w) (m : Method) (mo : IsMethodOf w m) (form
       ready
 
   pub target-there : (t : ℤ) → Contains (targets m.code (record { place = p; insn = insn })) t → IsTargetPlace m.code t
-  target-there t c =
-      All-contains (IsTargetPlace m.code) (targets m.code (record { place = p; insn = insn })) t (formed.targets (record { place = p; insn = insn }) stands)
-      c
+  target-there t c = grind (arith, stands)
 
   pub target-held : (q : ℕ) → Contains (targets m.code (record { place = p; insn = insn })) (pos q) → IsHeld w m q g
   target-held q c = step-held q (jumped c) (target-there (pos q) c) (λ l. st.ready (targets-jump m.code (record { place = p; insn = insn }) (pos q) c))

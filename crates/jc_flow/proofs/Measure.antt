@@ -1,5 +1,5 @@
 -- A frame of a method can rise less often than the method's bound.
-use Rattle.std.proofs.Common.{◌≡◌, ℕ, suc, ◌+◌, ◌*◌, ◌<◌, ◌≤◌, List, [], ◌∷◌, length, sum_by, ap, arith}
+use Rattle.std.proofs.Common.{◌≡◌, ℕ, suc, ◌+◌, ◌*◌, ◌<◌, ◌≤◌, List, [], ◌∷◌, length, sum_by, arith}
 use Rattle.std.proofs.Math.Nat.{suc-mul, add-mul, mul-le-mul_right}
 use Rattle.std.proofs.lemmas.List.Sums.{sum_by-cons}
 use Rattle.jc_base.specs.declared.ty.Ty.{Ty}
@@ -13,24 +13,11 @@ use Rattle.jc_flow.specs.Progress.{most_rises}
 
 cells-rise : (t : ClassTable) → IsOrderOfTypes t → (xs : List Ty) → sum_by (rises_left t) xs ≤ length xs * (height t + 3)
 cells-rise t order [] = omega arith
-cells-rise t order (x ∷ xs) =
-    let rest = cells-rise t order xs in
-    let here = order.seldom x in
-    let sum = sum_by-cons (rises_left t) x xs in
-    let more : suc (length xs) * (height t + 3) ≡ length xs * (height t + 3) + (height t + 3) = suc-mul (length xs) (height t + 3) in
-    omega arith
+cells-rise t order (x ∷ xs) = grind (arith, sum_by-cons, suc, length, suc-mul, cells-rise t order xs)
 
 bounded : (a b n c k : ℕ) → a ≡ n → b ≤ c → a * k + b * k < (n + c) * k + 1
-bounded a b n c k e le =
-    let product : (n + c) * k ≡ n * k + c * k = add-mul n c k in
-    let same : a * k ≡ n * k = ap (λ x. x * k) e in
-    let less : b * k ≤ c * k = mul-le-mul_right k le in
-    omega arith
+bounded a b n c k e le = grind (arith, add-mul, mul-le-mul_right)
 
 pub frame-rises : (t : ClassTable) → IsOrderOfTypes t → (m : Method) (f : Frame) → length f.regs ≡ m.rec.nargs + m.rec.max_locals
     → length f.stack ≤ m.rec.max_stack → rises_of t f < most_rises t m
-frame-rises t order m f e le =
-    let regs = cells-rise t order f.regs in
-    let stack = cells-rise t order f.stack in
-    let both = bounded (length f.regs) (length f.stack) (m.rec.nargs + m.rec.max_locals) m.rec.max_stack (height t + 3) e le in
-    omega arith
+frame-rises t order m f e le = grind (arith, cells-rise, bounded, length)

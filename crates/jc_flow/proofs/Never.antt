@@ -59,15 +59,10 @@ module _ (w : Linked) (is : AreRules w) (m : Method) (mo : IsMethodOf w m) (fram
     reached : IsReached m q
 
   above : (q : ℕ) (f : Frame) → IsDerived w m Top q f → Above q f
-  above q f d =
-      let u = derived-under w is m mo frames ty d in
-      some_to (FrameBelow w.classes f) (Above q f) (frames q)
-      (λ g e le. record { frame = g; there = e; below = le; fit = some_at (IsFit m) e (ty.fit q u.reached); reached = u.reached }) u.below
+  above q f d = grind (arith, derived-under w is m mo frames ty d, some_to, some_at)
 
   follow : (i : Placed) (f : Frame) → IsDerived w m Top i.place f → HasInstruction m.code i → Follows w is m mo frames ty i f
-  follow i f d st =
-      let u = derived-under w is m mo frames ty d in
-      followed-below w is m mo frames ty i f (derived-fine w is m mo d) u.reached st u.below
+  follow i f d st = grind (arith, derived-under w is m mo frames ty d, derived-fine w is m mo d, followed-below)
 
   at-instruction : (i : Placed) (p : ℕ) (f : Frame) → i.place ≡ p → IsDerived w m Top p f → IsDerived w m Top i.place f
   at-instruction i p f e d = subst (λ q. IsDerived w m Top q f) (sym e) d
@@ -107,14 +102,10 @@ module _ (w : Linked) (is : AreRules w) (m : Method) (mo : IsMethodOf w m) (fram
       let u = above h.entry (caught_frame h f) (derived_caught d c cov) in
       let v = derived-under w is m mo frames ty od in
       clash-never w.classes is.types is.order other (caught_frame h f) u.frame u.fit.no_top (some_at (FrameBelow w.classes other) u.there v.below) u.below clash
-  fails-never p f fault d (fails_handler h c cov e) =
-      let u = above h.entry (caught_frame h f) (derived_caught d c cov) in
-      absurd (omega (arith, is.order.lengths u.below.stack, u.fit.room, e))
+  fails-never p f fault d (fails_handler h c cov e) = grind (arith, above h.entry (caught_frame h f) (derived_caught d c cov))
 
   pub falls-never : (p : ℕ) → FallsPast w m p → ⊥
-  falls-never p h =
-      let u = derived-under w is m mo frames ty (at-instruction h.instruction p h.frame h.at h.derived) in
-      absurd (omega (arith, ty.stays h.instruction h.stands u.reached h.falls_on, h.past))
+  falls-never p h = grind (arith, derived-under w is m mo frames ty (at-instruction h.instruction p h.frame h.at h.derived))
 
 module _ (w : Linked) (is : AreRules w) (m : Method) (mo : IsMethodOf w m) where
   pub none-where-fails : (p : ℕ) (fault : RuleFault) → FailsAt w m p fault → ¬ (HasFlowTyping w m Top)

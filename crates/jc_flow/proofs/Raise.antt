@@ -1,5 +1,5 @@
 -- A frame that may stand at a place can be put there, and the table grows.
-use Rattle.std.proofs.Common.{◌≡◌, ℕ, ◌<◌, length, All, Option, Some, None, IfSome, Result, Ok, Err, MatchResult, refl, sym, ◌∙◌, subst}
+use Rattle.std.proofs.Common.{◌≡◌, ℕ, ◌<◌, length, All, Option, Some, None, IfSome, Result, Ok, Err, MatchResult, refl, subst}
 use Rattle.std.proofs.Common.{arith}
 use Rattle.jc_base.specs.Order.{IsKnown}
 use Rattle.jc_base.specs.World.{Linked}
@@ -35,9 +35,7 @@ module _ (w : Linked) (is : AreRules w) (m : Method) (mo : IsMethodOf w m) where
 
     there-known : (o : Option Frame) → state_at found.states to ≡ o → IfSome o (HasKnown w.classes (length f.regs))
     there-known None e = tt
-    there-known (Some g) e =
-        let fine = derived-fine w is m mo (held.held to g e).derived in
-        record { count = (derived-fine w is m mo h.derived).count ∙ sym fine.count; regs = fine.known.regs; stack = fine.known.stack }
+    there-known (Some g) e = grind (arith, derived-fine w is m mo (held.held to g e).derived, derived-fine w is m mo h.derived)
 
     pub held-known : IfSome (state_at found.states to) (HasKnown w.classes (length f.regs))
     held-known = there-known (state_at found.states to) refl

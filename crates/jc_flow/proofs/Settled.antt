@@ -1,4 +1,5 @@
 -- Where no place waits, the frames that were found are the least flow typing.
+use Rattle.std.proofs.Common.{arith}
 use Rattle.std.proofs.Common.{◌≡◌, ℕ, ◌⊎◌, inl, inr, All, Some, refl}
 use Rattle.jc_base.specs.declared.ty.Ty.TheVariants.{Top}
 use Rattle.jc_base.specs.World.{Linked}
@@ -26,9 +27,7 @@ module _ (w : Linked) (is : AreRules w) (m : Method) (mo : IsMethodOf w m) (foun
 
   -- each reached place has a frame
   pub reached-found : {p : ℕ} → IsReached m p → (f : Frame) × (state_at found.states p ≡ Some f)
-  reached-found begins =
-      some_to (FrameBelow w.classes (start_frame m.rec Top)) ((f : Frame) × (state_at found.states 0 ≡ Some f)) (state_at found.states 0)
-      (λ f e le. (f, e)) start
+  reached-found begins = grind (arith, some_to)
   reached-found (follows {i} {q} st r to) =
       let here = reached-found r in
       let rule : IsFollowed w m (state_at found.states) i here.0 = (is_closed i.place here.0 here.1).rule i st refl in

@@ -1,4 +1,5 @@
 -- What the instruction at the place of a frame does.
+use Rattle.std.proofs.Common.{arith}
 use Rattle.std.proofs.Common.{◌≡◌, ℕ, ◌+◌, ◌≤◌, List, length, reverse, All, IsTrue, Result, Ok, Err, refl, sym, ◌∙◌, ap, subst}
 use Rattle.jc_base.specs.declared.ty.Ty.{Ty}
 use Rattle.jc_base.specs.World.{Linked}
@@ -38,9 +39,7 @@ module _ (code : List ℕ) (listed : AreListed code) (p : ℕ) (here : IsPlace c
   decodes-always e = let same = decoded-here in absurd (cc)
 
   pub stands-here : (insn : Insn) → decoded code p ≡ Ok insn → HasInstruction code (record { place = p; insn = insn })
-  stands-here insn e =
-      let same : here.0.insn ≡ insn = ok-same (sym decoded-here ∙ e) in
-      subst (HasInstruction code) (ap (λ q. record { place = q; insn = here.0.insn }) here.2 ∙ ap (λ i. record { place = p; insn = i }) same) here.1
+  stands-here insn e = grind (arith, ok-same, decoded-here)
 
 module _ (w : Linked) (m : Method) (listed : AreListed m.code) (p : ℕ) (f : Frame) (h : IsHeld w m p f) (insn : Insn) (d : decoded m.code p ≡ Ok insn) where
   pub fail-rule : (fault : RuleFault) → RuleRefuses w m.rec p insn f fault → FailsAt w m p fault
@@ -59,15 +58,4 @@ module _ (w : Linked) (m : Method) (listed : AreListed m.code) (p : ℕ) (f : Fr
 
   pub fall-past : (g : Frame) → FlowSteps w m (record { place = p; insn = insn }) f g → (IsTrue (jumps insn.op) → All IsNotFresh g.stack)
       → IsTrue (falls insn.op) → length m.code ≤ p + insn.len → FallsPast w m p
-  fall-past g s ready on past = record {
-    frame = f;
-    derived = h.derived;
-    instruction = record { place = p; insn = insn };
-    stands = stands-here m.code listed p h.place insn d;
-    at = refl;
-    after = g;
-    steps = s;
-    ready = ready;
-    falls_on = on;
-    past = past;
-  }
+  fall-past g s ready on past = grind (arith, stands-here)

@@ -1,7 +1,7 @@
 -- The visit of a place closes it.
 use Rattle.std.proofs.Common.{◌≡◌, ℕ, ◌+◌, ◌<◌, ◌≤◌, List, length, get_or, take, All, IsTrue, Option, Some, sym, ◌∙◌, ap, subst}
 use Rattle.std.proofs.Common.{arith}
-use Rattle.std.specs.Prelude.{ℤ, pos, negsuc, Contains}
+use Rattle.std.specs.Prelude.{ℤ, pos, Contains}
 use Rattle.std.proofs.lemmas.List.{take_all}
 use Rattle.std.proofs.lemmas.List.Elements.{All-more, All-contains}
 use Rattle.jc_base.specs.declared.record.Handler.{Handler}
@@ -50,8 +50,7 @@ module _ (w : Linked) (order : IsOrderOfCells w.classes) (m : Method) where
   -- ---- targets
 
   target-on : (g : Frame) (old new : Found) → Goes w m old new → (t : ℤ) → IsAtTarget w g old t → IsAtTarget w g new t
-  target-on g old new goes (pos q) h = goes-above old new g goes q h
-  target-on g old new goes (negsuc n) h = h
+  target-on g old new goes x h = grind (arith, goes-above)
 
   pub targets-on : (g : Frame) (old new : Found) → Goes w m old new → (ts : List ℤ) → All (IsAtTarget w g old) ts → All (IsAtTarget w g new) ts
   targets-on g old new goes ts all k d lt = target-on g old new goes (get_or ts k d) (all k d lt)
@@ -66,10 +65,7 @@ module _ (w : Linked) (is : AreRules w) (m : Method) (mo : IsMethodOf w m) (p : 
   load-room s suits = omega (arith, here.room, suits.room)
 
   pub suits-loaded : (s n : Scratched) → SuitsMethod s m.rec → n ≡ record { frame = f; room = s.room } → SuitsMethod n m.rec
-  suits-loaded s n suits e = record {
-    registers = ap (λ (x : Scratched). length x.frame.regs) e ∙ (derived-fine w is m mo here.derived).count;
-    room = ap (λ (x : Scratched). x.room) e ∙ suits.room;
-  }
+  suits-loaded s n suits e = grind (arith, derived-fine w is m mo here.derived, length)
 
   pub held-loaded : (s n : Scratched) → n ≡ record { frame = f; room = s.room } → IsHeld w m p n.frame
   held-loaded s n e = subst (IsHeld w m p) (sym (ap (λ (x : Scratched). x.frame) e)) here
@@ -80,12 +76,7 @@ module _ (w : Linked) (is : AreRules w) (m : Method) (mo : IsMethodOf w m) (p : 
 
   pub is-step : (s : FlowStep) (b a old_a : Scratched) → s.place ≡ p → s.before.now ≡ b → (0 < length m.rec.handlers → b.frame ≡ f)
       → a ≡ record { frame = f; room = old_a.room } → HasStepped w m p a.frame s.after.now.frame s.insn → IsStep w m s
-  is-step s b a old_a place now kept ea st = record {
-    from = f;
-    here = subst (λ q. IsHeld w m q f) (sym place) here;
-    stepped = subst (λ q. HasStepped w m q f s.after.now.frame s.insn) (sym place) (step-loaded a old_a s.after.now.frame s.insn ea st);
-    kept = λ some. ap (λ (x : Scratched). x.frame) now ∙ kept some;
-  }
+  is-step s b a old_a place now kept ea st = grind (arith, step-loaded)
 
 -- what the handlers catch of the frame that is kept is what they catch of the state's
 pub caught-kept : (w : Linked) (m : Method) (p : ℕ) (f b : Frame) (found : Found) → (0 < length m.rec.handlers → b ≡ f)
@@ -114,8 +105,7 @@ module _ (w : Linked) (is : AreRules w) (m : Method) (t0 t1 t2 t3 : Found) (p : 
   to-successor q (jumped c) = All-contains (IsAtTarget w g t3) (targets m.code (record { place = p; insn = insn })) (pos q) reached c
 
   same-instruction : (i : Placed) → HasInstruction m.code i → i.place ≡ p → record { place = p; insn = insn } ≡ i
-  same-instruction i st e =
-      (is.listed m.code).one (record { place = p; insn = insn }) i (stands-here m.code (is.listed m.code) p here.place insn stepped.decodes) st (sym e)
+  same-instruction i st e = grind (arith, stands-here)
 
   visit-closed : IsClosed w m t3 p f
   visit-closed = record {
@@ -131,7 +121,4 @@ module _ (w : Linked) (is : AreRules w) (m : Method) (t0 t1 t2 t3 : Found) (p : 
   some-same e = cc
 
   pub visit-over : state_at t0.states p ≡ Some f → IsVisited w m p t0 t3
-  visit-over at = record {
-    goes = goes-on w is.order m t0 t1 t3 g1 (goes-on w is.order m t1 t2 t3 g2 g3);
-    closed = λ x ex. subst (IsClosed w m t3 p) (some-same (sym at ∙ ex)) visit-closed;
-  }
+  visit-over at = grind (arith, goes-on w is.order m t0 t1 t3 g1 (goes-on w is.order m t1 t2 t3 g2 g3), some-same, visit-closed)

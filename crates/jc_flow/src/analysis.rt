@@ -1,4 +1,4 @@
-ghost use Rattle.std.specs.Prelude.{◌≡◌, ◌+◌, ◌<◌, ◌≤◌, length, reverse, All, Contains, IfOk, IfErr, OnOk, IsTrue, MatchBool, MatchResult};
+ghost use Rattle.std.specs.Prelude.{◌+◌, ◌<◌, ◌≤◌, length, reverse, All, IfOk, IfErr, OnOk, IsTrue, MatchBool, MatchResult};
 ghost use Rattle.jc_decode.specs.Listing.{falls, jumps};
 ghost use Rattle.jc_control.specs.Control.{IsLeader};
 ghost use Rattle.jc_rules.specs.Flow.{IsNotFresh};

@@ -1,10 +1,8 @@
-ghost use Rattle.std.specs.Prelude.{◌≡◌, ◌+◌, ◌<◌, ◌≤◌, length, reverse, All, Contains, IfOk, IfErr, OnOk};
+ghost use Rattle.std.specs.Prelude.{◌≡◌, ◌+◌, ◌<◌, All, Contains, IfErr, OnOk};
 ghost use Rattle.jc_decode.specs.Listing.{targets};
-ghost use Rattle.jc_rules.specs.Flow.{At, FrameBelow};
-ghost use Rattle.jc_rules.specs.Typing.{state_at};
 ghost use Rattle.jc_flow.specs.Progress.{AreHeld};
 ghost use Rattle.jc_flow.specs.Fails.{IsFailure};
-ghost use Rattle.jc_flow.specs.Visit.{analysed, world_of, IsAnalysis, IsStep, Goes, CaughtIsBelow, HandlersRaised, IsAtNext, IsAtTarget, broken_at};
+ghost use Rattle.jc_flow.specs.Visit.{analysed, world_of, IsAnalysis, IsStep, Goes, CaughtIsBelow, IsAtNext, IsAtTarget, broken_at};
 
 use crate::analysis::Analysis;
 use crate::end::FlowEnd;

@@ -1,4 +1,4 @@
-ghost use Rattle.std.specs.Prelude.{◌≡◌, ◌<◌, ◌≤◌, None, false, length, replicate, IfOk, IfErr, OnOk, IsSomeAnd, slice_get};
+ghost use Rattle.std.specs.Prelude.{◌≡◌, ◌<◌, None, false, length, replicate, IfOk, IfErr, OnOk, IsSomeAnd, slice_get};
 ghost use Rattle.jc_base.specs.declared.ty.Ty.TheVariants.{Bottom, Top};
 ghost use Rattle.jc_control.specs.Method.{IsMethodOf, method_in};
 ghost use Rattle.jc_rules.specs.Flow.{IsLeastTyping, HasFlowTyping, At, FrameBelow, start_frame, receiver_of};

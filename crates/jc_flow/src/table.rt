@@ -1,10 +1,9 @@
-ghost use Rattle.std.specs.Prelude.{◌≡◌, ◌<◌, ◌≤◌, Some, None, true, false, length, replicate, reverse, All, IfOk, IfErr, OnOk, IfSome, MatchOption, MatchResult, option_map, slice_set, slice_index_or};
+ghost use Rattle.std.specs.Prelude.{◌≡◌, ◌<◌, ◌≤◌, Some, None, true, false, length, replicate, reverse, All, IfOk, IfSome, MatchOption, MatchResult, option_map, slice_set, slice_index_or};
 ghost use Rattle.std.specs.List.{AllWithin};
 ghost use Rattle.jc_base.specs.Order.{IsKnown};
-ghost use Rattle.jc_rules.specs.Demand.{Frame};
 ghost use Rattle.jc_rules.specs.Held.{lent};
-ghost use Rattle.jc_rules.specs.Typing.{state_at, Clashes};
-ghost use Rattle.jc_flow.specs.Found.{Found, IsPending, IsLeastPending, NonePending, taken_up, with_state, HasKnown, Lands, Prevents};
+ghost use Rattle.jc_rules.specs.Typing.{state_at};
+ghost use Rattle.jc_flow.specs.Found.{Found, IsLeastPending, NonePending, taken_up, HasKnown, Lands, Prevents};
 
 use jc_base::{Classes, Ty};
 use jc_rules::{HeldFrame, Merged, Typing};

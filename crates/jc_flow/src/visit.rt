@@ -3,12 +3,11 @@ ghost use Rattle.jc_rules.specs.Flow.{At, FrameBelow, IsLeastTyping, start_frame
 ghost use Rattle.jc_rules.specs.Held.{lent};
 ghost use Rattle.jc_rules.specs.Typing.{state_at};
 ghost use Rattle.jc_base.specs.declared.ty.Ty.TheVariants.{Top};
-ghost use Rattle.jc_flow.specs.Found.{IsPending, taken_up, NonePending};
 ghost use Rattle.jc_flow.specs.Progress.{AreHeld, AreClosed};
 ghost use Rattle.jc_flow.specs.Scratch.{SuitsMethod};
 ghost use Rattle.jc_flow.specs.Fails.{IsFailure};
 ghost use Rattle.jc_flow.specs.Infer.{AreReached, HaveRegisters, AreDerived, HaveKnownTypes};
-ghost use Rattle.jc_flow.specs.Visit.{analysed, world_of, IsAnalysis, Goes, IsVisited};
+ghost use Rattle.jc_flow.specs.Visit.{analysed, world_of, IsAnalysis, IsVisited};
 
 use crate::analysis::Analysis;
 use crate::edges::FlowStep;
