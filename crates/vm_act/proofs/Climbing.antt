@@ -1,6 +1,7 @@
 -- Searches along the chain of superclasses, one class after the other.
+use Rattle.std.proofs.Common.{arith}
 use Rattle.std.proofs.Common.{◌≡◌, ℕ, ◌==◌, Bool, true, false, List, [], ◌∷◌, ◌++◌, Some, None, refl}
-use Rattle.std.proofs.Common.{sym, ap, ◌∙◌}
+use Rattle.std.proofs.Common.{ap, ◌∙◌}
 use Rattle.std.specs.Prelude.{find, flat_map, slice_get}
 use Rattle.std.proofs.lemmas.List.Concat.{flat_map-cons}
 use Rattle.jc_base.specs.declared.record.Iface.{Iface}
@@ -19,8 +20,7 @@ module _ {A : Type 0} (p : A → Bool) where
 
   find-first : (b : Bool) (x y : A) (xs ys : List A) → p x ≡ b → (find p xs ≡ Some y → find p (xs ++ ys) ≡ Some y)
       → find p (x ∷ xs) ≡ Some y → find p (x ∷ (xs ++ ys)) ≡ Some y
-  find-first true x y xs ys e rest h = find-yes x (xs ++ ys) e ∙ (sym (find-yes x xs e) ∙ h)
-  find-first false x y xs ys e rest h = find-no x (xs ++ ys) e ∙ rest (sym (find-no x xs e) ∙ h)
+  find-first x x2 y xs ys e rest h = grind (arith, find-yes, find-no)
 
   pub find-in-first : (xs ys : List A) (y : A) → find p xs ≡ Some y → find p (xs ++ ys) ≡ Some y
   find-in-first [] ys y h = absurd cc
@@ -28,8 +28,7 @@ module _ {A : Type 0} (p : A → Bool) where
 
   find-second : (b : Bool) (x : A) (xs ys : List A) → p x ≡ b → (find p xs ≡ None → find p (xs ++ ys) ≡ find p ys)
       → find p (x ∷ xs) ≡ None → find p (x ∷ (xs ++ ys)) ≡ find p ys
-  find-second true x xs ys e rest h = let found : Some x ≡ None = sym (find-yes x xs e) ∙ h in absurd cc
-  find-second false x xs ys e rest h = find-no x (xs ++ ys) e ∙ rest (sym (find-no x xs e) ∙ h)
+  find-second x x2 xs ys e rest h = grind (arith, find-yes, find-no)
 
   pub find-in-second : (xs ys : List A) → find p xs ≡ None → find p (xs ++ ys) ≡ find p ys
   find-in-second [] ys h = refl
@@ -47,8 +46,7 @@ module _ (t : ClassTable) where
 
   pub nearest-next : (home c p : ℕ) → IsNextOnChain t c p → (package_of t c == home) ≡ false → nearest_of t home c ≡ nearest_of t home p
   unfolding nearest_of
-  nearest-next home c p next h =
-      ap (find (λ a. package_of t a == home)) next.chain_is ∙ find-no (λ a. package_of t a == home) c (chain t p) h
+  nearest-next home c p next h = grind (arith, find-no)
 
   pub nearest-end : (home c : ℕ) → IsEndOfChain t c → (package_of t c == home) ≡ false → nearest_of t home c ≡ None
   unfolding nearest_of
@@ -73,13 +71,8 @@ module _ (t : ClassTable) where
   pub serving-next : (interface c p : ℕ) → IsNextOnChain t c p → find (Is interface) (interfaces_of t c) ≡ None
       → serving t interface c ≡ serving t interface p
   unfolding serving
-  serving-next interface c p next h =
-      ap (find (Is interface)) (entries-next c p next)
-      ∙ find-in-second (Is interface) (interfaces_of t c) (flat_map (interfaces_of t) (chain t p)) h
+  serving-next interface c p next h = grind (arith, entries-next, find-in-second)
 
   pub serving-end : (interface c : ℕ) → IsEndOfChain t c → find (Is interface) (interfaces_of t c) ≡ None → serving t interface c ≡ None
   unfolding serving
-  serving-end interface c end h =
-      ap (λ cs. find (Is interface) (flat_map (interfaces_of t) cs)) end.chain_is
-      ∙ (ap (find (Is interface)) (flat_map-cons (interfaces_of t) c [])
-      ∙ find-in-second (Is interface) (interfaces_of t c) [] h)
+  serving-end interface c end h = grind (arith, flat_map-cons, find-in-second)

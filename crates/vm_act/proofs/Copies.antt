@@ -1,5 +1,5 @@
 -- Copies of the top cells of a stack.
-use Rattle.std.proofs.Common.{◌≡◌, ℕ, ◌+◌, ◌-◌, ◌<◌, ◌≤◌, List, [], ◌∷◌, ◌++◌, length, take, drop, get_or, refl, sym, ap}
+use Rattle.std.proofs.Common.{◌≡◌, ℕ, ◌+◌, ◌-◌, ◌<◌, ◌≤◌, List, [], ◌∷◌, ◌++◌, length, take, drop, get_or, sym, ap}
 use Rattle.std.proofs.Common.{◌∙◌, arith, length-take, length-drop}
 use Rattle.std.proofs.lemmas.List.{take_at, drop_at, drop-drop, drop-take, drop_more, length-take-le, get_or-append_right, get_or-take}
 use Rattle.vm_store.specs.State.{Frame, first_frame, other_frames, rotated}
@@ -8,19 +8,10 @@ use Rattle.vm_store.specs.State.{Frame, first_frame, other_frames, rotated}
 pub copied_under :
     {A : Type 0} (cells : List A) (copied under : ℕ) → copied ≤ length cells
     → rotated (copied + under) copied (take copied cells ++ cells) ≡ take under cells ++ (take copied cells ++ drop under cells)
-copied_under cells copied under h =
-    let ys = take copied cells in
-    let len : length ys ≡ copied = length-take copied cells ∙ (omega arith) in
-    let first : drop copied (take (copied + under) (ys ++ cells)) ≡ take under cells =
-    drop-take copied under (ys ++ cells) ∙ ap (take under) (drop_at ys cells copied len) in
-    let second : take copied (ys ++ cells) ≡ ys = take_at ys cells copied len in
-    let third : drop (copied + under) (ys ++ cells) ≡ drop under cells =
-    sym (drop-drop under copied (ys ++ cells)) ∙ ap (drop under) (drop_at ys cells copied len) in
-    cc
+copied_under cells copied under h = grind (arith, take, length, length-take, drop, drop-take, drop_at, take_at, drop-drop)
 
 pub front : {A : Type 0} (fs : List (Frame A)) → 0 < length fs → first_frame fs ∷ other_frames fs ≡ fs
-front [] h = absurd (omega (arith, h))
-front (f ∷ fs) h = refl
+front x h = grind (arith)
 
 -- one copy more
 pub copied_more :

@@ -1,20 +1,19 @@
 -- A method that a call may run has registers for the arguments and the receiver.
 use Rattle.std.proofs.Common.{◌≡◌, ℕ, ◌+◌, ◌≤◌, Bool, true, false, List, [], ◌∷◌, length, refl, sym, ap, ◌∙◌, subst, arith}
-use Rattle.std.specs.Prelude.{Option, Some, None, All, IfSome, IsSomeAnd, MatchBool, if◌then◌else◌, find, slice_get, option_and_then, option_map}
+use Rattle.std.specs.Prelude.{Option, Some, None, All, IfSome, IsSomeAnd, if◌then◌else◌, find, slice_get, option_and_then, option_map}
 use Rattle.std.specs.Prelude.{unwrap_or}
 use Rattle.std.proofs.lemmas.Bool.{eqb-true}
-use Rattle.std.proofs.lemmas.List.Elements.{All-head, All-tail, All-nil}
+use Rattle.std.proofs.lemmas.List.Elements.{All-head, All-tail}
 use Rattle.std.proofs.lemmas.Option.{slice_get_within}
 use Rattle.jc_base.specs.declared.ty.Ty.TheVariants.{Class}
 use Rattle.jc_base.specs.declared.record.Iface.{Iface}
-use Rattle.jc_base.specs.declared.record.Sig.{Sig}
 use Rattle.jc_base.specs.declared.record.ClassRec.{ClassRec}
 use Rattle.jc_base.specs.declared.record.MethodRec.{MethodRec}
-use Rattle.jc_base.specs.Class.{ClassTable, IsClass, IsNextOnChain, is_interface, is_interface_record, object, chain, last}
+use Rattle.jc_base.specs.Class.{ClassTable, IsClass, IsNextOnChain, is_interface, chain}
 use Rattle.jc_base.specs.Order.{Below, is_on_chain}
 use Rattle.jc_base.specs.Dispatch.{of_record, public_of, dispatched, signature_of, signature_at}
 use Rattle.jc_base.specs.Laws.{RunsPublic}
-use Rattle.jc_base.specs.Linked.{IsMethod, IsLinkedClass, IsImplemented, IsExtended, IsInherited, Dispatches, AreDispatched, receiver_words}
+use Rattle.jc_base.specs.Linked.{IsMethod, IsLinkedClass, IsImplemented, IsInherited, Dispatches, AreDispatched, receiver_words}
 use Rattle.jc_base.specs.World.{Linked, IsWorld}
 use Rattle.jc_base.proofs.Lists.{All-slice_get}
 use Rattle.jc_base.proofs.Climbs.{climb, on_chain-here, on_above}
@@ -63,15 +62,10 @@ alike-takes : (w : Linked) → IsWorld w → (n q : ℕ) (rec : MethodRec) → s
     → (o : Option MethodRec) → slice_get w.methods n ≡ o → IsSomeAnd o (λ (m : MethodRec). m.is_static ≡ false)
     → TakesCells w n (length rec.sig.args + 1)
 alike-takes w is n q rec at same None e h = absurd h
-alike-takes w is n q rec at same (Some m) e dynamic =
-    let sigs : Some m.sig ≡ Some rec.sig = ap (option_map (λ (x : MethodRec). x.sig)) (sym e)
-    ∙ (same ∙ ap (option_map (λ (x : MethodRec). x.sig)) at) in
-    let sig : m.sig ≡ rec.sig = cc in
-    subst (λ (g : Sig). TakesCells w n (length g.args + 1)) sig (dynamic-takes w is n m e dynamic)
+alike-takes w is n q rec at same (Some m) e dynamic = grind (arith, dynamic-takes w is n m e dynamic, length)
 
 some-dynamic : (t : ClassTable) (r : ℕ) (o : Option MethodRec) → IsSomeAnd o (IsInherited t r) → IsSomeAnd o (λ (m : MethodRec). m.is_static ≡ false)
-some-dynamic t r None h = h
-some-dynamic t r (Some m) h = h.dynamic
+some-dynamic t r x h = grind (arith)
 
 pub virtual-takes :
     (w : Linked) → IsWorld w → AreDispatched w.classes w.methods → (c : Callee) → IsCalleeOf w c → (class token of : ℕ)
@@ -114,14 +108,7 @@ module _ (w : Linked) (is : IsWorld w) where
       → IfSome o (IsLinkedClass (length w.infos) w.classes w.methods c) → All (IsImplemented w.classes w.methods (public_of w.classes c))
       (of_record [] (λ r. r.implements) o)
   unfolding is_interface public_of
-  own-implemented c None e plain linked = All-nil (IsImplemented w.classes w.methods (public_of w.classes c))
-  own-implemented c (Some r) e plain linked =
-      let class : r.interface ≡ false = sym (ap is_interface_record e) ∙ plain in
-      let public : r.public ≡ of_record [] (λ x. x.public) (slice_get w.classes.records c) = ap (of_record [] (λ x. x.public)) (sym e) in
-      let all : All (IsImplemented w.classes w.methods r.public) r.implements =
-      subst (λ b. MatchBool b (All (IsExtended w.classes) r.implements) (All (IsImplemented w.classes w.methods r.public) r.implements)) class
-      linked.implements in
-      subst (λ list. All (IsImplemented w.classes w.methods list) r.implements) public all
+  own-implemented c x e plain linked = grind (arith)
 
   implemented-by : (c : ℕ) → IsClass w.classes c → All (IsImplemented w.classes w.methods (public_of w.classes c)) (interfaces_of w.classes c)
   implemented-by c class = own-implemented c (slice_get w.classes.records c) refl class.class (is.classes c)
@@ -134,8 +121,7 @@ module _ (w : Linked) (is : IsWorld w) where
       record { above = c; on = on_chain-here w.classes c; implemented = found.is; interface_is = eqb-true e.class interface found.passes }
 
   farther : (interface c p : ℕ) → IsNextOnChain w.classes c p → (e : Iface) → Implements p interface e → Implements c interface e
-  farther interface c p next e i =
-      record { above = i.above; on = on_above w.classes i.above c p next i.on; implemented = i.implemented; interface_is = i.interface_is }
+  farther interface c p next e i = grind (arith, on_above)
 
   serving-found : (interface c : ℕ) → IsClass w.classes c → (e : Iface) → serving w.classes interface c ≡ Some e → Implements c interface e
   serving-found interface =
@@ -153,12 +139,7 @@ module _ (w : Linked) (is : IsWorld w) where
       ends : (c : ℕ) → chain w.classes c ≡ c ∷ [] → IsClass w.classes c → (e : Iface) → serving w.classes interface c ≡ Some e
           → (o : Option Iface) → find (Is interface) (interfaces_of w.classes c) ≡ o → Implements c interface e
       ends c alone class e h (Some x) found = here c class e x h found
-      ends c alone class e h None found =
-          let whole = is.chains.chains c class in
-          let last_one : Some c ≡ Some (object w.classes) = ap last (sym alone) ∙ whole.ends in
-          let top : c ≡ object w.classes = cc in
-          let nothing : None ≡ Some e = sym (serving-end w.classes interface c (record { last_is = top; chain_is = alone }) found) ∙ h in
-          absurd (cc)
+      ends c alone class e h None found = grind (arith, serving-end)
 
       goes-on : (c p : ℕ) → IsNextOnChain w.classes c p → ((e : Iface) → serving w.classes interface p ≡ Some e → Implements p interface e)
           → IsClass w.classes c → (e : Iface) → serving w.classes interface c ≡ Some e

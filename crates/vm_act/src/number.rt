@@ -1,5 +1,5 @@
 //! Numbers and references on the operand stack.
-ghost use Rattle.std.specs.Prelude.{◌≡◌, ◌+◌, ◌<◌, ◌≤◌, length};
+ghost use Rattle.std.specs.Prelude.{◌≡◌, ◌+◌, ◌<◌, length};
 ghost use Rattle.jc_ops.specs.declared.operation.Width.TheVariants as widths;
 ghost use Rattle.vm_store.specs.State.{IsRunning, top};
 ghost use Rattle.vm_step.specs.Numbers.{handle_at, short_at, int_on, number_cells, pushed};

@@ -1,13 +1,12 @@
-ghost use Rattle.std.specs.Prelude.{◌≡◌, ◌+◌, ◌≤◌, length, IsSome, IfSome};
+ghost use Rattle.std.specs.Prelude.{◌≡◌, ◌≤◌, length, IsSome, IfSome};
 ghost use Rattle.jc_base.specs.Order.{IsArray};
 ghost use Rattle.jc_ops.specs.Sound.{IsNamedType};
 ghost use Rattle.vm_store.specs.State.{IsRunning, top};
 ghost use Rattle.vm_store.specs.Objects.{object_at};
-ghost use Rattle.vm_step.specs.Numbers.{handle_at};
-ghost use Rattle.vm_step.specs.Objects.{kind_of_type, new_array_act, throw_act, type_test_act, may_cast, truth};
+ghost use Rattle.vm_step.specs.Objects.{kind_of_type, new_array_act, throw_act, type_test_act, truth};
 ghost use Rattle.vm_step.specs.Calls.{return_act};
 ghost use Rattle.vm_act.specs.Lead.{goes_unless, told, Stays, LeadStands, result_width};
-ghost use Rattle.vm_act.specs.Found.{IsNullOr, IsObject};
+ghost use Rattle.vm_act.specs.Found.{IsObject};
 ghost use Rattle.vm_act.specs.Reaches.{HandleIs, IsArrayOf};
 
 use crate::{Lead, handle_on, int_on, is_instance_of, push_short, short_on};

@@ -1,4 +1,4 @@
-ghost use Rattle.std.specs.Prelude.{◌≡◌, ◌≤◌, ℤ, length, find, Ok};
+ghost use Rattle.std.specs.Prelude.{◌≡◌, ◌≤◌, length, find, Ok};
 ghost use Rattle.jc_decode.specs.Decoding.{decoded};
 ghost use Rattle.jc_decode.specs.Cases.{cases};
 ghost use Rattle.vm_store.specs.State.{IsRunning, top};
