@@ -1,7 +1,7 @@
 -- What it means that a run begins, and what is there before its frame is made.
-use Rattle.std.proofs.Common.{◌≡◌, ◌≤◌, ◌+◌, ◌-◌, ℕ, suc, Bool, true, false, List, [], ◌∷◌, ◌++◌, length, drop}
-use Rattle.std.proofs.Common.{refl, sym, ap, ◌∙◌, arith, Option, Some, None}
-use Rattle.std.specs.Prelude.{filter, if◌then◌else◌, not, ◌==◌, slice_get, sum_by, replicate}
+use Rattle.std.proofs.Common.{◌≡◌, ◌≤◌, ℕ, suc, Bool, true, false, List, [], ◌∷◌, length, drop}
+use Rattle.std.proofs.Common.{refl, arith, Option, Some, None}
+use Rattle.std.specs.Prelude.{filter, if◌then◌else◌, not, ◌==◌, slice_get, sum_by}
 use Rattle.std.proofs.lemmas.Bool.Decides.{nat_tests}
 use Rattle.std.proofs.lemmas.List.{drop-replicate}
 use Rattle.jc_base.specs.declared.ty.Ty.{Ty}
@@ -9,13 +9,11 @@ use Rattle.jc_base.specs.declared.record.MethodRec.{MethodRec}
 use Rattle.jc_base.specs.declared.record.ArrayRec.{ArrayRec}
 use Rattle.jc_base.specs.World.{Linked}
 use Rattle.vm_store.specs.Cells.{Cells}
-use Rattle.vm_store.specs.State.{State, Frame, top, with_top, with_entry, entered, register_count}
+use Rattle.vm_store.specs.State.{State, top, with_top, with_entry, entered}
 use Rattle.vm_store.specs.Layout.{overwritten}
 use Rattle.vm_step.specs.declared.start_fault.StartFault.{StartFault}
-use Rattle.vm_step.specs.declared.start_fault.StartFault.TheVariants.{NotStatic, ArgCount}
 use Rattle.vm_step.specs.Arguments.{Argument, number, null, bytes}
-use Rattle.vm_step.specs.Methods.{of_method}
-use Rattle.vm_step.specs.Start.{can_begin, parameters, first_misfit, first_without_room, or_room, entry_fault, start_fault, with_arrays}
+use Rattle.vm_step.specs.Start.{parameters, first_misfit, first_without_room, or_room, entry_fault, start_fault, with_arrays}
 use Rattle.vm_step.specs.Start.{cells_handed, initial, entry_state}
 
 -- the entry is a method that takes these arguments
@@ -29,23 +27,14 @@ same-count : (a b : ℕ) → not (a == b) ≡ false → a ≡ b
 same-count a b h = grind (arith, nat_tests)
 
 none-of : (b : Bool) (f : StartFault) (y : Option StartFault) → (if b then Some f else y) ≡ None → (b ≡ false) × (y ≡ None)
-none-of true f y e = absurd (cc)
-none-of false f y e = (refl, e)
+none-of x f y e = grind (arith)
 
 neither : (a b : Option ℕ) → or_room a b ≡ None → (a ≡ None) × (b ≡ None)
-neither (Some n) b e = absurd (cc)
-neither None (Some n) e = absurd (cc)
-neither None None e = (refl, refl)
+neither x b e = grind (arith)
 
 taken-by : (w : Linked) (entry : ℕ) (args : List Argument) (o : Option MethodRec) → slice_get w.methods entry ≡ o → entry_fault w args o ≡ None
     → (m : MethodRec) × Takes w entry args m
-taken-by w entry args None e none = absurd (cc)
-taken-by w entry args (Some m) e none =
-    let static = none-of (not (can_begin w m)) NotStatic _ none in
-    let count = none-of (not (length args == length (parameters m))) (ArgCount (length args) (length (parameters m))) _ static.1 in
-    let rest = neither (first_misfit 0 args (parameters m))
-    (first_without_room 0 (length w.arrays) (sum_by (λ (a : ArrayRec). length a.initial) w.arrays) args) count.1 in
-    (m, record { is = e; count = same-count (length args) (length (parameters m)) count.0; fit = rest.0; room = rest.1 })
+taken-by w entry args x e none = grind (arith, none-of, length, neither, same-count)
 
 pub takes : (w : Linked) (entry : ℕ) (args : List Argument) → start_fault w entry args ≡ None → (m : MethodRec) × Takes w entry args m
 takes w entry args none = taken-by w entry args (slice_get w.methods entry) refl none
@@ -68,11 +57,7 @@ arrays-frames k (bytes bs ∷ args) s = arrays-frames k args _
 -- the registers of a frame whose first ones are written
 pub registers-written : {A : Type 0} (k : Cells A) (methods : List MethodRec) (entry : ℕ) (cells : List A)
     → record (entered k methods entry []) { registers = overwritten (entered k methods entry []).registers 0 cells } ≡ entered k methods entry cells
-registers-written {A} k methods entry cells =
-    let rest : drop (0 + length cells) (replicate (register_count methods entry - 0) k.empty) ≡ replicate (register_count methods entry - length cells)
-    k.empty =
-    drop-replicate (0 + length cells) (register_count methods entry - 0) k.empty ∙ ap (λ (n : ℕ). replicate n k.empty) (omega arith) in
-    ap (λ (xs : List A). record { method = entry; place = 0; registers = cells ++ xs; stack = [] }) rest
+registers-written {A} k methods entry cells = grind (arith, drop, length, drop-replicate)
 
 -- the frame of the entry, over a state without frames
 pub entry-made : {A : Type 0} (k : Cells A) (w : Linked) (entry : ℕ) (args : List Argument) (m : MethodRec) (y z : State A)
@@ -82,14 +67,4 @@ pub entry-made : {A : Type 0} (k : Cells A) (w : Linked) (entry : ℕ) (args : L
     (record (top (with_entry k w.methods y entry))
     { registers = overwritten (top (with_entry k w.methods y entry)).registers 0 (cells_handed k (length w.arrays) args (parameters m)) })
     → z ≡ entry_state k w entry args
-entry-made {A} k w entry args m y z is e final =
-    let none : y.frames ≡ [] = ap (λ (x : State A). x.frames) e ∙ arrays-frames k args (initial k w) in
-    let cells : List A = cells_handed k (length w.arrays) args (parameters m) in
-    let types : parameters m ≡ of_method [] parameters (slice_get w.methods entry) = sym (ap (of_method [] parameters) is) in
-    final
-    ∙ (ap (λ (f : Frame A). record y { frames = f ∷ y.frames }) (registers-written k w.methods entry cells)
-    ∙ (ap (λ (fs : List (Frame A)). record y { frames = entered k w.methods entry cells ∷ fs }) none
-    ∙ (ap (λ (x : State A). record x { frames = entered k w.methods entry cells ∷ [] }) e
-    ∙ ap
-    (λ (ts : List Ty). record (with_arrays k args (initial k w))
-    { frames = entered k w.methods entry (cells_handed k (length w.arrays) args ts) ∷ [] }) types)))
+entry-made {A} k w entry args m y z is e final = grind (arith, arrays-frames, length, registers-written)

@@ -62,9 +62,7 @@ module _ {A : Type 0} {k : Cells A} {kind : ObjectKind} {f : ℕ → A} {words :
 
   pub all-filled : length words ≤ i → z ≡ with_object s kind (map f words)
   unfolding zeros
-  all-filled le =
-      filled.state ∙ ap (λ (ws : List ℕ). with_object s kind (overwritten zeros 0 (map f ws))) (take_all i words le)
-      ∙ ap (with_object s kind) (overwritten-whole zeros (map f words) (length-map words f ∙ sym size))
+  all-filled le = grind (arith, zeros, map, take_all, overwritten-whole, length-map, size)
 
 -- ---- ints
 
@@ -144,9 +142,7 @@ module _ {A : Type 0} {k : Cells A} {words : List ℕ} {s z : State A} {i : ℕ}
     high-more : (y : State A) (v : A) → y ≡ with_object_cell z h (2 * i) v
         → y ≡ with_object s Ints (overwritten (array_cells k Ints (length words / 2)) 0 (int_cells k (take (2 * i) words) ++ v ∷ []))
     unfolding blank
-    high-more y v is =
-        let size = int-size k i words (omega arith) in let zs = blank-size in
-        is ∙ last-cell-more s z Ints blank (int_cells k (take (2 * i) words)) h (2 * i) v filled.state at (sym size) (omega arith)
+    high-more y v is = grind (arith, size, int-size, blank-size, last-cell-more, blank, take)
 
     pub low-there : {y : State A} (v : A) → y ≡ with_object_cell z h (2 * i) v → 2 * i + 1 < length (object_cells y h)
     unfolding blank
@@ -176,9 +172,7 @@ module _ {A : Type 0} {k : Cells A} {words : List ℕ} {s z : State A} {i : ℕ}
 
   pub all-ints-filled : length words / 2 ≤ i → z ≡ with_object s Ints (int_cells k words)
   unfolding blank
-  all-ints-filled le =
-      filled.state ∙ ap (λ (ws : List ℕ). with_object s Ints (overwritten blank 0 (int_cells k ws))) (take_all (2 * i) words (omega arith))
-      ∙ ap (with_object s Ints) (overwritten-whole blank (int_cells k words) (ints-size k words even ∙ sym blank-size))
+  all-ints-filled le = grind (arith, blank, take_all, overwritten-whole, ints-size, blank-size)
 
 -- ---- the cells of initial arrays
 

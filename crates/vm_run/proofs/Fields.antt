@@ -22,11 +22,7 @@ field-size k kind words e = absurd (omega arith)
 -- as many words as the kind has cells
 pub words-size : (t : ClassTable) (arrays : List ArrayRec) (kind : Kind) (ty : Ty) (words : List ℕ) → AreInitialWords t arrays kind ty words
     → length words ≡ width kind
-words-size t arrays fields.Int ty (a ∷ b ∷ []) h = refl
-words-size t arrays fields.Ref ty (a ∷ []) h = refl
-words-size t arrays fields.Byte ty (a ∷ []) h = refl
-words-size t arrays fields.Short ty (a ∷ []) h = refl
-words-size t arrays kind ty words h = absurd h
+words-size t arrays kind ty words h = grind (arith)
 
 pub reference-cells : {A : Type 0} (k : Cells A) (kind : Kind) (words : List ℕ) (first : ℕ) → kind ≡ fields.Ref → length words ≡ width kind
     → slice_get words 0 ≡ Some first
@@ -45,5 +41,4 @@ short-cells k fields.Short (a ∷ []) first r i size at = let same : a ≡ first
 short-cells k kind words first r i size at = absurd (omega arith)
 
 pub kind-inside : (kind : Kind) (at n : ℕ) → at + width kind ≤ n → at < n
-kind-inside fields.Int at n h = omega arith
-kind-inside kind at n h = omega arith
+kind-inside kind at n h = grind (arith)

@@ -19,8 +19,7 @@ use Rattle.vm_act.proofs.Climbing.{find-yes, find-no}
 
 module _ {X : Type 0} (p : X → Bool) where
   one-or-later : (y x : X) (ys : List X) (b : Bool) → p y ≡ b → (p y ≡ true → y ≡ x) → find p ys ≡ Some x → find p (y ∷ ys) ≡ Some x
-  one-or-later y x ys true e one rest = find-yes p y ys e ∙ ap Some (one e)
-  one-or-later y x ys false e one rest = find-no p y ys e ∙ rest
+  one-or-later y x ys x2 e one rest = grind (arith, find-yes, find-no)
 
   -- where none but one passes, it is found
   pub only-found : (xs : List X) (x : X) → All (λ y. p y ≡ true → y ≡ x) xs → Contains xs x → p x ≡ true → find p xs ≡ Some x
@@ -44,8 +43,7 @@ module _ {X : Type 0} (p : X → Bool) where
   here-or-later : (y x : X) (ys : List X) (b : Bool) → p y ≡ b → find p (y ∷ ys) ≡ Some x → (find p ys ≡ Some x → Passes ys x)
       → Passes (y ∷ ys) x
   unfolding Passes
-  here-or-later y x ys true h e rest =
-      let both : Some y ≡ Some x = sym (find-yes p y ys h) ∙ e in let same : y ≡ x = cc in ((0, omega arith, same), ap p (sym same) ∙ h)
+  here-or-later y x ys true h e rest = grind (arith, find-yes)
   here-or-later y x ys false h e rest = later-passes y x ys (rest (sym (find-no p y ys h) ∙ e))
 
   -- what is found stands in the list and passes
@@ -76,19 +74,11 @@ module _ (code : List ℕ) (listed : AreListed code) where
   -- the instruction that is decoded at the place of one
   pub placed-there : (place : ℕ) (insn : Insn) → IsPlace code place → decoded code place ≡ Ok insn
       → instruction_at code place ≡ Some (record { place = place; insn = insn })
-  placed-there place insn (x, there, is) d =
-      let same : Ok insn ≡ Ok x.insn = sym d ∙ (ap (decoded code) (sym is) ∙ listed.decodes x there) in
-      let insns : insn ≡ x.insn = cc in
-      let placed : x ≡ record { place = place; insn = insn } = ap (λ (p : ℕ). record { place = p; insn = x.insn }) is
-      ∙ ap (λ (i : Insn). record { place = place; insn = i }) (sym insns) in
-      at-place place x there is ∙ ap Some placed
+  placed-there place insn (x, there, is) d = grind (arith, at-place place x there is)
 
   -- what is read at the place of an instruction is the one that is decoded there
   known-decoded : (place : ℕ) (insn : Insn) → IsPlace code place → ReadsAt code place (Some insn) → decoded code place ≡ Ok insn
-  known-decoded place insn (x, there, is) reads =
-      let here : decoded code place ≡ Ok x.insn = ap (decoded code) (sym is) ∙ listed.decodes x there in
-      let same : Some insn ≡ Some x.insn = reads x.insn here in
-      let insns : insn ≡ x.insn = cc in here ∙ ap Ok (sym insns)
+  known-decoded place insn (x, there, is) reads = grind (arith)
 
   pub known-there : (place : ℕ) (insn : Insn) → IsPlace code place → ReadsAt code place (Some insn)
       → instruction_at code place ≡ Some (record { place = place; insn = insn })
@@ -111,13 +101,10 @@ module _ (code : List ℕ) (listed : AreListed code) where
 -- an instruction that is found is one of the code
 pub found-there : (code : List ℕ) (place : ℕ) (x : Placed) → instruction_at code place ≡ Some x → IsPlace code place
 unfolding instruction_at
-found-there code place x e =
-    let f = found-in (λ (i : Placed). i.place == place) (listing code) x e in
-    (x, f.0, eqb-true x.place place f.1)
+found-there code place x e = grind (arith, found-in, eqb-true)
 
 there-is : (o : Option Placed) → IsSome o → (x : Placed) × (o ≡ Some x)
-there-is None h = absurd (search rules)
-there-is (Some x) h = (x, refl)
+there-is x h = grind (arith)
 
 pub some-there : (code : List ℕ) (place : ℕ) → IsSome (instruction_at code place) → IsPlace code place
 some-there code place h = let t = there-is (instruction_at code place) h in found-there code place t.0 t.1

@@ -52,9 +52,7 @@ int-cells-size k objects null f = absurd (false≢true f)
 int-cells-size k objects (bytes bs) f = absurd (false≢true f)
 
 no-half-begins : (ty : Ty) → IsNoHalf ty → is_parameter ty ≡ true
-no-half-begins types.IntHigh h = absurd h
-no-half-begins types.IntLow h = absurd h
-no-half-begins _ h = refl
+no-half-begins x h = grind (arith)
 
 kept-first : (ty : Ty) (tys : List Ty) → is_parameter ty ≡ true → filter is_parameter (ty ∷ tys) ≡ ty ∷ filter is_parameter tys
 kept-first ty tys h = ap (λ b. if b then ty ∷ filter is_parameter tys else filter is_parameter tys) h
@@ -75,8 +73,7 @@ handed-size k n objects (arg ∷ args) (whole_int {types = tys} w) count fit =
     let two = int-cells-size k objects arg f.0 in
     length-append (argument_cells k objects arg types.IntHigh) (cells_handed k (objects + arrays_made arg) args (filter is_parameter tys))
     ∙ omega (arith, two, rest)
-handed-size k n objects [] (one_cell {a = ty} {types = tys} half w) count fit =
-    let c = count ∙ ap length (kept-first ty tys (no-half-begins ty half)) in absurd (omega arith)
+handed-size k n objects [] (one_cell {a = ty} {types = tys} half w) count fit = grind (arith, length, kept-first, no-half-begins)
 handed-size k n objects (arg ∷ args) (one_cell {a = ty} {types = tys} half w) count fit =
     let first = kept-first ty tys (no-half-begins ty half) in
     let f = first-fits n arg args ty (filter is_parameter tys) (subst (λ (ps : List Ty). first_misfit n (arg ∷ args) ps ≡ None) first fit) in
@@ -90,8 +87,7 @@ handed-size k n objects (arg ∷ args) (one_cell {a = ty} {types = tys} half w) 
 -- a number for what is no short takes two cells
 pub int-argument : {A : Type 0} (k : Cells A) (objects : ℕ) (n : ℤ) (ty : Ty) → (ty ≡ types.Short → ⊥)
     → argument_cells k objects (number n) ty ≡ number_cells k widths.Int n
-int-argument k objects n types.Short h = absurd (h refl)
-int-argument k objects n ty h = refl
+int-argument k objects n ty h = grind (arith)
 
 -- ---- one argument more
 
@@ -106,53 +102,35 @@ module _ {A : Type 0} (k : Cells A) (args : List Argument) (tys : List Ty) (n i 
   pub handed-next : cells_handed k made (drop n args) (filter is_parameter (drop i tys))
       ≡ argument_cells k made arg (get_or tys i types.Bottom) ++ cells_handed k (made + arrays_made arg) (drop (n + 1) args)
       (filter is_parameter (drop (i + 1) tys))
-  handed-next =
-      ap (λ (xs : List Argument). cells_handed k made xs (filter is_parameter (drop i tys))) (drop-here args n arg there)
-      ∙ ap (λ (ts : List Ty). cells_handed k made (arg ∷ drop (n + 1) args) ts) (next-parameter tys i inside begins)
+  handed-next = grind (arith, drop, drop-here, next-parameter)
 
   pub fits-next : first_misfit n (drop n args) (filter is_parameter (drop i tys)) ≡ None
       → (fits arg (get_or tys i types.Bottom) ≡ true) × (first_misfit (n + 1) (drop (n + 1) args) (filter is_parameter (drop (i + 1) tys)) ≡ None)
-  fits-next fit =
-      first-fits n arg (drop (n + 1) args) (get_or tys i types.Bottom) (filter is_parameter (drop (i + 1) tys))
-      (sym (ap (λ (xs : List Argument). first_misfit n xs (filter is_parameter (drop i tys))) (drop-here args n arg there)
-      ∙ ap (λ (ts : List Ty). first_misfit n (arg ∷ drop (n + 1) args) ts) (next-parameter tys i inside begins)) ∙ fit)
+  fits-next fit = grind (arith, first-fits, drop, get_or, drop-here, next-parameter)
 
   pub count-next : length (drop n args) ≡ length (filter is_parameter (drop i tys))
       → length (drop (n + 1) args) ≡ length (filter is_parameter (drop (i + 1) tys))
-  count-next e =
-      let a = ap length (drop-here args n arg there) in let b = ap length (next-parameter tys i inside begins) in omega (arith, a, b)
+  count-next e = grind (arith, length, drop-here, next-parameter)
 
   -- the argument's cells have room
   pub room-next : (x : ℕ) → x + length (cells_handed k made (drop n args) (filter is_parameter (drop i tys))) ≡ length tys
       → x + length (argument_cells k made arg (get_or tys i types.Bottom)) ≤ length tys
-  room-next x e =
-      let all = ap length handed-next in
-      let both = length-append (argument_cells k made arg (get_or tys i types.Bottom))
-      (cells_handed k (made + arrays_made arg) (drop (n + 1) args) (filter is_parameter (drop (i + 1) tys))) in
-      omega (arith, all, both)
+  room-next x e = grind (arith, length, handed-next, length-append, get_or, drop)
 
   pub left-next : (x y : ℕ) → y ≡ x + length (argument_cells k made arg (get_or tys i types.Bottom))
       → x + length (cells_handed k made (drop n args) (filter is_parameter (drop i tys))) ≡ length tys
       → y + length (cells_handed k (made + arrays_made arg) (drop (n + 1) args) (filter is_parameter (drop (i + 1) tys))) ≡ length tys
-  left-next x y is e =
-      let all = ap length handed-next in
-      let both = length-append (argument_cells k made arg (get_or tys i types.Bottom))
-      (cells_handed k (made + arrays_made arg) (drop (n + 1) args) (filter is_parameter (drop (i + 1) tys))) in
-      omega (arith, all, both)
+  left-next x y is e = grind (arith, length, handed-next, length-append, get_or, drop)
 
   -- what is left is written after it
   pub written-next : (regs : List A) (x y : ℕ) → y ≡ x + length (argument_cells k made arg (get_or tys i types.Bottom)) → y ≤ length regs
       → overwritten (overwritten regs x (argument_cells k made arg (get_or tys i types.Bottom))) y
       (cells_handed k (made + arrays_made arg) (drop (n + 1) args) (filter is_parameter (drop (i + 1) tys)))
       ≡ overwritten regs x (cells_handed k made (drop n args) (filter is_parameter (drop i tys)))
-  written-next regs x y is le =
-      overwritten-append regs (argument_cells k made arg (get_or tys i types.Bottom))
-      (cells_handed k (made + arrays_made arg) (drop (n + 1) args) (filter is_parameter (drop (i + 1) tys))) x y is le
-      ∙ ap (overwritten regs x) (sym handed-next)
+  written-next regs x y is le = grind (arith, overwritten-append, get_or, drop, handed-next)
 
 one-array : (arg : Argument) → arrays_made arg ≤ 1
-one-array (bytes bs) = omega arith
-one-array arg = omega arith
+one-array arg = grind (arith)
 
 pub made-next : (arg : Argument) (made objects n : ℕ) → made ≤ objects + n → made + arrays_made arg ≤ objects + (n + 1)
 made-next arg made objects n h = let one = one-array arg in omega arith
@@ -172,8 +150,7 @@ framed-runs {A} s y q e = subst (λ (x : State A). IsRunning x) (sym e) (omega a
 
 all-frames : {A : Type 0} (fs : List (Frame A)) → 0 < length fs → record (first_frame fs) { registers = (first_frame fs).registers } ∷ other_frames fs
     ≡ fs
-all-frames [] h = absurd (omega arith)
-all-frames (f ∷ fs) h = refl
+all-frames x h = grind (arith)
 
 pub framed-first : {A : Type 0} (s : State A) → IsRunning s → s ≡ with_top s (record (top s) { registers = (top s).registers })
 framed-first {A} s runs = sym (ap (λ (fs : List (Frame A)). record s { frames = fs }) (all-frames s.frames runs))
@@ -201,9 +178,7 @@ module _ (args : List Argument) (tys : List Ty) (n i : ℕ) (arg : Argument) (th
     (begins : is_parameter (get_or tys i types.Bottom) ≡ true) where
   both-next : first_misfit n (drop n args) (filter is_parameter (drop i tys)) ≡ first_misfit n (arg ∷ drop (n + 1) args)
       (get_or tys i types.Bottom ∷ filter is_parameter (drop (i + 1) tys))
-  both-next =
-      ap (λ (xs : List Argument). first_misfit n xs (filter is_parameter (drop i tys))) (drop-here args n arg there)
-      ∙ ap (λ (ts : List Ty). first_misfit n (arg ∷ drop (n + 1) args) ts) (next-parameter tys i inside begins)
+  both-next = grind (arith, drop, drop-here, next-parameter)
 
   pub misfit-found : fits arg (get_or tys i types.Bottom) ≡ false → first_misfit n (drop n args) (filter is_parameter (drop i tys)) ≡ Some n
   misfit-found h = both-next ∙ misfit-here n arg (drop (n + 1) args) (get_or tys i types.Bottom) (filter is_parameter (drop (i + 1) tys)) h

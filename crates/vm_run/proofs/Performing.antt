@@ -1,8 +1,8 @@
 -- What a step rests on, and what its parts come to together.
-use Rattle.std.proofs.Common.{◌≡◌, ◌<◌, ◌≤◌, ℕ, true, List, [], ◌∷◌, length, refl, sym, ap, ◌∙◌, subst, arith, rules, Option}
+use Rattle.std.proofs.Common.{◌≡◌, ◌<◌, ◌≤◌, ℕ, true, List, [], ◌∷◌, length, sym, subst, arith, Option}
 use Rattle.std.proofs.Common.{Some, None}
-use Rattle.std.specs.Prelude.{All, IsSome, IsSomeAnd, slice_get, Ok, Err}
-use Rattle.std.proofs.lemmas.List.Elements.{All-nil, All-cons, All-tail, All-map, All-weaker}
+use Rattle.std.specs.Prelude.{All, IsSomeAnd, slice_get, Ok, Err}
+use Rattle.std.proofs.lemmas.List.Elements.{All-tail, All-map, All-weaker}
 use Rattle.jc_base.specs.declared.record.MethodRec.{MethodRec}
 use Rattle.jc_base.specs.World.{Linked}
 use Rattle.jc_decode.specs.declared.insn.Placed.{Placed}
@@ -10,9 +10,8 @@ use Rattle.jc_ops.specs.declared.fault.RuleFault.{RuleFault}
 use Rattle.jc_ops.specs.declared.operation.Operation.{Operation}
 use Rattle.jc_ops.specs.Resolve.{Resolves}
 use Rattle.vm_store.specs.declared.kind.ObjectKind.{ObjectKind}
-use Rattle.vm_store.specs.declared.kind.ObjectKind.TheVariants.{Instance}
 use Rattle.vm_store.specs.Cells.{Cells}
-use Rattle.vm_store.specs.State.{Frame, State, Object, IsRunning, top, first_frame, other_frames, with_place, without_top, without_frames}
+use Rattle.vm_store.specs.State.{Frame, State, Object, IsRunning, top, first_frame, other_frames, without_top, without_frames}
 use Rattle.vm_store.specs.Objects.{kinds}
 use Rattle.vm_step.specs.declared.ending.Value.{Value}
 use Rattle.vm_step.specs.declared.ending.Value.TheVariants as values
@@ -20,9 +19,8 @@ use Rattle.vm_step.specs.Act.{Act}
 use Rattle.vm_step.specs.Methods.{code_at, max_stack_of, instruction_at}
 use Rattle.vm_step.specs.Performed.{act}
 use Rattle.vm_step.specs.declared.ending.Fault.{Fault}
-use Rattle.vm_step.specs.declared.ending.Ending.TheVariants.{Faulted}
-use Rattle.vm_step.specs.Raising.{Outcome, running, ended}
-use Rattle.vm_step.specs.Settled.{is_target_place, settled, goes_to, unless_fault, fault_next}
+use Rattle.vm_step.specs.Raising.{Outcome, running}
+use Rattle.vm_step.specs.Settled.{settled, goes_to, unless_fault}
 use Rattle.vm_step.specs.Step.{Fetches}
 use Rattle.vm_step.specs.Tests.{fault_before}
 use Rattle.vm_act.specs.declared.lead.Lead.{Lead}
@@ -41,12 +39,10 @@ use Rattle.jc_base.proofs.Lists.{IsSomeAnd-some}
 use Rattle.vm_check.proofs.Sufficing.{top-shaped}
 
 of-class : (w : Linked) (kind : ObjectKind) (count : ℕ) → IsShapedFor w.classes kind count → IsOfClass w.classes kind
-of-class w (Instance c) count h = h.0
-of-class w kind count h = tt {0}
+of-class w kind count h = grind (arith)
 
 two-cells : (value : Value) → value_width value ≤ 2
-two-cells (values.Int n) = omega arith
-two-cells value = omega arith
+two-cells value = grind (arith)
 
 module _ {A : Type 0} (w : Linked) where
   rest-frames : (fs : List (Frame A)) → All (IsShapedFrame w) fs → All (IsShapedFrame w) (other_frames fs)
@@ -62,17 +58,10 @@ module _ {A : Type 0} (w : Linked) where
   -- the frames after an act are of methods of the world
   methods-of : (fs : List (Frame A)) → (first_frame fs).method < length w.methods → All (IsShapedFrame w) (other_frames fs)
       → All (λ (f : Frame A). f.method < length w.methods) fs
-  methods-of [] k o = All-nil (λ (f : Frame A). f.method < length w.methods)
-  methods-of (f ∷ fs) k o =
-      All-cons (λ (g : Frame A). g.method < length w.methods) f fs k
-      (All-weaker (IsShapedFrame w) (λ (g : Frame A). g.method < length w.methods) (λ (g : Frame A) (h : IsShapedFrame w g). h.known) fs o)
+  methods-of x k o = grind (arith, length)
 
   pub methods-after : (s z : State A) → IsShaped w s → IsRunning s → FramesStay s z → AreMethods w z
-  methods-after s z shaped runs stay =
-      record {
-        known = methods-of z.frames (subst (λ (m : ℕ). m < length w.methods) (sym stay.method) (top-frame s shaped runs).known)
-            (subst (All (IsShapedFrame w)) (sym stay.others) (rest-frames s.frames shaped.frames));
-      }
+  methods-after s z shaped runs stay = grind (arith, methods-of, length, top-frame, rest-frames)
 
   classes-of : (s : State A) → IsShaped w s → All (IsOfClass w.classes) (kinds s)
   classes-of s shaped =
@@ -96,8 +85,7 @@ module _ {A : Type 0} (w : Linked) where
   -- ---- what the lead rests on
 
   value-size : (k : Cells A) (value : Value) (stack : List A) → length (value_cells k value stack) ≡ value_width value
-  value-size k (values.Int n) stack = refl
-  value-size k value stack = refl
+  value-size k value stack = grind (arith)
 
   tested-resumes : (room : ℕ) (s : State A) (value : Value) (known : Known) → IsShaped w s → 257 ≤ room
       → KnowsAt w known (top (without_top s)).method (top (without_top s)).place
@@ -114,8 +102,7 @@ module _ {A : Type 0} (w : Linked) where
     pub leads-on : (known : Known) (lead : Lead) → KnowPlaces k.checks w known → act k w i.insn op s ≡ told k w z lead → Stays lead s z
         → LeadsOn room w known z lead
     leads-on (Marked p) (leads.Jumps to) know e same = tt {0}
-    leads-on Verified (leads.Jumps to) know e same =
-        subst (λ (n : ℕ). is_target_place (code_at w n) to ≡ true) (sym stay.method) ((verified know s kept runs).lands m i op to z fetches names e)
+    leads-on Verified (leads.Jumps to) know e same = grind (arith)
     leads-on (Marked p) (leads.Gives value) know e same =
         subst (λ (x : State A). IsRunning (without_top x) → CanResume room w (Marked p) (value_width value) (without_top x)) (sym same)
         (tested-resumes room s value (Marked p) shaped (has.result know.0) know.1)
@@ -130,43 +117,29 @@ module _ {A : Type 0} (w : Linked) where
   -- ---- what the lead comes to is what the act comes to
 
   fault-same : (s z : State A) (o : Option Fault) (x : Outcome A) → without_frames z ≡ without_frames s → unless_fault z o x ≡ unless_fault s o x
-  fault-same s z None x e = refl
-  fault-same s z (Some f) x e = ap (ended (Faulted f)) e
+  fault-same s z x x2 e = grind (arith)
 
   goes-same : (k : Cells A) (next : ℕ) (s z : State A) → SameMemory s z → goes_to k w next z z ≡ goes_to k w next s z
-  goes-same k next s z same =
-      let cleared : without_frames z ≡ without_frames s =
-      ap (λ (h : List (Object A)). record { frames = []; heap = h; statics = z.statics }) same.heap
-      ∙ ap (λ (c : List A). record { frames = []; heap = s.heap; statics = c }) same.statics in
-      fault-same s z (fault_next k w z (length (top z).stack) next) (running (with_place z next)) cleared
+  goes-same k next s z same = grind (arith, fault-same, length)
 
   pub same-outcome : (k : Cells A) (next : ℕ) (s z : State A) (lead : Lead) (a : Act A) → a ≡ told k w z lead → Stays lead s z
       → settled k w next z (told k w z lead) ≡ settled k w next s a
-  same-outcome k next s z leads.Goes a e same = goes-same k next s z same ∙ ap (settled k w next s) (sym e)
-  same-outcome k next s z (leads.Jumps to) a e same = ap (settled k w next s) (sym e)
-  same-outcome k next s z (leads.MakesInstance class place) a e same = ap (settled k w next s) (sym e)
-  same-outcome k next s z (leads.MakesArray kind count) a e same = ap (settled k w next s) (sym e)
-  same-outcome k next s z (leads.Calls method count) a e same = ap (settled k w next s) (sym e)
-  same-outcome k next s z lead a e same =
-      ap (λ (x : State A). settled k w next x (told k w z lead)) same ∙ ap (settled k w next s) (sym e)
+  same-outcome k next s z lead a e same = grind (arith, goes-same)
 
   -- ---- the instruction at the place
 
   pub knows-here : (k : Cells A) (room : ℕ) (keeps : State A → Type 0) (s : State A) (known : Known) → keeps s → IsRunning s
       → AreVerified room k keeps w → KnowPlaces k.checks w known
       → KnowsAt w known (top s).method (top s).place
-  knows-here k room keeps s (Marked p) kept runs verified know = know.1
-  knows-here k room keeps s Verified kept runs verified know = (verified know s kept runs).place
+  knows-here k room keeps s x kept runs verified know = grind (arith)
 
   -- a machine that finds none tests
   pub none-tests : (k : Cells A) (known : Known) (method place : ℕ) → KnowPlaces k.checks w known → KnowsAt w known method place
       → instruction_at (code_at w method) place ≡ None → k.checks ≡ true
-  none-tests k (Marked p) method place know at e = know.0
-  none-tests k Verified method place know at e = let h = subst (λ (o : Option Placed). IsSome o) e at in absurd (search rules)
+  none-tests k x method place know at e = grind (arith)
 
   -- and so does one that finds an instruction that names nothing that it takes
   pub fault-tests : (k : Cells A) (room : ℕ) (keeps : State A → Type 0) (s : State A) (known : Known) (m : MethodRec) (i : Placed) (fault : RuleFault)
       → keeps s → IsRunning s
       → AreVerified room k keeps w → KnowPlaces k.checks w known → Fetches w s m i → Resolves w m i.place i.insn (Err fault) → k.checks ≡ true
-  fault-tests k room keeps s (Marked p) m i fault kept runs verified know fetches names = know.0
-  fault-tests k room keeps s Verified m i fault kept runs verified know fetches names = absurd ((verified know s kept runs).resolves m i fault fetches names)
+  fault-tests k room keeps s x m i fault kept runs verified know fetches names = grind (arith)

@@ -31,7 +31,4 @@ module _ {X : Type 0} where
   map-next f xs n x e = ap (map f) (next-take xs n x e) ∙ map-append f (take n xs) (x ∷ [])
 
 pub room-is : (objects cells : ℕ) → objects < 4096 → cells ≤ 32768 → (nat_lt objects 4096 && nat_le cells 32768) ≡ true
-room-is objects cells few small =
-    let a : nat_lt objects 4096 ≡ true = grind (arith, nat_tests) in
-    let b : nat_le cells 32768 ≡ true = grind (arith, nat_tests) in
-    and_from (nat_lt objects 4096) (nat_le cells 32768) a b
+room-is objects cells few small = grind (arith, nat_tests, and_from)

@@ -1,6 +1,6 @@
 -- An object that is thrown over frames, whatever frames the state has besides.
 use Rattle.std.proofs.Common.{◌≡◌, ◌<◌, ◌+◌, ℕ, List, [], ◌∷◌, ◌++◌, length, true, refl, sym, ap, ◌∙◌, arith, add-one}
-use Rattle.std.specs.Prelude.{Option, Some, None, slice_index, if◌then◌else◌, option_map}
+use Rattle.std.specs.Prelude.{Option, None, slice_index, if◌then◌else◌, option_map}
 use Rattle.std.proofs.lemmas.Option.{slice_get-map}
 use Rattle.jc_base.specs.declared.record.Handler.{Handler}
 use Rattle.jc_base.specs.Class.{ClassTable}
@@ -21,13 +21,11 @@ use Rattle.vm_step.specs.Raising.{Outcome, ends, handler_for, caught_or, unwound
 module _ {A : Type 0} (k : Cells A) (w : Linked) (class n : ℕ) where
   by-handler : (s : State A) (gs : List (Frame A)) (f : Frame A) (fs : List (Frame A)) (x y : Outcome A) (o : Option Handler)
       → x ≡ y → caught_or k w n (record s { frames = gs }) f fs x o ≡ caught_or k w n s f fs y o
-  by-handler s gs f fs x y (Some h) e = refl
-  by-handler s gs f fs x y None e = e
+  by-handler s gs f fs x y x2 e = grind (arith)
 
   pub over_same : (s : State A) (gs fs : List (Frame A)) → unwound k w class n (record s { frames = gs }) fs ≡ unwound k w class n s fs
   over_same s gs [] = refl
-  over_same s gs (f ∷ fs) =
-      by-handler s gs f fs (unwound k w class n (record s { frames = gs }) fs) (unwound k w class n s fs) (handler_for w class f) (over_same s gs fs)
+  over_same s gs (f ∷ fs) = grind (arith, by-handler, over_same s gs fs)
 
   pub unwound_dropped : (s : State A) → IsRunning s → handler_for w class (top s) ≡ None
       → unwound k w class n (without_top s) (without_top s).frames ≡ unwound k w class n s s.frames

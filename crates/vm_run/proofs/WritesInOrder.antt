@@ -37,13 +37,10 @@ module _ {A : Type 0} where
 
   -- all cells are written
   pub overwritten-whole : (xs ys : List A) → length ys ≡ length xs → overwritten xs 0 ys ≡ ys
-  overwritten-whole xs ys e =
-      let none : drop (0 + length ys) xs ≡ [] = drop_all (0 + length ys) xs (omega arith) in ap (λ ws. ys ++ ws) none ∙ append-nil ys
+  overwritten-whole xs ys e = grind (arith, drop, length, drop_all, append-nil)
 
   pub length-overwritten : (xs ys : List A) (at : ℕ) → at + length ys ≤ length xs → length (overwritten xs at ys) ≡ length xs
-  length-overwritten xs ys at le =
-      length-append (take at xs) (ys ++ drop (at + length ys) xs)
-      ∙ omega (arith, length-take at xs, length-append ys (drop (at + length ys) xs), length-drop (at + length ys) xs)
+  length-overwritten xs ys at le = grind (arith, length-append, take, drop, length, length-take, length-drop)
 
   -- ---- the last object
 

@@ -1,11 +1,11 @@
 //! The arrays that are there before the first step: the initial ones, and those of arguments.
-ghost use Rattle.std.specs.Prelude.{◌≡◌, ◌+◌, ◌*◌, ◌%◌, ◌≤◌, ◌∷◌, [], ◌++◌, length, map, sum_by, IsTrue, None};
+ghost use Rattle.std.specs.Prelude.{◌≡◌, ◌+◌, ◌*◌, ◌%◌, ◌∷◌, [], ◌++◌, length, map, IsTrue, None};
 ghost use Rattle.jc_base.specs.Cell.{AreElementsOf};
 ghost use Rattle.vm_arithmetic.specs.Arithmetic.{short_of_word};
 ghost use Rattle.vm_store.specs.Value.{byte_of_word};
 ghost use Rattle.vm_store.specs.Kind.{IsArrayKind, IsNumbered, element_width};
 ghost use Rattle.vm_store.specs.Objects.{has_room, with_object, heap_cells};
-ghost use Rattle.vm_step.specs.Start.{int_cells, initial_element_cells, initial_object, with_arrays, first_without_room};
+ghost use Rattle.vm_step.specs.Start.{int_cells, initial_object, with_arrays, first_without_room};
 
 use jc_base::{ArrayRec, Ty, World};
 use vm_step::{Arg, Args};

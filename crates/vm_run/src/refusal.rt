@@ -1,7 +1,7 @@
 //! Why a run does not begin.
 ghost use Rattle.std.specs.Prelude.{◌≡◌, ◌<◌, ◌≤◌, length, filter, map, sum_by};
 ghost use Rattle.vm_step.specs.Arguments.{argument_of};
-ghost use Rattle.vm_step.specs.Start.{can_begin, is_parameter, is_short, fits, first_misfit, first_without_room, method_fault, start_fault, or_room};
+ghost use Rattle.vm_step.specs.Start.{can_begin, is_parameter, is_short, fits, first_misfit, first_without_room, method_fault, start_fault};
 
 use jc_base::{MethodRec, Ty, World, is_reference};
 use vm_step::{Arg, Args, StartFault};

@@ -1,6 +1,6 @@
 //! The static fields before the first step.
 ghost use Rattle.std.specs.Prelude.{◌≡◌, ◌+◌, ◌≤◌, length, flat_map, sum_by};
-ghost use Rattle.jc_base.specs.Cell.{width, AreInitialWords};
+ghost use Rattle.jc_base.specs.Cell.{width};
 ghost use Rattle.vm_store.specs.Layout.{overwritten};
 ghost use Rattle.vm_step.specs.Start.{field_cells};
 
