@@ -1,6 +1,6 @@
 -- The demands of a call, as numbers and as tests.
 use Rattle.std.proofs.Common.{◌≡◌, ℕ, ◌+◌, ◌-◌, ◌<◌, ◌≤◌, Bool, true, false, List, [], ◌∷◌, ◌++◌, length, drop}
-use Rattle.std.proofs.Common.{get_or, refl, ap, ◌∙◌, arith}
+use Rattle.std.proofs.Common.{get_or, refl, ◌∙◌, arith}
 use Rattle.std.specs.Prelude.{max, reverse, Option, Some, None, if◌then◌else◌, ◌&&◌, nat_lt}
 use Rattle.std.specs.List.{list_all}
 use Rattle.std.proofs.lemmas.Bool.{lt-ltb, le-ltb}
@@ -45,8 +45,7 @@ args-under n (ty ∷ tys) ds = let rest = args-under (n + 1) tys ds in omega (ar
 
 receiver-cells : (n : ℕ) (o : Option Want) → (cells_asked (receiver_wanted n o) ≤ n + receiver_count o)
     × (n + receiver_count o ≤ max n (cells_asked (receiver_wanted n o)))
-receiver-cells n None = (omega arith, omega arith)
-receiver-cells n (Some want) = (omega arith, omega arith)
+receiver-cells n x = grind (arith)
 
 call-cells : (args : List Ty) (o : Option Want) → cells_asked (call_demands args o) ≡ length args + receiver_count o
 call-cells args o =
@@ -70,10 +69,7 @@ module _ {A : Type 0} (k : Cells A) (w : Linked) (args : List Ty) (o : Option Wa
   no-registers = le-ltb (length (top s).registers) (registers_asked (call_demands args o)) (omega (arith, call-registers args o))
 
   pub too-few : length (top s).stack < length args + receiver_count o → Some StackFault ≡ unmet k w (call_demands args o) s
-  too-few lt =
-      let less : nat_lt (length (top s).stack) (cells_asked (call_demands args o)) ≡ true = lt-ltb (length (top s).stack)
-      (cells_asked (call_demands args o)) (omega (arith, lt, call-cells args o)) in
-      rw (no-registers, less) refl
+  too-few lt = grind (arith, length, lt-ltb, call-cells, no-registers)
 
   enough : length args + receiver_count o ≤ length (top s).stack → nat_lt (length (top s).stack) (cells_asked (call_demands args o)) ≡ false
   enough le = le-ltb (length (top s).stack) (cells_asked (call_demands args o)) (omega (arith, le, call-cells args o))
@@ -92,8 +88,4 @@ module _ {A : Type 0} (k : Cells A) (w : Linked) (args : List Ty) (o : Option Wa
 pub next-argument : (p : Demand → Bool) (args : List Ty) (n : ℕ) (d : Ty) → n < length args
     → list_all p (cells_wanted n (drop n (reverse args)))
     ≡ (p (Cell n (Value (get_or args (length args - 1 - n) d))) && list_all p (cells_wanted (n + 1) (drop (n + 1) (reverse args))))
-next-argument p args n d lt =
-    let first : drop n (reverse args) ≡ get_or (reverse args) n d ∷ drop (n + 1) (reverse args) = drop_more (reverse args) n d
-    (omega (arith, lt, length-reverse args)) in
-    ap (λ tys. list_all p (cells_wanted n tys)) first
-    ∙ ap (λ ty. p (Cell n (Value ty)) && list_all p (cells_wanted (n + 1) (drop (n + 1) (reverse args)))) (get_or-reverse args n d lt)
+next-argument p args n d lt = grind (arith, drop, get_or, drop_more, length-reverse, get_or-reverse)

@@ -1,8 +1,9 @@
 -- Where the tests before an operation pass, what it speaks of is there.
-use Rattle.std.proofs.Common.{◌≡◌, ℕ, inr, Bool, true, false, List, [], ◌∷◌, ◌++◌, length, refl, ap, subst}
+use Rattle.std.proofs.Common.{arith}
+use Rattle.std.proofs.Common.{◌≡◌, ℕ, inr, Bool, true, false, List, [], ◌∷◌, ◌++◌, length, refl, subst}
 use Rattle.std.specs.Prelude.{Some, ◌==◌, MatchBool, IsSome, reverse, slice_get, ⊤}
 use Rattle.jc_base.specs.declared.ty.Ty.{Ty}
-use Rattle.jc_base.specs.declared.ty.Ty.TheVariants.{Bottom, Class, ArrBool, ArrByte, ArrShort, ArrInt, ArrRef}
+use Rattle.jc_base.specs.declared.ty.Ty.TheVariants.{Bottom, Class, ArrShort, ArrInt, ArrRef}
 use Rattle.jc_base.specs.declared.ty.Kind.{Kind}
 use Rattle.jc_base.specs.declared.ty.Kind.TheVariants as fields
 use Rattle.jc_base.specs.declared.record.MethodRec.{MethodRec}
@@ -47,17 +48,10 @@ last-holds t f [] d h = h.0
 last-holds t f (e ∷ ds) d h = last-holds t f ds d h.1
 
 ref-size : (ty : Ty) → IsOfKind fields.Ref ty → value_size ty ≡ 1
-ref-size (Class c) h = refl
-ref-size ArrBool h = refl
-ref-size ArrByte h = refl
-ref-size ArrShort h = refl
-ref-size ArrInt h = refl
-ref-size (ArrRef c) h = refl
-ref-size _ h = absurd h
+ref-size x h = grind (arith)
 
 size-of : (kind : Kind) (ty : Ty) → IsOfKind kind ty → value_size ty ≡ width kind
-size-of fields.Ref ty h = ref-size ty h
-size-of kind ty h = ap value_size h
+size-of kind ty h = grind (arith, ref-size)
 
 module _ (w : Linked) (is : IsWorld w) (s : State TaggedCell) (kept : IsShaped w s) where
   abbrev frame : Frame
@@ -85,8 +79,7 @@ module _ (w : Linked) (is : IsWorld w) (s : State TaggedCell) (kept : IsShaped w
       here = subst (λ x. IsNullOr x (IsObject w.classes s x)) e value
 
       by : (b : Bool) → MatchBool b ⊤ (IsObject w.classes s h) → MatchBool b ⊤ (MayCompare tagged w.classes fields.Ref s h)
-      by true a = tt
-      by false a = (a, here)
+      by x a = grind (arith)
 
   finds-write : (i : Insn) (kind : Kind) → SatisfiesAll w.classes frame (demands w (ops.ArrayWrite kind)) → FindsNamed tagged w i (ops.ArrayWrite kind) s
   finds-write i fields.Ref h = (
@@ -103,8 +96,7 @@ module _ (w : Linked) (is : IsWorld w) (s : State TaggedCell) (kept : IsShaped w
 
   finds-read : (i : Insn) (f : InstanceField) (holder : Holder) → IsFieldOf w f → SatisfiesAll w.classes frame (demands w (ops.FieldRead f holder))
       → FindsNamed tagged w i (ops.FieldRead f holder) s
-  finds-read i f holders.Stack field h =
-      (field.cells.kind, field-or-null w is s kept.objects f field (on 0) (met 0 (Value (Class f.class)) h.0))
+  finds-read i f holders.Stack field h = grind (arith, field-or-null w is s kept.objects f field (on 0) (met 0 (Value (Class f.class)) h.0))
   finds-read i f holders.This field h =
       (field.cells.kind, field-or-null w is s kept.objects f field (nth tagged (top s).registers 0) (held 0 (Class f.class) h.1.0))
 

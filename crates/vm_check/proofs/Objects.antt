@@ -1,17 +1,17 @@
 -- What the least type of a cell says of the object that it refers to.
+use Rattle.std.proofs.Common.{arith}
 use Rattle.std.proofs.Common.{◌≡◌, ℕ, zero, suc, ◌==◌, ◌⊎◌, inl, inr, Bool, true, false, List, [], ◌∷◌, length, IsTrue, refl, sym}
 use Rattle.std.proofs.Common.{◌∙◌, subst}
 use Rattle.std.specs.Prelude.{◌↔◌, Option, Some, None, All, MatchBool, map, slice_get, ⊤}
 use Rattle.std.proofs.lemmas.Bool.{true≢false, eq-eqb}
 use Rattle.jc_base.specs.declared.ty.Ty.{Ty}
-use Rattle.jc_base.specs.declared.ty.Ty.TheVariants.{Bottom, Short, IntHigh, IntLow, Class, ArrBool, ArrByte, ArrShort, ArrInt, ArrRef, Fresh, Top}
+use Rattle.jc_base.specs.declared.ty.Ty.TheVariants.{Bottom, Short, IntHigh, IntLow, Fresh, Top}
 use Rattle.jc_base.specs.Class.{ClassTable}
 use Rattle.jc_base.specs.Order.{Below, is_below, is_reference}
 use Rattle.jc_base.proofs.Lists.{All-slice_get}
 use Rattle.vm_store.specs.declared.cell.Cell.{Cell}
 use Rattle.vm_store.specs.declared.cell.Cell.TheVariants as cells
 use Rattle.vm_store.specs.declared.kind.ObjectKind.{ObjectKind}
-use Rattle.vm_store.specs.declared.kind.ObjectKind.TheVariants.{Instance}
 use Rattle.vm_store.specs.Kind.{kind_of_handle, type_of_kind}
 use Rattle.vm_store.specs.Typing.{least_type, type_of_handle, type_seen, type_of_fresh, fresh_seen}
 use Rattle.vm_store.specs.Cells.{word_of}
@@ -39,13 +39,7 @@ pub record HasObjects (t : ClassTable) (ty : Ty) : Type 0 where
 
 pub has-objects : (t : ClassTable) (ty : Ty) → is_reference ty ≡ true → HasObjects t ty
 unfolding is_below
-has-objects t (Class c) h = record { short = refl; high = refl; low = refl; top = refl; fresh = λ p c. refl }
-has-objects t ArrBool h = record { short = refl; high = refl; low = refl; top = refl; fresh = λ p c. refl }
-has-objects t ArrByte h = record { short = refl; high = refl; low = refl; top = refl; fresh = λ p c. refl }
-has-objects t ArrShort h = record { short = refl; high = refl; low = refl; top = refl; fresh = λ p c. refl }
-has-objects t ArrInt h = record { short = refl; high = refl; low = refl; top = refl; fresh = λ p c. refl }
-has-objects t (ArrRef c) h = record { short = refl; high = refl; low = refl; top = refl; fresh = λ p c. refl }
-has-objects t _ h = absurd (cc)
+has-objects t x h = grind (arith)
 
 -- an object of a handle, whose type is below another
 pub record HasKind (t : ClassTable) (ks : List ObjectKind) (h : ℕ) (ty : Ty) : Type 0 where
@@ -66,8 +60,7 @@ module _ (t : ClassTable) (decided : (a b : Ty) → IsTrue (is_below t a b) ↔ 
       by (Some k) e b = inr (record { kind = k; there = e; below = b })
 
   fresh-never : {X : Type 0} (o : Option ObjectKind) (p : ℕ) (ty : Ty) → HasObjects t ty → Below t (fresh_seen p o) ty → X
-  fresh-never (Some (Instance c)) p ty has b = never (Fresh p c) ty b (has.fresh p c)
-  fresh-never _ p ty has b = never Top ty b has.top
+  fresh-never x p ty has b = grind (arith, never)
 
   fresh-none : {X : Type 0} (ks : List ObjectKind) (h p : ℕ) (ty : Ty) → HasObjects t ty → Below t (type_of_fresh ks h p) ty → X
   fresh-none ks zero p ty has b = never Top ty b has.top

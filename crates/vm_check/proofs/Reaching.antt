@@ -1,13 +1,13 @@
 -- What the tests before an operation say of the objects, fields and classes that it speaks of.
 use Rattle.std.proofs.Common.{◌≡◌, ℕ, zero, suc, ◌+◌, ◌<◌, ◌≤◌, ◌⊎◌, inl, inr, true, List, [], ◌∷◌, length, IsTrue, refl, sym}
 use Rattle.std.proofs.Common.{ap, ◌∙◌, subst, arith}
-use Rattle.std.specs.Prelude.{◌↔◌, Option, Some, None, All, Any, IsSome, IsSomeAnd, sum_by, slice_get, slice_index_or, is_some}
+use Rattle.std.specs.Prelude.{◌↔◌, Option, Some, None, All, Any, IsSome, sum_by, slice_get, slice_index_or, is_some}
 use Rattle.std.proofs.lemmas.Bool.{eqb-true}
 use Rattle.std.proofs.lemmas.Option.{slice_get_within}
 use Rattle.std.proofs.lemmas.List.{length-append}
 use Rattle.std.proofs.lemmas.List.Sums.{sum_by-cons}
 use Rattle.jc_base.specs.declared.ty.Ty.{Ty}
-use Rattle.jc_base.specs.declared.ty.Ty.TheVariants.{Bottom, IntLow, Class, ArrBool, ArrByte, ArrShort, ArrInt, ArrRef}
+use Rattle.jc_base.specs.declared.ty.Ty.TheVariants.{Bottom, Class, ArrBool, ArrByte, ArrShort, ArrInt, ArrRef}
 use Rattle.jc_base.specs.declared.ty.Kind.{Kind}
 use Rattle.jc_base.specs.declared.ty.Kind.TheVariants as fields
 use Rattle.jc_base.specs.declared.record.StaticRec.{StaticRec}
@@ -27,11 +27,11 @@ use Rattle.jc_rules.specs.Rule.{array_wanted}
 use Rattle.vm_store.specs.declared.cell.Cell.{Cell}
 use Rattle.vm_store.specs.declared.cell.Cell.TheVariants as cells
 use Rattle.vm_store.specs.declared.kind.ObjectKind.{ObjectKind}
-use Rattle.vm_store.specs.declared.kind.ObjectKind.TheVariants.{Instance, Ints, References}
+use Rattle.vm_store.specs.declared.kind.ObjectKind.TheVariants.{Instance, Ints}
 use Rattle.vm_store.specs.Kind.{element_width, kind_of_handle, type_of_kind}
 use Rattle.vm_store.specs.Typing.{least_type, type_seen, fresh_seen}
 use Rattle.vm_store.specs.Cells.{word_of}
-use Rattle.vm_store.specs.State.{State, Object}
+use Rattle.vm_store.specs.State.{State}
 use Rattle.vm_store.specs.Objects.{kinds, object_at, object_cells, cells_in}
 use Rattle.vm_step.specs.Instance.{IsRecorded}
 use Rattle.vm_step.specs.Calls.{class_of, class_with_methods}
@@ -57,15 +57,10 @@ module _ (w : Linked) (is : IsWorld w) (s : State Cell) (shaped : All (IsShapedO
   there h kind o = ap is_some o.there
 
   recorded-for : (kind : ObjectKind) (n : ℕ) → IsShapedFor w.classes kind n → IsRecorded w.classes kind
-  recorded-for (Instance c) n h = h.0.number
-  recorded-for (References c) n h = h
-  recorded-for kind n h = tt
+  recorded-for kind n h = grind (arith)
 
   is-object : (h : ℕ) (kind : ObjectKind) → HasObject w.classes s h kind → IsObject w.classes s h
-  is-object h kind o =
-      let recorded : IsRecorded w.classes kind = recorded-for kind (length o.object.cells) o.shaped in
-      subst (λ x. IsSomeAnd x (λ (y : Object Cell). IsRecorded w.classes y.kind)) (sym o.there)
-      (subst (IsRecorded w.classes) (sym o.kind_is) recorded)
+  is-object h kind o = grind (arith, recorded-for, length, there)
 
   -- a cell of a reference type refers to an object of the world, or to none
   pub object-or-null : (c : Cell) (ty : Ty) → is_reference ty ≡ true → Below w.classes (type_of c) ty
@@ -96,8 +91,7 @@ module _ (w : Linked) (is : IsWorld w) (s : State Cell) (shaped : All (IsShapedO
       first = slice_get_within (cells_of w.classes f.class) f.cell f.ty field.cells.first
 
       by : (k : Kind) → IsField w.classes f.class f.cell k f.ty → f.cell + width k ≤ length (cells_of w.classes f.class)
-      by fields.Int c = omega (arith, slice_get_within (cells_of w.classes f.class) (f.cell + 1) IntLow c.second)
-      by kind c = omega (arith, first)
+      by kind c = grind (arith, slice_get_within)
 
   field-in : (f : InstanceField) → IsFieldOf w f → (kind : ObjectKind) (n : ℕ) → IsShapedFor w.classes kind n
       → Below w.classes (type_of_kind w.classes kind) (Class f.class) → f.cell + width f.kind ≤ n
@@ -123,8 +117,7 @@ module _ (w : Linked) (is : IsWorld w) (s : State Cell) (shaped : All (IsShapedO
   -- ---- arrays
 
   array-for : (kind : Kind) (h : ℕ) (found : ObjectKind) → HasObject w.classes s h found → element_width found ≡ width kind → IsArrayFor kind s h
-  array-for kind h found o e =
-      subst (λ x. IsSomeAnd x (λ (y : Object Cell). element_width y.kind ≡ width kind)) (sym o.there) (ap element_width o.kind_is ∙ e)
+  array-for kind h found o e = grind (arith, there)
 
   -- the kinds whose arrays are below an array type
   abbrev width-below : (kind : Kind) (ty : Ty) → Type 0
@@ -198,8 +191,7 @@ module _ (w : Linked) (is : IsWorld w) (s : State Cell) (shaped : All (IsShapedO
   -- ---- receivers
 
   class-for : (kind : ObjectKind) (n : ℕ) → IsShapedFor w.classes kind n → IsClass w.classes (class_with_methods w.classes (Some kind))
-  class-for (Instance c) n h = h.0
-  class-for kind n h = is.chains.objects
+  class-for kind n h = grind (arith)
 
   object-is : (class : ℕ) → is_above_arrays w.classes (Class class) ≡ true → Below w.classes (Class (object w.classes)) (Class class)
   object-is class e = subst (λ c. Below w.classes (Class (object w.classes)) (Class c)) (sym (eqb-true class (object w.classes) e)) same
@@ -216,13 +208,7 @@ module _ (w : Linked) (is : IsWorld w) (s : State Cell) (shaped : All (IsShapedO
 
   receives : (class h : ℕ) (kind : ObjectKind) → kind_of_handle (kinds s) h ≡ Some kind
       → Below w.classes (type_of_kind w.classes kind) (Class class) → Receives class h
-  receives class h kind e b =
-      let o = some-object h kind e in
-      let known : class_of w.classes s h ≡ class_with_methods w.classes (Some kind) = ap (class_with_methods w.classes) e in (
-        there h kind o,
-        subst (IsClass w.classes) (sym known) (class-for kind (length o.object.cells) o.shaped),
-        subst (λ c. Below w.classes (Class c) (Class class)) (sym known) (class-below kind class b),
-      )
+  receives class h kind e b = grind (arith, some-object h kind e, class-below kind class b, there, class-for, length)
 
   pub receiver-or-null : (class : ℕ) (c : Cell) → Below w.classes (type_of c) (Class class) → IsNullOr (word_of c) (Receives class (word_of c))
   receiver-or-null class c b = null-or (word_of c) (Receives class (word_of c)) (by (cell-object w.classes decided (kinds s) c (Class class) refl b))

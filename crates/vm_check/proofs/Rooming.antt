@@ -1,13 +1,11 @@
 -- The room that an operation takes on the operand stack: two cells, or those that it copies.
 use Rattle.std.proofs.Common.{ℕ, ◌+◌, ◌≤◌, List, [], length, arith}
-use Rattle.std.specs.Prelude.{max, Option, Some, None, slice_get}
+use Rattle.std.specs.Prelude.{max, Option}
 use Rattle.jc_base.specs.declared.ty.Ty.{Ty}
-use Rattle.jc_base.specs.declared.ty.Ty.TheVariants.{IntHigh, Fresh}
 use Rattle.jc_base.specs.declared.ty.Kind.TheVariants as kinds
 use Rattle.jc_base.specs.declared.record.MethodRec.{MethodRec}
 use Rattle.jc_base.specs.World.{Linked}
 use Rattle.jc_ops.specs.declared.want.Want.{Want}
-use Rattle.jc_ops.specs.declared.want.Want.TheVariants.{Receiver}
 use Rattle.jc_ops.specs.declared.operation.Sort.TheVariants as sorts
 use Rattle.jc_ops.specs.declared.operation.Width.TheVariants as widths
 use Rattle.jc_ops.specs.declared.operation.Constant.TheVariants as constants
@@ -24,7 +22,7 @@ use Rattle.jc_rules.specs.declared.effect.Cells.TheVariants as given
 use Rattle.jc_rules.specs.Demand.{Frame}
 use Rattle.jc_rules.specs.Effect.{in_stack_order}
 use Rattle.jc_rules.specs.Footprint.{footprint, cells_given}
-use Rattle.jc_rules.specs.Rule.{cell, value_given, result_given, ready_with, call_change, args_at, result_at}
+use Rattle.jc_rules.specs.Rule.{ready_with, call_change}
 
 -- how many cells an operation copies
 abbrev copies : Operation → ℕ
@@ -32,45 +30,20 @@ copies (ops.Move (moves.CopyUnder copied under)) = copied
 copies _ = 0
 
 given-cells : (cells : Cells) → length (in_stack_order cells) ≤ 2
-given-cells given.Int = omega arith
-given-cells cells = omega arith
+given-cells cells = grind (arith)
 
 ready-given : (taken : ℕ) (cells : Cells) (ty : Ty) (want : Want) → cells_given (ready_with taken cells ty want) ≤ 2
-ready-given taken cells (Fresh place c) (Receiver d) = given-cells cells
-ready-given taken cells _ _ = given-cells cells
+ready-given taken cells x x2 = grind (arith, given-cells)
 
 call-given : (args : List Ty) (cells : Cells) (receiver : Option Want) (f : Frame) → cells_given (call_change args cells receiver f) ≤ 2
-call-given args cells None f = given-cells cells
-call-given args cells (Some want) f = ready-given (length args + 1) cells (cell f.stack (length args)) want
+call-given args cells x f = grind (arith, given-cells, ready-given, length)
 
 -- two cells at most, or those that it copies
 gives-few : (w : Linked) (op : Operation) → (footprint w op).given ≤ max (copies op) 2 + (footprint w op).taken
-gives-few w (ops.StaticRead f) = let few = given-cells (value_given f.ty) in omega (arith, few)
-gives-few w (ops.FieldRead f holders.Stack) = let few = given-cells (value_given f.ty) in omega (arith, few)
-gives-few w (ops.FieldRead f holders.This) = let few = given-cells (value_given f.ty) in omega (arith, few)
-gives-few w (ops.Call c) =
-    let few = call-given (args_at (slice_get w.methods c.method)) (result_given (result_at (slice_get w.methods c.method))) c.receiver
-    (record { regs = []; stack = [] }) in
-    omega (arith, few)
-gives-few w (ops.Constant constants.Nothing) = omega arith
-gives-few w (ops.Load sorts.Int x) = omega arith
-gives-few w (ops.Store sorts.Int x) = omega arith
-gives-few w (ops.Increment widths.Int x amount) = omega arith
-gives-few w (ops.Move moves.Pop) = omega arith
-gives-few w (ops.Arithmetic (arithmetic.Binary operator widths.Int)) = omega arith
-gives-few w (ops.Arithmetic (arithmetic.Negate widths.Int)) = omega arith
-gives-few w (ops.ArrayRead kinds.Int) = omega arith
-gives-few w (ops.ArrayWrite kinds.Int) = omega arith
-gives-few w (ops.Branch branches.Always) = omega arith
-gives-few w (ops.Switch widths.Int) = omega arith
-gives-few w (ops.FieldWrite f holders.This) = omega arith
-gives-few w (ops.TypeTest tests.Cast ty) = omega arith
-gives-few w (ops.Return (Some IntHigh)) = omega arith
-gives-few w op = omega arith
+gives-few w op = grind (arith, given-cells, call-given)
 
 copies-few : (w : Linked) (m : MethodRec) (place : ℕ) (op : Operation) → IsSound w m place op → copies op ≤ 255
-copies-few w m place (ops.Move (moves.CopyUnder copied under)) h = omega (arith, h)
-copies-few w m place op h = omega arith
+copies-few w m place op h = grind (arith)
 
 -- on a stack of 255 cells each operation has room in 510
 pub room-for : (w : Linked) (m : MethodRec) (place : ℕ) (op : Operation) (depth : ℕ) → IsSound w m place op → depth ≤ 255

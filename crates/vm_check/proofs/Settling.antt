@@ -49,22 +49,17 @@ module _ (w : Linked) where
   Good (ended e z) = IsShaped w z
 
   good-if : (b : Bool) (x y : Outcome Cell) → (b ≡ true → Good x) → Good y → Good (if b then x else y)
-  good-if true x y h g = h refl
-  good-if false x y h g = g
+  good-if x x2 y h g = grind (arith)
 
   -- ---- the tests after
 
   next-tests : (s : State Cell) (x : Outcome Cell) (over past : Bool) → IsShaped w (without_frames s) → (over ≡ false → Good x)
       → Good (unless_fault s (if over then Some StackFault else if past then Some JumpFault else None) x)
-  next-tests s x true past kept good = kept
-  next-tests s x false true kept good = kept
-  next-tests s x false false kept good = good refl
+  next-tests s x x2 past kept good = grind (arith)
 
   target-tests : (s : State Cell) (x : Outcome Cell) (over there : Bool) → IsShaped w (without_frames s) → (over ≡ false → Good x)
       → Good (unless_fault s (if over then Some StackFault else if there then None else Some JumpFault) x)
-  target-tests s x true there kept good = kept
-  target-tests s x false true kept good = good refl
-  target-tests s x false false kept good = kept
+  target-tests s x x2 there kept good = grind (arith)
 
   next-ended : (s z : State Cell) → IsShaped w s → Next w s z → IsShaped w (without_frames z)
   next-ended s z kept n = record { frames = All-nil (IsShapedFrame w); objects = n.objects; statics = n.statics ∙ kept.statics }
@@ -177,19 +172,13 @@ module _ (w : Linked) where
 
       by : (o : Option Handler) → Good (unwound tagged w class handle s below)
           → Good (caught_or tagged w handle s f below (unwound tagged w class handle s below) o)
-      by None rest = rest
-      by (Some h) rest = at h (nat_lt (max_stack_of w f.method) 1) refl
+      by x rest = grind (arith, at)
 
   thrown-good : (handle : ℕ) (s : State Cell) → IsShaped w s → Good (thrown tagged w handle s)
   thrown-good handle s kept = unwound-good (class_of w.classes s handle) handle s kept s.frames kept.frames
 
   role-class : IsWorld w → (e : Exception) → IsClass w.classes (slice_index w.classes.roles (role_of e))
-  role-class is exceptions.NullPointer = (is.roles.others 2 (omega arith) (omega arith)).concrete.class
-  role-class is exceptions.Arithmetic = (is.roles.others 3 (omega arith) (omega arith)).concrete.class
-  role-class is exceptions.ArrayIndex = (is.roles.others 4 (omega arith) (omega arith)).concrete.class
-  role-class is exceptions.NegativeSize = (is.roles.others 5 (omega arith) (omega arith)).concrete.class
-  role-class is exceptions.ClassCast = (is.roles.others 6 (omega arith) (omega arith)).concrete.class
-  role-class is exceptions.ArrayStore = (is.roles.others 7 (omega arith) (omega arith)).concrete.class
+  role-class is x = grind (arith)
 
   raised-good : IsWorld w → (e : Exception) (s : State Cell) → IsShaped w s → Good (raised tagged w e s)
   raised-good is e s kept =
@@ -216,8 +205,7 @@ module _ (w : Linked) where
   settled-good is next s runs kept (lacks class) fine = shaped-ended w s kept
 
   unless-good : (s : State Cell) (o p : Option Fault) (x : Outcome Cell) → IsShaped w s → o ≡ p → (p ≡ None → Good x) → Good (unless_fault s o x)
-  unless-good s None p x kept e good = good (sym e)
-  unless-good s (Some f) p x kept e good = shaped-ended w s kept
+  unless-good s x p x2 kept e good = grind (arith, shaped-ended)
 
   pub step-good : IsWorld w → AreDispatched w.classes w.methods → AreDecided w.classes → OperationsAreSound w → (s : State Cell) (o : Outcome Cell)
       → IsShaped w s → Steps tagged w s o → Good o

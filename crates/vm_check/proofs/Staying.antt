@@ -19,8 +19,7 @@ use Rattle.vm_check.specs.Shaped.{IsShaped, IsShapedFrame, IsShapedObject, IsSha
 -- ---- lists
 
 pub first-of : {A : Type 0} (P : Frame A → Type 0) (fs : List (Frame A)) → 0 < length fs → All P fs → P (first_frame fs)
-first-of P [] lt h = absurd (omega (arith, lt))
-first-of P (f ∷ fs) lt h = All-head P f fs h
+first-of x x2 lt h = grind (arith)
 
 pub others-of : {A : Type 0} (P : Frame A → Type 0) (fs : List (Frame A)) → All P fs → All P (other_frames fs)
 others-of P [] h = All-nil P
@@ -54,44 +53,21 @@ module _ {A : Type 0} (w : Linked) where
     next-stack cells = record { running = omega arith; method = refl; registers = refl; others = refl; objects = shaped; statics = refl }
 
     pub next-register : (x : ℕ) (c : A) → Next s (with_register s x c)
-    next-register x c =
-        record { running = omega arith; method = refl; registers = length-set (top s).registers x c; others = refl; objects = shaped; statics = refl }
+    next-register x c = grind (arith, length-set)
 
     pub next-registers : (x y : ℕ) (c d : A) → Next s (with_register (with_register s x c) y d)
-    next-registers x y c d = record {
-      running = omega arith;
-      method = refl;
-      others = refl;
-      objects = shaped;
-      statics = refl;
-      registers = length-set (set (top s).registers x c) y d ∙ length-set (top s).registers x c;
-    }
+    next-registers x y c d = grind (arith, length-set, set)
 
     pub next-popped : (cells : List A) (x : ℕ) (c : A) → Next s (with_register (with_stack s cells) x c)
-    next-popped cells x c =
-        record { running = omega arith; method = refl; registers = length-set (top s).registers x c; others = refl; objects = shaped; statics = refl }
+    next-popped cells x c = grind (arith, length-set)
 
     pub next-popped-twice : (cells : List A) (x y : ℕ) (c d : A) → Next s (with_register (with_register (with_stack s cells) x c) y d)
-    next-popped-twice cells x y c d = record {
-      running = omega arith;
-      method = refl;
-      others = refl;
-      objects = shaped;
-      statics = refl;
-      registers = length-set (set (top s).registers x c) y d ∙ length-set (top s).registers x c;
-    }
+    next-popped-twice cells x y c d = grind (arith, length-set, set)
 
   -- writes
   one-written : (s z : State A) → Next s z → (h i : ℕ) (c : A) → Next s (with_object_cell z h i c)
   one-written s z n zero i c = n
-  one-written s z n (suc h) i c = record {
-    running = n.running;
-    method = n.method;
-    registers = n.registers;
-    others = n.others;
-    objects = written w.classes z.heap h i c n.objects;
-    statics = n.statics;
-  }
+  one-written s z n (suc h) i c = grind (arith, written)
 
   pub value-written : (s z : State A) → Next s z → (h at : ℕ) (cs : List A) → Next s (with_object_value z h at cs)
   value-written s z n h at [] = n

@@ -26,7 +26,6 @@ use Rattle.jc_rules.specs.Rule.{demands}
 use Rattle.vm_store.specs.declared.cell.Cell.{Cell}
 use Rattle.vm_store.specs.declared.cell.Cell.TheVariants as cells
 use Rattle.vm_store.specs.declared.kind.ObjectKind.{ObjectKind}
-use Rattle.vm_store.specs.declared.kind.ObjectKind.TheVariants.{Instance, References}
 use Rattle.vm_store.specs.Kind.{type_of_kind}
 use Rattle.vm_store.specs.Typing.{least_type, type_seen, fresh_seen}
 use Rattle.vm_store.specs.Cells.{tagged}
@@ -52,9 +51,7 @@ seen-class t are c lt = by (is_interface t c) refl
     by false e = record { number = lt; class = e }
 
 kind-known : (t : ClassTable) → AreClasses t → (kind : ObjectKind) (n : ℕ) → IsShapedFor t kind n → IsKnown t (type_of_kind t kind)
-kind-known t are (Instance c) n h = h.0
-kind-known t are (References c) n h = seen-class t are c h
-kind-known t are kind n h = tt
+kind-known t are kind n h = grind (arith, seen-class)
 
 seen-known : (t : ClassTable) → AreClasses t → (heap : List (Object Cell)) (n : ℕ) → All (IsShapedObject t) heap
     → IsKnown t (type_seen t (slice_get (map (λ (o : Object Cell). o.kind) heap) n))
@@ -63,8 +60,7 @@ seen-known t are (o ∷ os) zero h = kind-known t are o.kind (length o.cells) (A
 seen-known t are (o ∷ os) (suc n) h = seen-known t are os n (All-tail (IsShapedObject t) o os h)
 
 fresh-kind : (t : ClassTable) (p : ℕ) (kind : ObjectKind) (n : ℕ) → IsShapedFor t kind n → IsKnown t (fresh_seen p (Some kind))
-fresh-kind t p (Instance c) n h = h.0
-fresh-kind t p kind n h = tt
+fresh-kind t p kind n h = grind (arith)
 
 fresh-known : (t : ClassTable) (p : ℕ) (heap : List (Object Cell)) (n : ℕ) → All (IsShapedObject t) heap
     → IsKnown t (fresh_seen p (slice_get (map (λ (o : Object Cell). o.kind) heap) n))
@@ -99,13 +95,10 @@ found-in place (j ∷ js) i e = by (j.place == place) refl e (found-in place js 
 
 decoded-at : (code : List ℕ) (place : ℕ) (i : Placed) → instruction_at code place ≡ Some i → decoded code place ≡ Ok i.insn
 unfolding instruction_at
-decoded-at code place i e =
-    let found = found-in place (listing code) i e in
-    subst (λ n. decoded code n ≡ Ok i.insn) found.1 ((all-are-listed code).decodes i found.0)
+decoded-at code place i e = grind (arith, found-in place (listing code) i e, all-are-listed code)
 
 pub top-shaped : {A : Type 0} (w : Linked) (fs : List (Frame A)) → 0 < length fs → All (IsShapedFrame w) fs → IsShapedFrame w (first_frame fs)
-top-shaped w [] lt h = absurd (omega (arith, lt))
-top-shaped w (f ∷ fs) lt h = All-head (IsShapedFrame w) f fs h
+top-shaped w x lt h = grind (arith)
 
 result-declared : (w : Linked) → IsWorld w → (n : ℕ) (m : MethodRec) → slice_get w.methods n ≡ Some m → IfSome m.sig.result (IsDeclared w.classes)
 result-declared w is n m e =

@@ -1,6 +1,7 @@
 -- What the tests before an operation say where they pass.
-use Rattle.std.proofs.Common.{◌≡◌, ℕ, zero, suc, ◌≤◌, Bool, true, false, List, [], ◌∷◌, length, refl, subst}
-use Rattle.std.specs.Prelude.{Some, None, if◌then◌else◌, nat_lt, MatchBool, IsSomeAnd, map, slice_get, slice_index_or}
+use Rattle.std.proofs.Common.{arith}
+use Rattle.std.proofs.Common.{◌≡◌, ℕ, zero, suc, ◌≤◌, Bool, true, false, List, [], ◌∷◌, length, subst}
+use Rattle.std.specs.Prelude.{Some, None, if◌then◌else◌, MatchBool, IsSomeAnd, map, slice_get, slice_index_or}
 use Rattle.std.specs.List.{list_all}
 use Rattle.std.proofs.lemmas.Bool.{ltb-false, and_parts}
 use Rattle.jc_base.specs.declared.ty.Ty.{Ty}
@@ -21,10 +22,7 @@ pub record Pass {A : Type 0} (k : Cells A) (w : Linked) (ds : List Demand) (s : 
 
 three-tests : (a b c : Bool) → (if a then Some LocalFault else if b then Some StackFault else if c then None else Some TypeFault) ≡ None
     → (a ≡ false) × (b ≡ false) × (c ≡ true)
-three-tests true b c e = absurd (cc)
-three-tests false true c e = absurd (cc)
-three-tests false false true e = (refl, refl, refl)
-three-tests false false false e = absurd (cc)
+three-tests x b c e = grind (arith)
 
 first-holds : (t : ClassTable) → AreDecided t → (f : Frame) (d : Demand) → satisfies t f d ≡ true → Satisfies t f d
 first-holds t decided f d h = subst (λ b. MatchBool b (Satisfies t f d) (¬ (Satisfies t f d))) h (decided.demand f d)
@@ -37,16 +35,7 @@ all-hold t decided f (d ∷ ds) h =
 
 -- where no fault is told, each test passes
 pub passes : {A : Type 0} (k : Cells A) (w : Linked) → AreDecided w.classes → (ds : List Demand) (s : State A) → unmet k w ds s ≡ None → Pass k w ds s
-passes k w decided ds s e =
-    let regs = nat_lt (length (top s).registers) (registers_asked ds) in
-    let depth = nat_lt (length (top s).stack) (cells_asked ds) in
-    let met = list_all (satisfies w.classes (types_of k w s)) ds in
-    let three = three-tests regs depth met e in
-    record {
-      registers = ltb-false (length (top s).registers) (registers_asked ds) three.0;
-      cells = ltb-false (length (top s).stack) (cells_asked ds) three.1;
-      hold = all-hold w.classes decided (types_of k w s) ds three.2;
-    }
+passes k w decided ds s e = grind (arith, length, three-tests, ltb-false, all-hold)
 
 -- a test of a cell is one of the cell that is read
 pub cell-is : {A : Type 0} (f : A → Ty) (xs : List A) (n : ℕ) (d : A) (P : Ty → Type 0) → IsSomeAnd (slice_get (map f xs) n) P

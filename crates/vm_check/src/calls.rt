@@ -1,4 +1,4 @@
-ghost use Rattle.std.specs.Prelude.{◌≡◌, ◌+◌, ◌<◌, ◌≤◌, length, reverse, IfSome, Option, Some, All};
+ghost use Rattle.std.specs.Prelude.{◌≡◌, ◌+◌, ◌<◌, reverse, IfSome, Option, Some, All};
 ghost use Rattle.std.specs.List.{list_all};
 ghost use Rattle.jc_base.specs.Order.{IsKnown};
 ghost use Rattle.jc_ops.specs.declared.operation.Operation.TheVariants as ops;

@@ -1,11 +1,11 @@
-ghost use Rattle.std.specs.Prelude.{◌≡◌, ◌∷◌, [], IfSome};
+ghost use Rattle.std.specs.Prelude.{◌≡◌};
 ghost use Rattle.jc_base.specs.Class.{IsClass, object};
 ghost use Rattle.jc_base.specs.Order.{IsKnown};
 ghost use Rattle.jc_ops.specs.declared.operation.Width.TheVariants as widths;
 ghost use Rattle.jc_ops.specs.declared.operation.Holder.TheVariants as holders;
 ghost use Rattle.jc_ops.specs.Sound.{IsKnownWant, IsMove};
-ghost use Rattle.jc_rules.specs.Known.{IsKnownOperation, IsKnownCallee, IsValue};
-ghost use Rattle.jc_rules.specs.Rule.{a_reference, number, two_numbers, demands, load_demands, store_demands, increment_demands, move_demands, arithmetic_demands, array_wanted, array_read_demands, array_write_demands, branch_demands, field_read_demands, field_write_demands, value_wanted, return_demands};
+ghost use Rattle.jc_rules.specs.Known.{IsKnownOperation};
+ghost use Rattle.jc_rules.specs.Rule.{a_reference, number, two_numbers, demands, load_demands, store_demands, increment_demands, move_demands, arithmetic_demands, array_wanted, array_read_demands, array_write_demands, branch_demands, field_read_demands, field_write_demands, value_wanted};
 ghost use Rattle.vm_step.specs.Tests.{fault_before, unmet};
 ghost use Rattle.vm_check.specs.Shaped.{CanTest};
 
