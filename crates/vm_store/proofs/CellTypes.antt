@@ -1,4 +1,5 @@
 -- The types of cells.
+use Rattle.std.proofs.Common.{arith}
 use Rattle.std.proofs.Common.{◌≡◌, ℕ, zero, suc, Bool, true, false, List, ◌++◌, refl, sym, subst}
 use Rattle.std.specs.Prelude.{Option, Some, None, ◌==◌, if◌then◌else◌, slice_get}
 use Rattle.std.proofs.lemmas.Bool.{false≢true}
@@ -81,8 +82,7 @@ module _ (t : ClassTable) (ks : List ObjectKind) where
   own_fresh h p o e = anything
 
   above_seen : AreClasses t → (c : Cell) (p : ℕ) (o : Option ObjectKind) (u : Ty) → IsReady u → Below t (fresh_seen p o) u → HasType t ks c u
-  above_seen are c p (Some (Instance k)) u r b = above_fresh c p k u r (is_below-from_Below t are b)
-  above_seen are c p o u r b = above_top are c u b
+  above_seen are c p o u r b = grind (arith, above_fresh, is_below-from_Below, above_top)
 
   pub least-is : AreClasses t → (c : Cell) → IsLeastType t ks c (least_type t Bottom ks c)
   least-is are cells.Empty = record { own = empty tt; least = λ u h. least-below h; above = λ u r b. empty r }
@@ -127,11 +127,7 @@ module _ (t : ClassTable) (ks : List ObjectKind) where
 -- ---- words
 
 word-loaded : (kind : CellKind) (c : Cell) → word_of (loaded_as kind c) ≡ word_of c
-word-loaded made.Reference cells.Empty = refl
-word-loaded made.Short cells.Empty = refl
-word-loaded made.High cells.Empty = refl
-word-loaded made.Low cells.Empty = refl
-word-loaded kind c = refl
+word-loaded kind c = grind (arith)
 
 word-ready : (place : ℕ) (c : Cell) → word_of (made_ready place c) ≡ word_of c
 word-ready place (cells.Fresh h p) = go (p == place)
@@ -142,16 +138,4 @@ word-ready place (cells.Fresh h p) = go (p == place)
 word-ready place c = refl
 
 pub words-erase : IsErasure word_of tagged words
-words-erase =
-    record {
-      untested = refl;
-      word = λ c. refl;
-      empty = refl;
-      short = λ n. refl;
-      high = λ n. refl;
-      low = λ n. refl;
-      reference = λ h. refl;
-      fresh = λ h p. refl;
-      loaded = word-loaded;
-      ready = word-ready;
-    }
+words-erase = grind (arith, word-loaded, word-ready)

@@ -1,5 +1,6 @@
 -- The words of a state, and those of its changes.
-use Rattle.std.proofs.Common.{◌≡◌, ℕ, zero, suc, ◌+◌, ◌-◌, List, [], ◌∷◌, ◌++◌, length, map, take, drop, reverse, replicate}
+use Rattle.std.proofs.Common.{arith}
+use Rattle.std.proofs.Common.{◌≡◌, ℕ, zero, suc, ◌+◌, List, [], ◌∷◌, ◌++◌, length, map, take, drop, reverse, replicate}
 use Rattle.std.proofs.Common.{set, refl, sym, ap, ◌∙◌}
 use Rattle.std.specs.Prelude.{slice_get, sum, sum_by, nat_lt, nat_le, ◌&&◌}
 use Rattle.std.proofs.Math.ListN.{get_or-map}
@@ -18,7 +19,7 @@ use Rattle.vm_store.specs.declared.cell.CellKind.TheVariants as made
 use Rattle.vm_store.specs.Kind.{cell_kind, element_cells}
 use Rattle.vm_store.specs.Cells.{tagged, words, word_of, zero_cell}
 use Rattle.vm_store.specs.State.{State, Frame, Object, map_frame, map_object, erased, first_frame, other_frames, top, nth, with_top}
-use Rattle.vm_store.specs.State.{entered, arguments, register_count}
+use Rattle.vm_store.specs.State.{entered, arguments}
 use Rattle.vm_store.specs.Objects.{cells_in, object_cells, heap_cells, repeated, write_object}
 use Rattle.vm_store.specs.Objects.{with_object_cell, with_static_cell}
 use Rattle.vm_store.specs.Value.{value_in, value_on, kept_value, byte_of_word, with_object_value, with_static_value}
@@ -46,12 +47,10 @@ nth-erased xs n = sym (get_or-map word_of xs n Empty)
 -- ---- what a state says
 
 first-erased : (fs : List (Frame Cell)) → map_frame word_of (first_frame fs) ≡ first_frame (map (map_frame word_of) fs)
-first-erased [] = refl
-first-erased (f ∷ fs) = refl
+first-erased x = grind (arith)
 
 others-erased : (fs : List (Frame Cell)) → map (map_frame word_of) (other_frames fs) ≡ other_frames (map (map_frame word_of) fs)
-others-erased [] = refl
-others-erased (f ∷ fs) = refl
+others-erased x = grind (arith)
 
 kinds-erased : (os : List (Object Cell)) → map (λ (o : Object ℕ). o.kind) (map (map_object word_of) os) ≡ map (λ (o : Object Cell). o.kind) os
 kinds-erased [] = refl
@@ -94,12 +93,7 @@ frame-erased s f = ap (λ fs. record (erased s) { frames = map_frame word_of f �
 
 pub entered-erased : (methods : List MethodRec) (m : ℕ) (args : List Cell) → map_frame word_of (entered tagged methods m args) ≡ entered words methods
     m (map word_of args)
-entered-erased methods m args =
-    let k = register_count methods m in
-    ap (λ rs. record { method = m; place = 0; registers = rs; stack = [] })
-    (map-append word_of args (replicate (k - length args) Empty)
-    ∙ (ap (λ ys. map word_of args ++ ys) (empty-erased (k - length args))
-    ∙ ap (λ n. map word_of args ++ replicate (k - n) 0) (sym (length-map args word_of))))
+entered-erased methods m args = grind (arith, map-append, replicate, length, map, empty-erased, length-map)
 
 frames : (methods : List MethodRec) (s : State Cell) → FramesErase methods s
 frames methods s = record {
@@ -157,18 +151,14 @@ cell-erased s (suc h) i c = ap (λ os. record (erased s) { heap = os }) (write-e
 
 value-erased : (cs : List Cell) (s : State Cell) (h i : ℕ) → erased (with_object_value s h i cs) ≡ with_object_value (erased s) h i (map word_of cs)
 value-erased [] s h i = refl
-value-erased (c ∷ cs) s h i =
-    value-erased cs (with_object_cell s h i c) h (i + 1)
-    ∙ ap (λ z. with_object_value z h (i + 1) (map word_of cs)) (cell-erased s h i c)
+value-erased (c ∷ cs) s h i = grind (arith, map, cell-erased, value-erased cs (with_object_cell s h i c) h (i + 1))
 
 static-erased : (s : State Cell) (slot : ℕ) (c : Cell) → erased (with_static_cell s slot c) ≡ with_static_cell (erased s) slot (word_of c)
 static-erased s slot c = ap (λ cs. record (erased s) { statics = cs }) (map-set word_of s.statics slot c)
 
 statics-erased : (cs : List Cell) (s : State Cell) (slot : ℕ) → erased (with_static_value s slot cs) ≡ with_static_value (erased s) slot (map word_of cs)
 statics-erased [] s slot = refl
-statics-erased (c ∷ cs) s slot =
-    statics-erased cs (with_static_cell s slot c) (slot + 1)
-    ∙ ap (λ z. with_static_value z (slot + 1) (map word_of cs)) (static-erased s slot c)
+statics-erased (c ∷ cs) s slot = grind (arith, map, static-erased, statics-erased cs (with_static_cell s slot c) (slot + 1))
 
 objects : (s : State Cell) → ObjectsErase s
 objects s = record {
@@ -182,24 +172,20 @@ objects s = record {
 -- ---- cells
 
 in-erased : (kind : Kind) (xs : List Cell) (at : ℕ) → map word_of (value_in tagged kind xs at) ≡ value_in words kind (map word_of xs) at
-in-erased fields.Int xs at = cc (nth-erased xs at, nth-erased xs (at + 1))
-in-erased kind xs at = cc (nth-erased xs at)
+in-erased kind xs at = grind (arith, nth-erased)
 
 on-erased : (kind : Kind) (xs : List Cell) → map word_of (value_on tagged kind xs) ≡ value_on words kind (map word_of xs)
-on-erased fields.Int xs = cc (nth-erased xs 1, nth-erased xs 0)
-on-erased kind xs = cc (nth-erased xs 0)
+on-erased kind xs = grind (arith, nth-erased)
 
 bytes-erased : (value : List Cell) → map word_of (kept_value tagged fields.Byte value) ≡ kept_value words fields.Byte (map word_of value)
 bytes-erased [] = refl
 bytes-erased (c ∷ cs) = ap (λ ws. words.short (byte_of_word (word_of c)) ∷ ws) (bytes-erased cs)
 
 kept-erased : (kind : Kind) (value : List Cell) → map word_of (kept_value tagged kind value) ≡ kept_value words kind (map word_of value)
-kept-erased fields.Byte value = bytes-erased value
-kept-erased kind value = refl
+kept-erased kind value = grind (arith, bytes-erased)
 
 zero-erased : (kind : CellKind) → word_of (zero_cell tagged kind) ≡ zero_cell words kind
-zero-erased made.Reference = refl
-zero-erased kind = refl
+zero-erased kind = grind (arith)
 
 zeros-erased : (types : List Ty) → map word_of (map (λ ty. zero_cell tagged (cell_kind ty)) types) ≡ map (λ ty. zero_cell words (cell_kind ty)) types
 zeros-erased [] = refl

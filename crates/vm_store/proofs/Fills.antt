@@ -3,9 +3,8 @@ use Rattle.std.proofs.Common.{◌≡◌, ℕ, zero, suc, ◌+◌, ◌-◌, ◌*�
 use Rattle.std.proofs.Common.{set, refl, sym, ◌∙◌, ap, arith, length-take}
 use Rattle.std.proofs.lemmas.List.{append-nil, append_assoc, length-append, set-append_right, take-append-drop, drop_at, drop_more, take-append-le, take-take}
 use Rattle.vm_store.specs.declared.kind.ObjectKind.{ObjectKind}
-use Rattle.vm_store.specs.declared.kind.ObjectKind.TheVariants.{Instance, Booleans, Bytes, Shorts, Ints, References}
-use Rattle.vm_store.specs.Kind.{element_cells, element_width}
-use Rattle.vm_store.specs.Cells.{Cells, zero_cell}
+use Rattle.vm_store.specs.Kind.{element_width}
+use Rattle.vm_store.specs.Cells.{Cells}
 use Rattle.vm_store.specs.Objects.{repeated, array_cells}
 use Rattle.vm_store.specs.Layout.{overwritten}
 
@@ -50,11 +49,7 @@ pub filled-more :
     {A : Type 0} (xs cells : List A) (from n : ℕ) (v : A)
     → cells ≡ overwritten xs from (repeated n (v ∷ [])) → from + n < length xs
     → set cells (from + n) v ≡ overwritten xs from (repeated (n + 1) (v ∷ []))
-filled-more xs cells from n v e lt =
-    let len : length (repeated n (v ∷ [])) ≡ n = length-repeated n 1 (v ∷ []) refl ∙ (omega arith) in
-    ap (λ zs. set zs (from + n) v) e
-    ∙ (overwritten-more xs (repeated n (v ∷ [])) from (from + n) v (ap (λ k. from + k) (sym len)) lt
-    ∙ ap (overwritten xs from) (repeated-more n (v ∷ [])))
+filled-more xs cells from n v e lt = grind (arith, length, length-repeated, set, overwritten-more, repeated-more)
 
 pub filled_ints-more :
     {A : Type 0} (xs cells : List A) (from n : ℕ) (v w : A)
@@ -89,9 +84,4 @@ overwritten-before xs ys zs from p at le =
     ∙ (sym (append_assoc ys zs rest) ∙ ap (λ k. (ys ++ zs) ++ drop k xs) end)))
 
 pub length-array : {A : Type 0} (k : Cells A) (kind : ObjectKind) (n : ℕ) → length (array_cells k kind n) ≡ element_width kind * n
-length-array k (Instance c) n = length-repeated n 1 (map (zero_cell k) (element_cells (Instance c))) refl
-length-array k Booleans n = length-repeated n 1 (map (zero_cell k) (element_cells Booleans)) refl
-length-array k Bytes n = length-repeated n 1 (map (zero_cell k) (element_cells Bytes)) refl
-length-array k Shorts n = length-repeated n 1 (map (zero_cell k) (element_cells Shorts)) refl
-length-array k Ints n = length-repeated n 2 (map (zero_cell k) (element_cells Ints)) refl
-length-array k (References c) n = length-repeated n 1 (map (zero_cell k) (element_cells (References c))) refl
+length-array k x n = grind (arith, length-repeated, map)

@@ -8,10 +8,7 @@ pub restacked :
     {A : Type 0} (m p : ℕ) (rs ss ts us : List A) (f : Frame A)
     → record { method = m; place = p; registers = rs; stack = ss } ≡ f → ts ≡ us
     → record { method = m; place = p; registers = rs; stack = ts } ≡ record f { stack = us }
-restacked {A} m p rs ss ts us f e h =
-    let put : List A → Frame A = λ s. record { method = m; place = p; registers = rs; stack = s } in
-    let change : Frame A → Frame A = λ g. record g { stack = us } in
-    ap put h ∙ ap change e
+restacked {A} m p rs ss ts us f e h = grind (arith)
 
 -- a list whose elements were written through a slice of them all
 pub refilled : {A : Type 0} (xs ws : List A) → length ws ≡ length xs → refill (length xs) xs ws ≡ ws
@@ -34,5 +31,4 @@ set_neighbours xs before after n v w parts len =
 pub read_before :
     {A : Type 0} (xs before after : List A) (n : ℕ) (x d : A)
     → xs ≡ before ++ after → n < length before → get_or before n x ≡ get_or xs n d
-read_before xs before after n x d parts lt =
-    get_or_default before n x d lt ∙ (sym (get_or_append_left before after d n lt) ∙ ap (λ ys. get_or ys n d) (sym parts))
+read_before xs before after n x d parts lt = grind (arith, get_or_default, get_or_append_left, get_or)

@@ -6,7 +6,6 @@ use Rattle.std.proofs.lemmas.Option.{slice_get-map, slice_get-get_or}
 use Rattle.std.proofs.lemmas.List.{get_or-take, get_or-drop, length-map}
 use Rattle.std.proofs.lemmas.Bool.{false≢true}
 use Rattle.vm_store.specs.declared.kind.ObjectKind.{ObjectKind}
-use Rattle.vm_store.specs.declared.kind.ObjectKind.TheVariants.{Ints}
 use Rattle.vm_store.specs.declared.header.ObjectHeader.{ObjectHeader}
 use Rattle.vm_store.specs.Kind.{element_width, kind_of_handle}
 use Rattle.vm_store.specs.State.{Object, State}
@@ -16,8 +15,7 @@ use Rattle.vm_store.proofs.Heaps.{end-le, write_inside}
 
 -- the number of elements, from the number of cells
 elements_of : (kind : ObjectKind) (n cells : ℕ) → cells ≡ element_width kind * n → cells / element_width kind ≡ n
-elements_of Ints n cells e = omega (arith, e)
-elements_of kind n cells e = omega (arith, e)
+elements_of kind n cells e = grind (arith)
 
 some-past : {A : Type 0} (xs : List A) (i : ℕ) → IsSome (slice_get xs i) → i < length xs
 some-past [] i h = absurd (false≢true h)
@@ -39,37 +37,23 @@ module _ {A : Type 0} (s : State A) (xs : List A) (hs : List ObjectHeader) (end 
 
   pub is_handle : (handle : ℕ) → IsSome (object_at s handle) → IsHandle hs handle
   is_handle zero h = absurd (false≢true h)
-  is_handle (suc k) h =
-      let lt = some-past s.heap k h in
-      record { counted = omega arith; within = omega (arith, lt, count) }
+  is_handle (suc k) h = grind (arith, some-past, count)
 
   pub object_is : (handle : ℕ) → IsHandle hs handle → object_at s handle ≡ Some (object_in xs (get_or hs (handle - 1) d))
   object_is zero h = absurd (omega (arith, h.counted))
-  object_is (suc k) h =
-      let e : suc k - 1 ≡ k = omega arith in
-      let lt : k < length hs = omega (arith, h.within) in
-      found k lt ∙ ap (λ n. Some (object_in xs (get_or hs n d))) (sym e)
+  object_is (suc k) h = grind (arith, suc, length, found, get_or)
 
   pub kind_is : (handle : ℕ) → IsHandle hs handle → kind_of_handle (kinds s) handle ≡ Some (get_or hs (handle - 1) d).kind
   kind_is zero h = absurd (omega (arith, h.counted))
-  kind_is (suc k) h =
-      let e : suc k - 1 ≡ k = omega arith in
-      let lt : k < length hs = omega (arith, h.within) in
-      slice_get-map (λ (o : Object A). o.kind) s.heap k
-      ∙ (ap (option_map (λ (o : Object A). o.kind)) (found k lt) ∙ ap (λ n. Some (get_or hs n d).kind) (sym e))
+  kind_is (suc k) h = grind (arith, suc, length, slice_get-map, found, get_or)
 
   -- its cells
   pub whole : (handle : ℕ) → IsHandle hs handle → length (take (size (get_or hs (handle - 1) d)) (drop (get_or hs (handle - 1) d).start xs))
       ≡ size (get_or hs (handle - 1) d)
-  whole handle h =
-      let x = get_or hs (handle - 1) d in
-      let le : x.start + size x ≤ end = end-le 0 hs end (handle - 1) d follow h.within in
-      omega (arith, length-take (size x) (drop x.start xs), length-drop x.start xs, le)
+  whole handle h = grind (arith, get_or, end-le, length-take, drop, length-drop)
 
   pub elements_are : (handle : ℕ) → IsHandle hs handle → option_map element_count (object_at s handle) ≡ Some (get_or hs (handle - 1) d).elements
-  elements_are handle h =
-      let x = get_or hs (handle - 1) d in
-      ap (option_map element_count) (object_is handle h) ∙ ap Some (elements_of x.kind x.elements _ (whole handle h))
+  elements_are handle h = grind (arith, get_or, object_is, elements_of, whole)
 
   some_cell : (handle i : ℕ) → i < length (object_cells s handle) → IsSome (object_at s handle)
   some_cell zero i lt = absurd (omega (arith, lt))
@@ -87,15 +71,10 @@ module _ {A : Type 0} (s : State A) (xs : List A) (hs : List ObjectHeader) (end 
   cells_are handle h = ap cells_in (object_is handle h)
 
   pub cell_within : (handle i : ℕ) → i < length (object_cells s handle) → i < size (get_or hs (handle - 1) d)
-  cell_within handle i lt =
-      let h = cell_handle handle i lt in
-      omega (arith, lt, ap length (cells_are handle h), whole handle h)
+  cell_within handle i lt = grind (arith, cell_handle handle i lt, length, cells_are, whole)
 
   pub cell_place : (handle i : ℕ) → i < length (object_cells s handle) → (get_or hs (handle - 1) d).start + i < end
-  cell_place handle i lt =
-      let h = cell_handle handle i lt in
-      let le = end-le 0 hs end (handle - 1) d follow h.within in
-      omega (arith, cell_within handle i lt, le)
+  cell_place handle i lt = grind (arith, cell_handle handle i lt, cell_within handle i lt, end-le)
 
   pub cell_read : (handle i : ℕ) → i < length (object_cells s handle) → (e : A) → get_or (object_cells s handle) i e
       ≡ get_or xs ((get_or hs (handle - 1) d).start + i) e

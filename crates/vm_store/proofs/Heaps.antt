@@ -23,9 +23,7 @@ begin-le-end from (h ∷ hs) end (here, rest) = let r = begin-le-end (from + siz
 same_object :
     {A : Type 0} (xs ys : List A) (h : ObjectHeader) (from : ℕ)
     → h.start ≡ from → take (size h) (drop from xs) ≡ take (size h) (drop from ys) → object_in xs h ≡ object_in ys h
-same_object {A} xs ys h from here e =
-    let build : List A → Object A = λ cells. record { kind = h.kind; cells = cells } in
-    ap (λ k. build (take (size h) (drop k xs))) here ∙ (ap build e ∙ ap (λ k. build (take (size h) (drop k ys))) (sym here))
+same_object {A} xs ys h from here e = grind (arith, take, drop)
 
 -- a part of what lies between two places
 part_of :
@@ -76,8 +74,7 @@ pub start-ge : (from : ℕ) (hs : List ObjectHeader) (end k : ℕ) (d : ObjectHe
     → from ≤ (get_or hs k d).start
 start-ge from [] end k d f lt = absurd (omega (arith, lt))
 start-ge from (h ∷ hs) end zero d (here, rest) lt = omega (arith, here)
-start-ge from (h ∷ hs) end (suc k) d (here, rest) lt =
-    let r = start-ge (from + size h) hs end k d rest (omega (arith, lt)) in omega (arith, r)
+start-ge from (h ∷ hs) end (suc k) d (here, rest) lt = grind (arith, start-ge (from + size h) hs end k d rest (omega (arith, lt)))
 
 -- each object ends at the end of all or before it
 pub end-le : (from : ℕ) (hs : List ObjectHeader) (end k : ℕ) (d : ObjectHeader) → Follow from hs end → k < length hs

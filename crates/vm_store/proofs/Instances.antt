@@ -42,25 +42,13 @@ pub record IsFilledAbove {A : Type 0} (k : Cells A) (t : ClassTable) (old : List
   pub cells_are : cells ≡ overwritten old (from + length (cells_of t at)) written
 
 pub filled-nothing : {A : Type 0} (k : Cells A) (t : ClassTable) (old : List A) (from c : ℕ) → IsClass t c → IsFilledAbove k t old from c c old
-filled-nothing k t old from c class =
-    record {
-      class = class;
-      written = [];
-      split = sym (append-nil (new_instance_cells k t c));
-      cells_are = overwritten-nil old (from + length (cells_of t c));
-    }
+filled-nothing k t old from c class = grind (arith, append-nil, overwritten-nil, length)
 
 -- the cells of `at` have room where those of c have
 pub fits-above :
     {A : Type 0} (k : Cells A) (t : ClassTable) (old cells : List A) (from c at : ℕ)
     → IsFilledAbove k t old from c at cells → from + length (cells_of t c) ≤ length old → from + length (cells_of t at) ≤ length old
-fits-above {A} k t old cells from c at filled room =
-    let f : Ty → A = λ ty. zero_cell k (cell_kind ty) in
-    let all : length (cells_of t c) ≡ length (cells_of t at) + length filled.written =
-    sym (length-map (cells_of t c) f)
-    ∙ (ap length filled.split
-    ∙ (length-append (new_instance_cells k t at) filled.written ∙ ap (λ n. n + length filled.written) (length-map (cells_of t at) f))) in
-    omega (arith, all, room)
+fits-above {A} k t old cells from c at filled room = grind (arith, length, length-map, length-append)
 
 module _ {A : Type 0} (k : Cells A) (t : ClassTable) (old cells now : List A) (from c at place : ℕ) (filled : IsFilledAbove k t old from c at cells)
     (own : List Ty) (own_is : own_cells t at ≡ own)
@@ -79,11 +67,7 @@ module _ {A : Type 0} (k : Cells A) (t : ClassTable) (old cells now : List A) (f
         ∙ ap (λ n. overwritten old n (zeros k own ++ filled.written)) at_place))
 
     parts : (above : List Ty) → cells_of t at ≡ above ++ own → new_instance_cells k t c ≡ zeros k above ++ (zeros k own ++ filled.written)
-    parts above e =
-        filled.split
-        ∙ (ap (λ types. zeros k types ++ filled.written) e
-        ∙ (ap (λ zs. zs ++ filled.written) (map-append (λ ty. zero_cell k (cell_kind ty)) above own)
-        ∙ append_assoc (zeros k above) (zeros k own) filled.written))
+    parts above e = grind (arith, map-append, append_assoc)
 
     pub filled-next :
         (p : ℕ) → IsNextOnChain t at p → place ≡ from + (length (cells_of t at) - length own) → from + length (cells_of t at) ≤ length old

@@ -1,10 +1,10 @@
 -- New objects among typed ones.
-use Rattle.std.proofs.Common.{◌≡◌, ℕ, zero, suc, ◌+◌, ◌*◌, ◌/◌, ◌<◌, List, [], ◌∷◌, ◌++◌, length, map, reverse, sym, ap}
+use Rattle.std.proofs.Common.{◌≡◌, ℕ, zero, suc, ◌*◌, ◌/◌, List, [], ◌∷◌, ◌++◌, length, map, reverse, sym, ap}
 use Rattle.std.proofs.Common.{◌∙◌, subst, arith, lit<}
-use Rattle.std.specs.Prelude.{Option, Some, None, IfSome, All, slice_get, flat_map}
+use Rattle.std.specs.Prelude.{Option, IfSome, All, slice_get, flat_map}
 use Rattle.std.proofs.Math.Nat.{mul-div_cancel_left}
 use Rattle.std.proofs.lemmas.List.{map-append}
-use Rattle.std.proofs.lemmas.List.Elements.{All-weaker, All-append, All-cons, All-nil, All-head, All-tail}
+use Rattle.std.proofs.lemmas.List.Elements.{All-append, All-cons, All-nil, All-head, All-tail}
 use Rattle.std.proofs.lemmas.List.Concat.{flat_map-cons}
 use Rattle.jc_base.specs.declared.ty.Ty.{Ty}
 use Rattle.jc_base.specs.declared.ty.Ty.TheVariants.{Bottom, Short, IntHigh, IntLow, Null, Class, ArrBool, ArrByte, ArrShort, ArrInt, ArrRef, Fresh, Top}
@@ -48,8 +48,7 @@ module _ (t : ClassTable) where
   cells-kept ks more (c ∷ cs) (ty ∷ types) h = (type-kept ks more c ty h.0, h.1, cells-kept ks more cs types h.2)
 
   heap-kept : (ks more : List ObjectKind) (os : List (Object Cell)) → All (IsTypedObject t ks) os → All (IsTypedObject t (ks ++ more)) os
-  heap-kept ks more os h =
-      All-weaker (IsTypedObject t ks) (IsTypedObject t (ks ++ more)) (λ o typed. cells-kept ks more o.cells (cell_types t o.kind (length o.cells)) typed) os h
+  heap-kept ks more os h = grind (arith, cells-kept, length)
 
   with-object : (s : State Cell) (kind : ObjectKind) (cs : List Cell) → IsTypedHeap t s
       → ((ks : List ObjectKind) → CellsHave t ks cs (cell_types t kind (length cs))) → IsTypedHeap t (with_object s kind cs)
@@ -100,8 +99,7 @@ module _ (t : ClassTable) where
 
   own_by : (packages : ℕ) (methods : List MethodRec) (c : ℕ) (o : Option ClassRec) → IfSome o (IsLinkedClass packages t methods c)
       → All (IsDeclared t) (of_record [] (λ r. r.own) o)
-  own_by packages methods c None linked = All-nil (IsDeclared t)
-  own_by packages methods c (Some r) linked = linked.own
+  own_by packages methods c x linked = grind (arith)
 
   own-declared : (packages : ℕ) (methods : List MethodRec) → AreLinkedClasses packages t methods → (c : ℕ) → All (IsDeclared t) (own_cells t c)
   unfolding own_cells

@@ -1,7 +1,7 @@
 -- What objects are, and their types.
-use Rattle.std.proofs.Common.{◌≡◌, ℕ, zero, suc, ◌-◌, ◌<◌, ◌≤◌, false, List, [], ◌∷◌, length, map, get_or, refl, ap, sym, ◌∙◌}
+use Rattle.std.proofs.Common.{◌≡◌, ℕ, zero, suc, ◌-◌, ◌<◌, ◌≤◌, false, List, [], ◌∷◌, length, map, get_or, refl, ap, sym}
 use Rattle.std.proofs.Common.{arith}
-use Rattle.std.specs.Prelude.{slice_get, option_map, Some}
+use Rattle.std.specs.Prelude.{slice_get, Some}
 use Rattle.vm_store.specs.declared.kind.ObjectKind.{ObjectKind}
 use Rattle.vm_store.specs.declared.header.ObjectHeader.{ObjectHeader}
 use Rattle.vm_store.specs.Kind.{kind_of_handle}
@@ -31,12 +31,7 @@ fresh-at kinds (suc h) p = refl
 pub kind-read :
     (hs : List ObjectHeader) (h : ℕ) (x : ObjectHeader) → 0 < h → h - 1 < length hs → x ≡ get_or hs (h - 1) x
     → Some x.kind ≡ kind_of_handle (map (λ (g : ObjectHeader). g.kind) hs) h
-kind-read hs h x counted within read =
-    let kinds = map (λ (g : ObjectHeader). g.kind) hs in
-    sym
-    (kind-at kinds h counted
-    ∙ (slice_get-map (λ (g : ObjectHeader). g.kind) hs (h - 1)
-    ∙ (ap (option_map (λ (g : ObjectHeader). g.kind)) (slice_get-get_or hs (h - 1) x within) ∙ ap (λ (g : ObjectHeader). Some g.kind) (sym read))))
+kind-read hs h x counted within read = grind (arith, map, kind-at, slice_get-map, slice_get-get_or)
 
 -- the kinds of the objects are those of their headers
 pub kinds-objects : {A : Type 0} (xs : List A) (hs : List ObjectHeader) → map (λ (o : Object A). o.kind) (objects_in xs hs)

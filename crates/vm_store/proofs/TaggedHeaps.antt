@@ -2,7 +2,7 @@
 use Rattle.std.proofs.Common.{◌≡◌, ℕ, ◌+◌, ◌<◌, ◌≤◌, List, [], ◌∷◌, ◌++◌, length, sym, ◌∙◌, ap, subst, arith}
 use Rattle.std.proofs.lemmas.List.{length_push}
 use Rattle.vm_store.specs.declared.header.ObjectHeader.{ObjectHeader}
-use Rattle.vm_store.specs.State.{Frame, Object, State}
+use Rattle.vm_store.specs.State.{Frame, State}
 use Rattle.vm_store.specs.Objects.{with_object}
 use Rattle.vm_store.specs.Layout.{size, objects_in, Follow, overwritten}
 use Rattle.vm_store.specs.Tagged.{IsInOrder}
@@ -30,7 +30,4 @@ pub state-more :
     → record { frames = frames; heap = objects_in xs hs; statics = statics } ≡ s
     → Follow 0 hs used → used ≤ length xs → ys ≡ overwritten xs used news → h.start ≡ used → size h ≡ length news → now ≡ hs ++ h ∷ []
     → record { frames = frames; heap = objects_in ys now; statics = statics } ≡ with_object s h.kind news
-state-more {A} frames statics xs ys news hs now used h s view follow enough is here width now_is =
-    let put : List (Object A) → State A = λ os. record { frames = frames; heap = os; statics = statics } in
-    ap (λ gs. put (objects_in ys gs)) now_is
-    ∙ (ap put (added xs ys news hs used h follow enough is here width) ∙ ap (λ z. with_object z h.kind news) view)
+state-more {A} frames statics xs ys news hs now used h s view follow enough is here width now_is = grind (arith, added)

@@ -1,4 +1,5 @@
 -- Heaps whose objects are typed.
+use Rattle.std.proofs.Common.{arith}
 use Rattle.std.proofs.Common.{◌≡◌, ℕ, zero, suc, List, [], ◌∷◌, length, map, set, refl, sym, ap, subst, length-set}
 use Rattle.std.specs.Prelude.{Some, All, IsSomeAnd, slice_get, option_and_then}
 use Rattle.std.proofs.lemmas.Option.{same_Some, none-some}
@@ -91,7 +92,4 @@ pub heap-write :
     (t : ClassTable) (s : State Cell) (h i : ℕ) (ty : Ty) (c : Cell)
     → IsTypedHeap t s → cell_type_at t s h i ≡ Some ty → HasType t (kinds s) c ty → HasContent c → IsTypedHeap t (with_object_cell s h i c)
 heap-write t s zero i ty c typed e has filled = absurd (none-some ty e)
-heap-write t s (suc h) i ty c typed e has filled =
-    let written = write_object s.heap h i c in
-    let now : All (IsTypedObject t (kinds s)) written = object-write t (kinds s) s.heap h i ty c typed e has filled in
-    subst (λ ks. All (IsTypedObject t ks) written) (sym (kinds-write s.heap h i c)) now
+heap-write t s (suc h) i ty c typed e has filled = grind (arith, object-write, kinds-write)

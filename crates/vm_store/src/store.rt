@@ -1,8 +1,8 @@
-ghost use Rattle.std.specs.Prelude.{◌≡◌, ◌+◌, ◌*◌, ◌^◌, ◌<◌, ◌≤◌, ◌∷◌, ℕ, Some, IsTrue, IsSome, List, length, map, drop, option_map};
+ghost use Rattle.std.specs.Prelude.{◌≡◌, ◌+◌, ◌*◌, ◌^◌, ◌<◌, ◌≤◌, ◌∷◌, ℕ, Some, IsTrue, IsSome, length, map, drop, option_map};
 ghost use Rattle.jc_base.specs.Class.{IsClass};
 ghost use Rattle.jc_base.specs.Dispatch.{cells_of};
 ghost use Rattle.vm_store.specs.Kind.{IsArrayKind, IsNumbered, element_width, kind_of_handle};
-ghost use Rattle.vm_store.specs.State.{State, IsRunning, nth, top, with_top, with_place, with_stack, with_register, with_call, with_entry, without_top, without_frames, rotated, register_count, frame_limit};
+ghost use Rattle.vm_store.specs.State.{State, IsRunning, nth, top, with_place, with_stack, with_register, with_call, with_entry, without_top, without_frames, rotated, register_count, frame_limit};
 ghost use Rattle.vm_store.specs.Objects.{kinds, object_at, object_cells, element_count, has_room, new_instance_cells, array_cells, with_object, with_object_cell, with_static_cell};
 ghost use Rattle.vm_store.specs.Store.{Fixed, IsOf};
 

@@ -39,7 +39,7 @@ pub struct TaggedStore {
 }
 
 impl Model for TaggedStore {
-    ghost use Rattle.std.specs.Prelude.{◌≡◌, ◌≤◌, take, reverse, length, vec_len, vec_capacity};
+    ghost use Rattle.std.specs.Prelude.{◌≡◌, take, reverse, length, vec_len, vec_capacity};
     ghost use Rattle.vm_store.specs.declared.cell.Cell.{Cell};
     ghost use Rattle.vm_store.specs.State.{State};
 
