@@ -17,11 +17,10 @@ use Rattle.jc_decode.specs.declared.insn.Placed.{Placed}
 use Rattle.xf_homes.specs.Home.{register_count}
 use Rattle.jc_rules.specs.Demand.{Frame}
 use Rattle.jc_rules.specs.Typing.{HaveSameRegisters}
-use Rattle.xf_homes.specs.Value.{value_in_cells}
 use Rattle.xf_homes.specs.declared.home.Home.{Home}
 use Rattle.xf_homes.specs.Walk.{Event, same_home, has, with_home, with_home_of_value, with_event, with_events, is_covered, local_of, caught_of, caught_events}
 use Rattle.xf_homes.specs.Walk.{local_events, locals_events, frame_events, place_events}
-use Rattle.xf_homes.specs.Asked.{knows, AreKnownAt, AreKnownFrom, LocalsAreKnown, covers_last, is_new, last_local, AreLastKnown, AreSameLocals}
+use Rattle.xf_homes.specs.Asked.{knows, AreKnownAt, LocalsAreKnown, covers_last, is_new, last_local, AreLastKnown, AreSameLocals}
 use Rattle.xf_homes.specs.Asked.{AreStill, NoneIsNew}
 use Rattle.xf_homes.specs.Asked.{HandlersAreAsked, last_after}
 use Rattle.xf_homes.proofs.Events.{home-itself}
@@ -49,13 +48,11 @@ has-with homes k h e = by (has homes k)
     by false = has-either homes k h e
 
 has-value : (homes : List Home) (slot : ℕ) (v : Option Ty) (h : Home) → has homes h ≡ true → has (with_home_of_value homes slot v) h ≡ true
-has-value homes slot None h e = e
-has-value homes slot (Some ty) h e = has-with homes (record { slot = slot; ty = ty }) h e
+has-value homes slot x h e = grind (arith, has-with)
 
 knows-value : (homes : List Home) (slot : ℕ) (v : Option Ty) (x : ℕ) (u : Option Ty) → knows homes x u ≡ true
     → knows (with_home_of_value homes slot v) x u ≡ true
-knows-value homes slot v x None e = refl
-knows-value homes slot v x (Some ty) e = has-value homes slot v (record { slot = x; ty = ty }) e
+knows-value homes slot v x x2 e = grind (arith, has-value)
 
 knows-fold : (es : List Event) (homes : List Home) (x : ℕ) (u : Option Ty) → knows homes x u ≡ true → knows (fold with_event homes es) x u ≡ true
 knows-fold [] homes x u e = e
@@ -64,14 +61,12 @@ knows-fold (event ∷ es) homes x u e = knows-fold es (with_event homes event) x
 known-fold : (frames : ℕ → Option Frame) (count : ℕ) (es : List Event) (homes : List Home) (p : ℕ) (hs : List Handler)
     → AreKnownAt frames count homes p hs → AreKnownAt frames count (fold with_event homes es) p hs
 known-fold frames count es homes p [] known = tt
-known-fold frames count es homes p (h ∷ hs) known =
-    (λ covers x inside. knows-fold es homes x (local_of (frames h.entry) x) (known.0 covers x inside), known-fold frames count es homes p hs known.1)
+known-fold frames count es homes p (h ∷ hs) known = grind (arith, knows-fold, known-fold frames count es homes p hs known.1)
 
 -- ---- a value that is kept changes nothing
 
 value-kept : (homes : List Home) (x : ℕ) (v : Option Ty) → knows homes x v ≡ true → with_home_of_value homes x v ≡ homes
-value-kept homes x None e = refl
-value-kept homes x (Some ty) e = ap (λ b. if b then homes else homes ++ record { slot = x; ty = ty } ∷ []) e
+value-kept homes x x2 e = grind (arith)
 
 -- the values at the entries of the handlers that cover the place, of one local
 abbrev CaughtKnown : (ℕ → Option Frame) → List Home → ℕ → ℕ → List Handler → Type 0
@@ -95,8 +90,7 @@ caught-value frames homes p x h known = by (is_covered h p) known
 caught-more : (frames : ℕ → Option Frame) (homes : List Home) (slot : ℕ) (v : Option Ty) (p x : ℕ) (hs : List Handler)
     → CaughtKnown frames homes p x hs → CaughtKnown frames (with_home_of_value homes slot v) p x hs
 caught-more frames homes slot v p x [] known = tt
-caught-more frames homes slot v p x (h ∷ hs) known =
-    (λ covers. knows-value homes slot v x (local_of (frames h.entry) x) (known.0 covers), caught-more frames homes slot v p x hs known.1)
+caught-more frames homes slot v p x (h ∷ hs) known = grind (arith, knows-value, caught-more frames homes slot v p x hs known.1)
 
 skip-caught : (frames : ℕ → Option Frame) (homes : List Home) (p x n : ℕ) (hs : List Handler) → CaughtKnown frames homes p x hs
     → fold with_event homes (caught_events frames p x n hs) ≡ homes
@@ -109,8 +103,7 @@ skip-caught frames homes p x n (h ∷ hs) known =
 skip-local : (frames : ℕ → Option Frame) (homes : List Home) (p x : ℕ) (hs : List Handler) → CaughtKnown frames homes p x hs
     → fold with_event homes (local_events frames [] p x) ≡ fold with_event homes (local_events frames hs p x)
 unfolding local_events
-skip-local frames homes p x hs known =
-    sym (skip-caught frames (with_home_of_value homes x (local_of (frames p) x)) p x 0 hs (caught-more frames homes x (local_of (frames p) x) p x hs known))
+skip-local frames homes p x hs known = grind (arith, skip-caught, caught-more)
 
 skip-locals : (frames : ℕ → Option Frame) (count n x : ℕ) (homes : List Home) (p : ℕ) (hs : List Handler) → x + n ≤ count
     → AreKnownAt frames count homes p hs
@@ -145,9 +138,7 @@ same-kept frames homes last x v is known = sym (value-kept homes x v (subst (λ 
 
 -- in frames with the same registers
 pub same_locals : (f g : Option Frame) → HaveSameRegisters f g → AreSameLocals f g
-same_locals None g same = absurd same
-same_locals (Some f) None same = absurd same
-same_locals (Some f) (Some g) same = λ x. ap (λ regs. value_in_cells regs x) same
+same_locals x g same = grind (arith)
 
 -- where all of them are, nothing is added
 still-locals : (frames : ℕ → Option Frame) (homes : List Home) (p : ℕ) (last : Option ℕ) (count n x : ℕ) → x + n ≤ count
@@ -169,14 +160,12 @@ still-kept frames homes p last count still known = still-locals frames homes p l
 pub last-known : (frames : ℕ → Option Frame) (count : ℕ) (homes : List Home) (hs : List Handler) (last : Option ℕ)
     → LocalsAreKnown frames count homes hs last → AreLastKnown frames count homes last
 unfolding LocalsAreKnown
-last-known frames count homes hs None known = λ x inside. refl
-last-known frames count homes hs (Some q) known = known.0
+last-known frames count homes hs x known = grind (arith)
 
 pub last-more : (frames : ℕ → Option Frame) (count : ℕ) (homes after : List Home) (es : List Event) (last : Option ℕ)
     → after ≡ with_events homes es → AreLastKnown frames count homes last → AreLastKnown frames count after last
 unfolding with_events
-last-more frames count homes after es last is known =
-    λ x inside. subst (λ hs. knows hs x (last_local frames last x) ≡ true) (sym is) (knows-fold es homes x (last_local frames last x) (known x inside))
+last-more frames count homes after es last is known = grind (arith, knows-fold)
 
 module _ (same : SameTypeDecides) where
   has-last : (homes : List Home) (h : Home) → has (homes ++ h ∷ []) h ≡ true
@@ -251,8 +240,7 @@ module _ (same : SameTypeDecides) where
   from-first : (frames : ℕ → Option Frame) (count : ℕ) (homes : List Home) (p : ℕ) (hs : List Handler)
       → AreKnownUpTo frames homes p 0 (0 + count) hs → AreKnownAt frames count homes p hs
   from-first frames count homes p [] known = tt
-  from-first frames count homes p (h ∷ hs) known =
-      (λ covers x inside. known.0 covers x (omega arith) (omega arith), from-first frames count homes p hs known.1)
+  from-first frames count homes p (h ∷ hs) known = grind (arith, from-first frames count homes p hs known.1)
 
   asked-own : (frames : ℕ → Option Frame) (n x : ℕ) (homes : List Home) (p : ℕ) (hs : List Handler) (y : ℕ) → x ≤ y → y < x + n
       → knows (fold with_event homes (locals_events frames hs p x n)) y (local_of (frames p) y) ≡ true
@@ -281,12 +269,7 @@ module _ (same : SameTypeDecides) where
   pub asked-at : (frames : ℕ → Option Frame) (count : ℕ) (homes : List Home) (p : ℕ) (hs : List Handler) (more : List Event)
       → LocalsAreKnown frames count (with_events homes (locals_events frames hs p 0 count ++ more)) hs (Some p)
   unfolding with_events LocalsAreKnown
-  asked-at frames count homes p hs more =
-      let acc = fold with_event homes (locals_events frames hs p 0 count) in
-      subst (λ a. AreKnownFrom frames count a hs (Some p)) (sym (fold-append with_event homes (locals_events frames hs p 0 count) more)) (
-        λ x inside. knows-fold more acc x (local_of (frames p) x) (asked-own frames count 0 homes p hs x (omega arith) (omega arith)),
-        known-fold frames count more acc p hs (from-first frames count acc p hs (asked-locals frames count 0 homes p hs)),
-      )
+  asked-at frames count homes p hs more = grind (arith, fold-append, knows-fold, asked-own, known-fold, from-first, asked-locals)
 
 -- ---- where no handler is new
 
@@ -318,17 +301,13 @@ module _ (frames : ℕ → Option Frame) (count : ℕ) (homes : List Home) (p : 
   known-here : (last : Option ℕ) (hs : List Handler) → NoneIsNew hs p last → LocalsAreKnown frames count homes hs last
       → AreKnownAt frames count homes p hs
   unfolding NoneIsNew LocalsAreKnown
-  known-here None hs none known = none-covers hs none
-  known-here (Some q) hs none known = none-asked q hs none known.1
+  known-here x hs none known = grind (arith, none-covers, none-asked)
 
   -- the handlers that are asked give what all give
   pub asked-alike : (last : Option ℕ) (hs asked : List Handler) → HandlersAreAsked hs p last asked → LocalsAreKnown frames count homes hs last
       → with_events homes (locals_events frames asked p 0 count) ≡ with_events homes (locals_events frames hs p 0 count)
   unfolding with_events
-  asked-alike last hs asked (inl e) known = ap (λ r. fold with_event homes (locals_events frames r p 0 count)) e
-  asked-alike last hs asked (inr e) known =
-      ap (λ r. fold with_event homes (locals_events frames r p 0 count)) e.0 ∙ skip-locals frames count count 0 homes p hs (omega arith)
-      (known-here last hs e.1 known)
+  asked-alike last hs asked x known = grind (arith, skip-locals, known-here)
 
 -- ---- along the walk
 

@@ -1,5 +1,5 @@
 -- What is kept of a list of events at rising spots: each pair once, at the first spot at which it is met.
-use Rattle.std.proofs.Common.{◌≡◌, ℕ, ◌⊎◌, inl, inr, Bool, true, false, ◌||◌, ◌==◌, if◌then◌else◌, List, [], ◌∷◌, ◌++◌}
+use Rattle.std.proofs.Common.{◌≡◌, ℕ, ◌⊎◌, inl, inr, Bool, true, false, ◌||◌, if◌then◌else◌, List, [], ◌∷◌, ◌++◌}
 use Rattle.std.proofs.Common.{Option, Some, None, refl, sym, ◌∙◌, ap, subst, arith, append_assoc}
 use Rattle.std.specs.Prelude.{fold}
 use Rattle.std.specs.List.{list_any}
@@ -8,7 +8,6 @@ use Rattle.std.proofs.lemmas.Bool.Decides.{nat_tests}
 use Rattle.std.proofs.lemmas.List.{append-nil}
 use Rattle.jc_base.specs.declared.ty.Ty.{Ty}
 use Rattle.jc_base.specs.Each.{Each, IsAmong}
-use Rattle.jc_base.specs.SameType.{same_type}
 use Rattle.jc_base.specs.Laws.{SameTypeDecides}
 use Rattle.jc_base.proofs.Eaching.{Each-from_among, IsAmong-append_cases}
 use Rattle.xf_homes.specs.declared.home.Home.{Home}
@@ -71,16 +70,10 @@ each-occurs P (e ∷ es) s h each (inr o) = each-occurs P es s h each.1 o
 
 module _ (same : SameTypeDecides) where
   pub homes-equal : (a b : Home) → same_home a b ≡ true → a ≡ b
-  homes-equal a b h =
-      let both = and_parts (a.slot == b.slot) (same_type a.ty b.ty) h in
-      let slots : a.slot ≡ b.slot = grind (arith, nat_tests, both.0) in
-      let types : a.ty ≡ b.ty = (same a.ty b.ty).0 both.1 in
-      ap (λ (n : ℕ). record { slot = n; ty = a.ty }) slots ∙ ap (λ (t : Ty). record { slot = b.slot; ty = t }) types
+  homes-equal a b h = grind (arith, and_parts, nat_tests)
 
   pub home-itself : (a : Home) → same_home a a ≡ true
-  home-itself a =
-      let slots : (a.slot == a.slot) ≡ true = grind (arith, nat_tests) in
-      and_from (a.slot == a.slot) (same_type a.ty a.ty) slots ((same a.ty a.ty).1 refl)
+  home-itself a = grind (arith, nat_tests, and_from)
 
   pub has-among : (homes : List Home) (h : Home) → has homes h ≡ true → IsAmong h homes
   unfolding has
@@ -192,14 +185,7 @@ module _ (same : SameTypeDecides) where
 
   pub kept : (es : List Event) (before : List Home) → Rising es → Kept before es (with_events before es)
   unfolding with_events
-  kept [] before r = record {
-    new = [];
-    parts = sym (append-nil before);
-    met = λ h a. absurd a;
-    fresh = λ h a. absurd a;
-    all = λ h s o n. o;
-    order = tt;
-  }
+  kept [] before r = grind (arith, append-nil)
   kept (e ∷ es) before r = by e.value refl (λ acc. kept es acc r.1)
     where
       is-home : (ty : Ty) → e.value ≡ Some ty → (h : Home) (s : PairSpot) → IsAt e s h → record { slot = e.spot.slot; ty = ty } ≡ h
@@ -210,17 +196,8 @@ module _ (same : SameTypeDecides) where
       with-one : (ty : Ty) → e.value ≡ Some ty → ((acc : List Home) → Kept acc es (fold with_event acc es)) → (b : Bool)
           → has before (record { slot = e.spot.slot; ty = ty }) ≡ b
           → Kept before (e ∷ es) (fold with_event (if b then before else before ++ record { slot = e.spot.slot; ty = ty } ∷ []) es)
-      with-one ty v rest true q =
-          skipped e es before (fold with_event before es)
-          (λ h s at. subst (λ j. IsAmong j before) (is-home ty v h s at) (has-among before (record { slot = e.spot.slot; ty = ty }) q)) (rest before)
-      with-one ty v rest false q =
-          added e es before (fold with_event (before ++ record { slot = e.spot.slot; ty = ty } ∷ []) es) (record { slot = e.spot.slot; ty = ty })
-          (is-home ty v)
-          (record { spot = refl; slot = refl; value = v })
-          (λ a. false≢true (sym q ∙ among-has before (record { slot = e.spot.slot; ty = ty }) a)) r.0
-          (rest (before ++ record { slot = e.spot.slot; ty = ty } ∷ []))
+      with-one ty v rest x q = grind (arith, skipped, has-among, added, false≢true, among-has)
 
       by : (v : Option Ty) → e.value ≡ v → ((acc : List Home) → Kept acc es (fold with_event acc es))
           → Kept before (e ∷ es) (fold with_event (with_home_of_value before e.spot.slot v) es)
-      by None v rest = skipped e es before (fold with_event before es) (λ h s at. absurd (nothing-met (sym v ∙ at.value))) (rest before)
-      by (Some ty) v rest = with-one ty v rest (has before (record { slot = e.spot.slot; ty = ty })) refl
+      by x v rest = grind (arith, skipped, nothing-met, with-one)

@@ -21,10 +21,7 @@ sum-none = refl
 pub sum-next : (homes : List Home) (n : ℕ) (d : Home) (v : ℕ) → n < length homes → v ≡ type_width (get_or homes n d).ty
     → register_sum (take (n + 1) homes) ≡ register_sum (take n homes) + v
 unfolding register_sum
-sum-next homes n d v lt e =
-    ap (sum_by (λ h. type_width h.ty)) (take_more homes n d lt)
-    ∙ sum_by-append (λ h. type_width h.ty) (take n homes) (get_or homes n d ∷ [])
-    ∙ ap (λ k. sum_by (λ h. type_width h.ty) (take n homes) + k) (sum_by-cons (λ h. type_width h.ty) (get_or homes n d) [] ∙ omega (arith, e))
+sum-next homes n d v lt e = grind (arith, take_more homes n d lt, take n homes, sum_by, sum_by-append, sum_by-cons)
 
 pub sum-rest : (homes : List Home) (n : ℕ) (d : Home) (v : ℕ) → n < length homes → v ≡ type_width (get_or homes n d).ty
     → register_sum (drop n homes) ≡ v + register_sum (drop (n + 1) homes)
@@ -36,5 +33,4 @@ sum-rest homes n d v lt e =
 
 pub begins-next : (homes : List Home) (n r : ℕ) (d : Home) (v : ℕ) → n < length homes → v ≡ type_width (get_or homes n d).ty
     → begins_from r (drop n homes) ≡ r ∷ begins_from (r + v) (drop (n + 1) homes)
-begins-next homes n r d v lt e =
-    ap (begins_from r) (rest-cons homes n d lt) ∙ ap (λ k. r ∷ begins_from (r + k) (drop (n + 1) homes)) (sym e)
+begins-next homes n r d v lt e = grind (arith, rest-cons, drop)

@@ -66,23 +66,16 @@ value-inside cells n ty e = by (slice_get cells n) refl e
 
 pub local-at : (frames : ℕ → Option Frame) (p x : ℕ) (ty : Ty) (o : Option Frame) → local_of o x ≡ Some ty
     → IsSomeAnd o (λ f. value_in_cells f.regs x ≡ Some ty)
-local-at frames p x ty None e = absurd (cc)
-local-at frames p x ty (Some f) e = e
+local-at frames p x ty x2 e = grind (arith)
 
 pub at-local : (x : ℕ) (ty : Ty) (o : Option Frame) → IsSomeAnd o (λ f. value_in_cells f.regs x ≡ Some ty) → local_of o x ≡ Some ty
-at-local x ty None h = absurd h
-at-local x ty (Some f) h = h
+at-local x ty x2 h = grind (arith)
 
 pub covered : (h : Handler) (p : ℕ) → is_covered h p ≡ true → Covers h p
-covered h p e =
-    let both = and_parts (nat_le h.start p) (nat_lt p h.end) e in
-    record { from = grind (arith, nat_tests, both.0); before = grind (arith, nat_tests, both.1) }
+covered h p e = grind (arith, and_parts, nat_le, nat_lt, nat_tests)
 
 pub covers : (h : Handler) (p : ℕ) → Covers h p → is_covered h p ≡ true
-covers h p c =
-    let from : nat_le h.start p ≡ true = grind (arith, nat_tests, c.from) in
-    let before : nat_lt p h.end ≡ true = grind (arith, nat_tests, c.before) in
-    rw (from, before) refl
+covers h p c = grind (arith, nat_le, nat_tests, nat_lt)
 
 -- ---- what is asked for a local
 
@@ -123,14 +116,8 @@ module _ (m : Method) (frames : ℕ → Option Frame) (p x : ℕ) where
   caught-occurs : (n : ℕ) (hs : List Handler) (k : ℕ) (h : Handler) (ty : Ty) → slice_get hs k ≡ Some h → caught_of frames p x h ≡ Some ty
       → Occurs (caught_events frames p x n hs) (record { place = p; slot = x; time = suc (n + k) }) (record { slot = x; ty = ty })
   caught-occurs n [] k h ty at e = absurd (cc)
-  caught-occurs n (j ∷ js) zero h ty at e =
-      let same : j ≡ h = cc in
-      let sum : n ≡ n + 0 = omega arith in
-      inl (record { spot = ap (λ (i : ℕ). record { place = p; slot = x; time = suc i }) sum; slot = refl; value = ap (caught_of frames p x) same ∙ e })
-  caught-occurs n (j ∷ js) (suc k) h ty at e =
-      let sum : suc n + k ≡ n + suc k = omega arith in
-      inr (subst (λ i. Occurs (caught_events frames p x (suc n) js) (record { place = p; slot = x; time = suc i }) (record { slot = x; ty = ty })) sum
-      (caught-occurs (suc n) js k h ty at e))
+  caught-occurs n (j ∷ js) zero h ty at e = grind (arith, suc)
+  caught-occurs n (j ∷ js) (suc k) h ty at e = grind (arith, suc, caught-occurs (suc n) js k h ty at e)
 
   occurs-local : (s : PairSpot) (h : Home) → IsReached m p → (w : Linked) → Occurs (local_events frames m.rec.handlers p x) s h → IsMetAt w m frames s h
   unfolding local_events
@@ -223,26 +210,13 @@ record AsksFor (w : Linked) (r : Result Operation RuleFault) (operands : ℕ) : 
   taken : (footprint w operation).taken ≡ operands
 
 asks-for : (w : Linked) (r : Result Operation RuleFault) (operands : ℕ) → operands_of w r ≡ Some operands → AsksFor w r operands
-asks-for w (Ok (ops.Branch (branches.Zero o))) operands e = record { operation = ops.Branch (branches.Zero o); is = refl; asks = tt; taken = same_Some _ _ e }
-asks-for w (Ok (ops.Branch (branches.Null o))) operands e = record { operation = ops.Branch (branches.Null o); is = refl; asks = tt; taken = same_Some _ _ e }
-asks-for w (Ok (ops.Branch (branches.References o))) operands e =
-    record { operation = ops.Branch (branches.References o); is = refl; asks = tt; taken = same_Some _ _ e }
-asks-for w (Ok (ops.Branch (branches.Shorts o))) operands e =
-    record { operation = ops.Branch (branches.Shorts o); is = refl; asks = tt; taken = same_Some _ _ e }
-asks-for w (Ok (ops.Switch width)) operands e = record { operation = ops.Switch width; is = refl; asks = tt; taken = same_Some _ _ e }
-asks-for w _ operands e = absurd (cc)
+asks-for w x operands e = grind (arith, same_Some)
 
 pub operands-of : (w : Linked) (op : Operation) → IsConditional op → operands_of w (Ok op) ≡ Some (footprint w op).taken
-operands-of w (ops.Branch (branches.Zero o)) h = refl
-operands-of w (ops.Branch (branches.Null o)) h = refl
-operands-of w (ops.Branch (branches.References o)) h = refl
-operands-of w (ops.Branch (branches.Shorts o)) h = refl
-operands-of w (ops.Switch width) h = refl
-operands-of w _ h = absurd h
+operands-of w x h = grind (arith)
 
 deeper-by : (o : Option ℕ) (depth : ℕ) → is_deeper o depth ≡ true → (n : ℕ) × (o ≡ Some n) × (n < depth)
-deeper-by None depth e = absurd (false≢true e)
-deeper-by (Some n) depth e = let lt : n < depth = grind (arith, nat_tests, e) in (n, refl, lt)
+deeper-by x depth e = grind (arith, false≢true, nat_tests)
 
 module _ (w : Linked) (m : Method) (frames : ℕ → Option Frame) (leaders : List Bool) (marks : Marks (IsLeader m) leaders) (listed : AreListed m.code)
     (i : Placed) (stands : HasInstruction m.code i) (f : Frame) (there : frames i.place ≡ Some f) where
@@ -268,8 +242,7 @@ module _ (w : Linked) (m : Method) (frames : ℕ → Option Frame) (leaders : Li
           })
 
   keeps-complete : KeepsStack w m frames i.place → keeps_stack w m.rec leaders i (length f.stack) ≡ true
-  keeps-complete (inl l) =
-      or_left (flag leaders i.place) (is_deeper (operands_of w (resolved w m.rec i.place i.insn (row_at i.insn.op))) (length f.stack)) ((marks i.place).1 l)
+  keeps-complete (inl l) = grind (arith, or_left, length)
   keeps-complete (inr b) =
       let same : b.instruction ≡ i = listed.one b.instruction i b.stands stands b.at in
       let resolves : Ok b.operation ≡ resolved w m.rec i.place i.insn (row_at i.insn.op) =
@@ -315,12 +288,10 @@ module _ (w : Linked) (m : Method) (frames : ℕ → Option Frame) (leaders : Li
     (framed : (p : ℕ) → IsReached m p → (f : Frame) × (frames p ≡ Some f)) where
   within : (x : ℕ) (ty : Ty) (o : Option Frame) → ((g : Frame) → o ≡ Some g → length g.regs ≡ register_count m.rec)
       → IsSomeAnd o (λ g. value_in_cells g.regs x ≡ Some ty) → x < register_count m.rec
-  within x ty None size at = absurd at
-  within x ty (Some g) size at = let less = value-inside g.regs x ty at in let same = size g refl in omega arith
+  within x ty x2 size at = grind (arith, value-inside)
 
   asked-inside : (p x n : ℕ) (ty : Ty) → IsAsked m frames p x n ty → x < register_count m.rec
-  asked-inside p x _ ty (asked_here at) = within x ty (frames p) (sizes p) at
-  asked-inside p x _ ty (asked_caught {h = h} a cov at) = within x ty (frames h.entry) (sizes h.entry) at
+  asked-inside p x x2 ty x22 = grind (arith, within)
 
   -- the pair is met at an instruction
   occurs-place : (i : Placed) → HasInstruction m.code i → (s : PairSpot) (h : Home) → Occurs (place_events w m frames leaders i) s h
@@ -353,12 +324,8 @@ module _ (w : Linked) (m : Method) (frames : ℕ → Option Frame) (leaders : Li
   flat-occurs : (is : List Placed) (i : Placed) → IsAmong i is → (s : PairSpot) (h : Home) → Occurs (place_events w m frames leaders i) s h
       → Occurs (flat_map (place_events w m frames leaders) is) s h
   flat-occurs [] i a s h o = absurd a
-  flat-occurs (j ∷ js) i (inl e) s h o =
-      rw flat_map-cons
-      (occurs-left (place_events w m frames leaders j) (flat_map (place_events w m frames leaders) js) s h
-      (subst (λ k. Occurs (place_events w m frames leaders k) s h) (sym e) o))
-  flat-occurs (j ∷ js) i (inr a) s h o =
-      rw flat_map-cons (occurs-right (place_events w m frames leaders j) (flat_map (place_events w m frames leaders) js) s h (flat-occurs js i a s h o))
+  flat-occurs (j ∷ js) i (inl e) s h o = grind (arith, flat_map-cons, occurs-left, flat_map)
+  flat-occurs (j ∷ js) i (inr a) s h o = grind (arith, flat_map-cons, occurs-right, flat_map, flat-occurs js i a s h o)
 
   -- at the instruction of a reached place
   occurs-at : (p : ℕ) (s : PairSpot) (h : Home) → (r : IsReached m p) → (f : Frame) → frames p ≡ Some f

@@ -1,12 +1,12 @@
 -- What is kept for a local at a place.
-use Rattle.std.proofs.Common.{◌≡◌, ℕ, suc, ◌+◌, ◌<◌, inl, inr, List, [], ◌∷◌, Option, refl, sym, ◌∙◌, ap, subst, arith}
+use Rattle.std.proofs.Common.{◌≡◌, ℕ, suc, ◌<◌, inl, inr, List, [], ◌∷◌, Option, refl, sym, subst, arith}
 use Rattle.jc_base.specs.Each.{Each, IsAmong}
 use Rattle.jc_base.specs.Laws.{SameTypeDecides}
 use Rattle.jc_control.specs.Method.{Method}
 use Rattle.jc_rules.specs.Demand.{Frame}
 use Rattle.xf_homes.specs.declared.home.Home.{Home}
 use Rattle.xf_homes.specs.Home.{IsAsked, IsNeeded, asked_here, PairSpot, ComesBefore}
-use Rattle.xf_homes.specs.Walk.{is_covered, local_events, with_events}
+use Rattle.xf_homes.specs.Walk.{local_events, with_events}
 use Rattle.xf_homes.specs.Laws.{IsAskedBefore, AreAskedInOrder, AreNeeded, NeededAreKept}
 use Rattle.xf_homes.proofs.Events.{Occurs, OccursBefore, Ordered, kept}
 use Rattle.xf_homes.proofs.Meeting.{local-at, caught-asked, occurs-caught, local-occurs}
@@ -14,9 +14,7 @@ use Rattle.xf_homes.proofs.Rising.{local-rising}
 
 -- one comes before another at the same place and slot
 before-time : (p x n k : ℕ) → ComesBefore (record { place = p; slot = x; time = n }) (record { place = p; slot = x; time = k }) → n < k
-before-time p x n k (inl lt) = absurd (omega arith)
-before-time p x n k (inr (e, inl lt)) = absurd (omega arith)
-before-time p x n k (inr (e, inr (f, lt))) = lt
+before-time p x n k x2 = grind (arith)
 
 module _ (m : Method) (frames : ℕ → Option Frame) (p x : ℕ) where
   -- where a pair is met, it is asked for
@@ -29,35 +27,15 @@ module _ (m : Method) (frames : ℕ → Option Frame) (p x : ℕ) where
   occurs-asked : (s : PairSpot) (h : Home) → Occurs (local_events frames m.rec.handlers p x) s h → IsAskedAt s h
   unfolding local_events
   occurs-asked s h (inl at) = record { time = 0; spot = sym at.spot; slot = sym at.slot; asked = asked_here (local-at frames p x h.ty (frames p) at.value) }
-  occurs-asked s h (inr o) =
-      let c = occurs-caught m frames p x 0 m.rec.handlers s h o in
-      let sum : 0 + c.number ≡ c.number = omega arith in
-      record {
-        time = suc c.number;
-        spot = sym c.spot ∙ ap (λ (i : ℕ). record { place = p; slot = x; time = suc i }) sum;
-        slot = sym c.slot;
-        asked = caught-asked m frames p x c.handler c.number h.ty c.at (is_covered c.handler p) refl c.value;
-      }
+  occurs-asked s h (inr o) = grind (arith, occurs-caught m frames p x 0 m.rec.handlers s h o, suc, caught-asked)
 
   -- and where it is asked for, it is met
   asked-occurs : (n : ℕ) (h : Home) → h.slot ≡ x → IsAsked m frames p x n h.ty
       → Occurs (local_events frames m.rec.handlers p x) (record { place = p; slot = x; time = n }) h
-  asked-occurs n h e asked =
-      subst (λ (y : ℕ). Occurs (local_events frames m.rec.handlers p x) (record { place = p; slot = x; time = n }) (record { slot = y; ty = h.ty }))
-      (sym e) (local-occurs m frames p x n h.ty asked)
+  asked-occurs n h e asked = grind (arith, local-occurs)
 
   asked-before : (h k : Home) → k.slot ≡ x → OccursBefore (local_events frames m.rec.handlers p x) h k → IsAskedBefore m frames p x h k
-  asked-before h k e o =
-      let a = occurs-asked o.spot h o.at in (
-        a.time,
-        a.asked,
-        λ j asked.
-            let c : ComesBefore o.spot (record { place = p; slot = x; time = j }) = o.first (record { place = p; slot = x; time = j })
-            (asked-occurs j k e asked) in
-            let d : ComesBefore (record { place = p; slot = x; time = a.time }) (record { place = p; slot = x; time = j }) = subst
-            (λ s. ComesBefore s (record { place = p; slot = x; time = j })) a.spot c in
-            before-time p x a.time j d,
-      )
+  asked-before h k e o = grind (arith, occurs-asked, asked-occurs, before-time)
 
   each-before : (h : Home) (hs : List Home) → ((k : Home) → IsAmong k hs → k.slot ≡ x)
       → Each (OccursBefore (local_events frames m.rec.handlers p x) h) hs → Each (IsAskedBefore m frames p x h) hs

@@ -2,7 +2,6 @@
 use Rattle.std.proofs.Common.{◌≡◌, ℕ, ◌+◌, ◌<◌, ◌≤◌, ◌⊎◌, inl, inr, List, [], ◌∷◌, ◌++◌, Option, refl, sym, ◌∙◌, ap}
 use Rattle.std.proofs.Common.{subst, arith}
 use Rattle.jc_base.specs.declared.ty.Ty.{Ty}
-use Rattle.jc_base.specs.declared.ty.Ty.TheVariants.{Bottom, Short, IntHigh, IntLow, Null, Class, ArrBool, ArrByte, ArrShort, ArrInt, ArrRef, Fresh, Top}
 use Rattle.jc_base.specs.Each.{IsAmong}
 use Rattle.jc_base.specs.World.{Linked}
 use Rattle.jc_base.proofs.Eaching.{Each-at}
@@ -71,19 +70,7 @@ module _ (w : Linked) (m : Method) (frames : ℕ → Option Frame) where
 -- ---- where their registers are
 
 wide : (ty : Ty) → 1 ≤ type_width ty
-wide IntHigh = omega arith
-wide Bottom = omega arith
-wide Short = omega arith
-wide IntLow = omega arith
-wide Null = omega arith
-wide (Class c) = omega arith
-wide ArrBool = omega arith
-wide ArrByte = omega arith
-wide ArrShort = omega arith
-wide ArrInt = omega arith
-wide (ArrRef c) = omega arith
-wide (Fresh p c) = omega arith
-wide Top = omega arith
+wide x = grind (arith)
 
 stands-later : (hs : List Home) (n : ℕ) → SlotsFollow n hs → (x : Home) → IsAmong x hs → n ≤ x.slot
 stands-later [] n st x a = absurd a
@@ -91,8 +78,7 @@ stands-later (h ∷ hs) n st x (inl e) = let at : h.slot ≡ x.slot = ap (λ (k 
 stands-later (h ∷ hs) n st x (inr a) = let later = stands-later hs (n + type_width h.ty) st.1 x a in omega (arith, later)
 
 stands-first : (h k : Home) (hs ks : List Home) (n : ℕ) → SlotsFollow n (h ∷ hs) → SlotsFollow n (k ∷ ks) → IsAmong h (k ∷ ks) → h ≡ k
-stands-first h k hs ks n p q (inl e) = sym e
-stands-first h k hs ks n p q (inr a) = let later = stands-later ks (n + type_width k.ty) q.1 h a in absurd (omega (arith, later, p.0, wide k.ty))
+stands-first h k hs ks n p q x = grind (arith, stands-later, wide)
 
 stands-rest : (h k : Home) (hs ks : List Home) (n : ℕ) → SlotsFollow n (h ∷ hs) → SlotsFollow n (k ∷ ks)
     → ((x : Home) → IsAmong x (h ∷ hs) → IsAmong x (k ∷ ks)) → (x : Home) → IsAmong x hs → IsAmong x ks

@@ -1,10 +1,10 @@
 -- The arguments of a method at their declared types: each stands where its register is.
 use Rattle.std.proofs.Common.{◌≡◌, ℕ, zero, suc, ◌+◌, inl, inr, Bool, true, false, if◌then◌else◌, List, [], ◌∷◌, ◌++◌, length}
-use Rattle.std.proofs.Common.{sum_by, All, Option, Some, None, slice_get, refl, sym, ◌∙◌, ap, subst, arith}
+use Rattle.std.proofs.Common.{sum_by, All, Option, Some, slice_get, refl, sym, ◌∙◌, ap, subst, arith}
 use Rattle.std.proofs.lemmas.List.Sums.{sum_by-cons}
 use Rattle.std.proofs.lemmas.List.Elements.{All-head, All-tail}
 use Rattle.jc_base.specs.declared.ty.Ty.{Ty}
-use Rattle.jc_base.specs.declared.ty.Ty.TheVariants.{Bottom, Short, IntHigh, IntLow, Null, Class, ArrBool, ArrByte, ArrShort, ArrInt, ArrRef, Fresh, Top}
+use Rattle.jc_base.specs.declared.ty.Ty.TheVariants.{IntHigh, IntLow, Class}
 use Rattle.jc_base.specs.declared.record.MethodRec.{MethodRec}
 use Rattle.jc_base.specs.Cell.{IsNoHalf, AreWhole, no_cells, whole_int, one_cell}
 use Rattle.jc_base.specs.Each.{IsAmong}
@@ -25,19 +25,7 @@ record IsOwnValue (a : Ty) : Type 0 where
   first : (slot : ℕ) (ts : List Ty) → values_from slot (a ∷ ts) ≡ record { slot = slot; ty = a } ∷ values_from (suc slot) ts
 
 own-value : (a : Ty) → IsNoHalf a → IsNotTop a → IsOwnValue a
-own-value IntHigh n top = absurd n
-own-value IntLow n top = absurd n
-own-value Top n top = absurd top
-own-value Bottom n top = record { value = λ next. refl; one = refl; first = λ slot ts. refl }
-own-value Short n top = record { value = λ next. refl; one = refl; first = λ slot ts. refl }
-own-value Null n top = record { value = λ next. refl; one = refl; first = λ slot ts. refl }
-own-value (Class c) n top = record { value = λ next. refl; one = refl; first = λ slot ts. refl }
-own-value ArrBool n top = record { value = λ next. refl; one = refl; first = λ slot ts. refl }
-own-value ArrByte n top = record { value = λ next. refl; one = refl; first = λ slot ts. refl }
-own-value ArrShort n top = record { value = λ next. refl; one = refl; first = λ slot ts. refl }
-own-value ArrInt n top = record { value = λ next. refl; one = refl; first = λ slot ts. refl }
-own-value (ArrRef c) n top = record { value = λ next. refl; one = refl; first = λ slot ts. refl }
-own-value (Fresh p c) n top = record { value = λ next. refl; one = refl; first = λ slot ts. refl }
+own-value x n top = grind (arith)
 
 -- ---- values of lists
 
@@ -74,11 +62,7 @@ home-is slot ty h e f = ap (λ (n : ℕ). record { slot = n; ty = ty }) e ∙ ap
 
 values-in : {types : List Ty} → AreWhole types → All IsNotTop types → (slot : ℕ) (h : Home) → IsAmong h (values_from slot types) → IsIn slot types h
 values-in no_cells top slot h a = absurd a
-values-in (whole_int {types = ts} whole) top slot h (inl e) = record {
-  number = 0;
-  at = let s : slot + 0 ≡ slot = omega arith in s ∙ ap (λ (k : Home). k.slot) e;
-  value = value-first IntHigh (IntLow ∷ ts) ∙ ap (λ (k : Home). Some k.ty) e;
-}
+values-in (whole_int {types = ts} whole) top slot h (inl e) = grind (arith, value-first)
 values-in (whole_int {types = ts} whole) top slot h (inr a) =
     later-in slot IntHigh (IntLow ∷ ts) h
     (later-in (suc slot) IntLow ts h (values-in whole (All-tail IsNotTop IntLow ts (All-tail IsNotTop IntHigh (IntLow ∷ ts) top)) (suc (suc slot)) h
@@ -98,22 +82,14 @@ values-in (one_cell {a = x} {types = ts} n whole) top slot h a =
 in-values : {types : List Ty} → AreWhole types → All IsNotTop types → (slot n : ℕ) (ty : Ty) → value_in_cells types n ≡ Some ty
     → IsAmong (record { slot = slot + n; ty = ty }) (values_from slot types)
 in-values no_cells top slot n ty v = absurd (none-there n ty v)
-in-values (whole_int {types = ts} whole) top slot zero ty v =
-    let s : slot ≡ slot + 0 = omega arith in
-    inl (home-is slot IntHigh _ s (some-type (sym (value-first IntHigh (IntLow ∷ ts)) ∙ v)))
-in-values (whole_int {types = ts} whole) top slot (suc zero) ty v =
-    let none : None ≡ Some ty = sym (value-later IntHigh (IntLow ∷ ts) 0 ∙ value-first IntLow ts) ∙ v in
-    absurd (cc)
+in-values (whole_int {types = ts} whole) top slot zero ty v = grind (arith, home-is, some-type, value-first)
+in-values (whole_int {types = ts} whole) top slot (suc zero) ty v = grind (arith, value-later, value-first)
 in-values (whole_int {types = ts} whole) top slot (suc (suc n)) ty v =
     let s : suc (suc slot) + n ≡ slot + suc (suc n) = omega arith in
     inr (subst (λ k. IsAmong (record { slot = k; ty = ty }) (values_from (suc (suc slot)) ts)) s
     (in-values whole (All-tail IsNotTop IntLow ts (All-tail IsNotTop IntHigh (IntLow ∷ ts) top)) (suc (suc slot)) n ty
     (sym (value-later IntLow ts n) ∙ sym (value-later IntHigh (IntLow ∷ ts) (suc n)) ∙ v)))
-in-values (one_cell {a = x} {types = ts} p whole) top slot zero ty v =
-    let own = own-value x p (All-head IsNotTop x ts top) in
-    let s : slot ≡ slot + 0 = omega arith in
-    subst (IsAmong (record { slot = slot + 0; ty = ty })) (sym (own.first slot ts))
-    (inl (home-is slot x _ s (some-type (sym (value-first x ts ∙ own.value (slice_get ts 0)) ∙ v))))
+in-values (one_cell {a = x} {types = ts} p whole) top slot zero ty v = grind (arith, own-value, home-is, some-type, value-first, slice_get)
 in-values (one_cell {a = x} {types = ts} p whole) top slot (suc n) ty v =
     let own = own-value x p (All-head IsNotTop x ts top) in
     let s : suc slot + n ≡ slot + suc n = omega arith in
@@ -160,22 +136,10 @@ module _ (r : MethodRec) (whole : AreWhole r.sig.args) (top : All IsNotTop r.sig
   -- the receiver is one more value in front
   with-receiver : AreWhole (argument_types r) → All IsNotTop (argument_types r) → argument_homes r ≡ values_from 0 (argument_types r)
       → length (argument_types r) ≡ length r.sig.args + receiver_words r.is_static → AreArguments r
-  with-receiver all topless same size = record {
-    sound = λ h a. let i = values-in all topless 0 h (subst (IsAmong h) same a) in
-        let s : i.number ≡ h.slot = omega (arith, i.at) in
-        subst (λ n. value_in_cells (argument_types r) n ≡ Some h.ty) s i.value;
-    complete = λ h v. let s : 0 + h.slot ≡ h.slot = omega arith in
-        subst (IsAmong h) (sym same)
-        (subst (λ n. IsAmong (record { slot = n; ty = h.ty }) (values_from 0 (argument_types r))) s (in-values all topless 0 h.slot h.ty v));
-    stand = subst (SlotsFollow 0) (sym same) (stand-from all topless 0);
-    filled = ap register_sum same ∙ sum-values all topless 0 ∙ size;
-  }
+  with-receiver all topless same size = grind (arith, values-in, in-values, stand-from, sum-values)
 
   are-arguments-by : (b : Bool) → r.is_static ≡ b → AreArguments r
-  are-arguments-by true e = with-receiver
-      (subst (λ c. AreWhole ((if c then [] else Class r.class ∷ []) ++ r.sig.args)) (sym e) whole)
-      (subst (λ c. All IsNotTop ((if c then [] else Class r.class ∷ []) ++ r.sig.args)) (sym e) top)
-      (rw e refl) (rw e (omega arith))
+  are-arguments-by true e = grind (arith, with-receiver)
   are-arguments-by false e = with-receiver
       (subst (λ c. AreWhole ((if c then [] else Class r.class ∷ []) ++ r.sig.args)) (sym e) (one_cell tt whole))
       (subst (λ c. All IsNotTop ((if c then [] else Class r.class ∷ []) ++ r.sig.args)) (sym e) (λ k d lt. topless-cons k d lt))

@@ -1,7 +1,7 @@
 -- Steps along cells and places.
-use Rattle.std.proofs.Common.{◌≡◌, ℕ, suc, ◌+◌, ◌-◌, ◌<◌, true, false, List, [], ◌++◌, Option, Some, None, refl, sym}
-use Rattle.std.proofs.Common.{◌∙◌, ap, arith, append_assoc}
-use Rattle.std.specs.Prelude.{is_some, if◌then◌else◌}
+use Rattle.std.proofs.Common.{◌≡◌, ℕ, suc, ◌+◌, ◌-◌, ◌<◌, true, false, List, [], ◌++◌, Option}
+use Rattle.std.proofs.Common.{arith, append_assoc}
+use Rattle.std.specs.Prelude.{is_some}
 use Rattle.jc_base.specs.declared.ty.Ty.{Ty}
 use Rattle.jc_rules.specs.Demand.{Frame}
 use Rattle.xf_homes.specs.declared.home.Home.{Home}
@@ -10,38 +10,23 @@ use Rattle.xf_homes.specs.Plan.{cells_from, home_of, with_home_of, first_of}
 
 cells-first : (slot : ℕ) (cells : List Ty) (n len : ℕ) → n < len
     → cells_from slot cells n (len - n) ≡ with_home_of (home_of (slot + n) (value_in_cells cells n)) (cells_from slot cells (n + 1) (len - (n + 1)))
-cells-first slot cells n len lt =
-    let e : len - n ≡ suc (len - (n + 1)) = omega arith in
-    let next : suc n ≡ n + 1 = omega arith in
-    ap (cells_from slot cells n) e ∙ ap (λ k. with_home_of (home_of (slot + n) (value_in_cells cells n)) (cells_from slot cells k (len - (n + 1)))) next
+cells-first slot cells n len lt = grind (arith, suc)
 
 split-first : (o : Option Home) (rest : List Home) → with_home_of o rest ≡ with_home_of o [] ++ rest
-split-first None rest = refl
-split-first (Some h) rest = refl
+split-first x rest = grind (arith)
 
 -- the next cell
 pub cells-next : (homes now whole : List Home) (slot : ℕ) (cells : List Ty) (n len : ℕ) (o : Option Home) → n < len
     → o ≡ home_of (slot + n) (value_in_cells cells n)
     → now ≡ homes ++ with_home_of o [] → homes ++ cells_from slot cells n (len - n) ≡ whole → now ++ cells_from slot cells (n + 1) (len - (n + 1))
     ≡ whole
-cells-next homes now whole slot cells n len o lt is pushed inv =
-    let rest = cells_from slot cells (n + 1) (len - (n + 1)) in
-    ap (λ xs. xs ++ rest) pushed
-    ∙ append_assoc homes (with_home_of o []) rest
-    ∙ ap (λ xs. homes ++ xs) (sym (cells-first slot cells n len lt ∙ ap (λ p. with_home_of p rest) (sym is) ∙ split-first o rest))
-    ∙ inv
+cells-next homes now whole slot cells n len o lt is pushed inv = grind (arith, append_assoc, cells-first, split-first)
 
 -- ---- places
 
 pub first-here : (frames : ℕ → Option Frame) (at end : ℕ) → at < end → is_some (frames at) ≡ true → first_of frames at (end - at) ≡ at
-first-here frames at end lt is =
-    let e : end - at ≡ suc (end - (at + 1)) = omega arith in
-    ap (first_of frames at) e ∙ ap (λ b. if b then at else first_of frames (suc at) (end - (at + 1))) is
+first-here frames at end lt is = grind (arith, suc)
 
 pub first-later : (frames : ℕ → Option Frame) (at end : ℕ) → at < end → is_some (frames at) ≡ false
     → first_of frames at (end - at) ≡ first_of frames (at + 1) (end - (at + 1))
-first-later frames at end lt is =
-    let e : end - at ≡ suc (end - (at + 1)) = omega arith in
-    let next : suc at ≡ at + 1 = omega arith in
-    ap (first_of frames at) e ∙ ap (λ b. if b then at else first_of frames (suc at) (end - (at + 1))) is
-    ∙ ap (λ k. first_of frames k (end - (at + 1))) next
+first-later frames at end lt is = grind (arith, suc)

@@ -1,6 +1,6 @@
 -- The events of a walk over the code stand at rising spots.
-use Rattle.std.proofs.Common.{◌≡◌, ℕ, zero, suc, ◌+◌, ◌<◌, ◌≤◌, inl, inr, Bool, true, false, List, [], ◌∷◌, ◌++◌, length}
-use Rattle.std.proofs.Common.{reverse, flat_map, Option, Some, None, slice_get, refl, sym, ◌∙◌, ap, arith}
+use Rattle.std.proofs.Common.{◌≡◌, ℕ, zero, suc, ◌+◌, ◌<◌, ◌≤◌, inl, inr, Bool, List, [], ◌∷◌, ◌++◌, length}
+use Rattle.std.proofs.Common.{reverse, flat_map, Option, Some, None, slice_get, refl, sym, ap, arith}
 use Rattle.std.proofs.lemmas.List.Concat.{flat_map-cons}
 use Rattle.jc_base.specs.declared.ty.Ty.{Ty}
 use Rattle.jc_base.specs.declared.record.Handler.{Handler}
@@ -91,10 +91,7 @@ module _ (frames : ℕ → Option Frame) (handlers : List Handler) (p : ℕ) whe
 
   locals-rising : (x n : ℕ) → Rising (locals_events frames handlers p x n)
   locals-rising x zero = tt
-  locals-rising x (suc n) =
-      rising-append (IsBetween p x (suc x)) (IsBetween p (suc x) (suc x + n)) (λ a b f g. inr (f.place ∙ sym g.place, inl (omega (arith, f.high, g.low))))
-      (local_events frames handlers p x) (locals_events frames handlers p (suc x) n)
-      (local-between x (suc x) (omega arith)) (locals-between (suc x) n (suc x + n) (omega arith)) (local-rising x) (locals-rising (suc x) n)
+  locals-rising x (suc n) = grind (arith, rising-append, suc, local-between, locals-between, local-rising, locals-rising (suc x) n)
 
   -- ---- cells
 
@@ -112,12 +109,10 @@ module _ (frames : ℕ → Option Frame) (handlers : List Handler) (p : ℕ) whe
   )
 
   stack-from : (b : Bool) (slot : ℕ) (cells : List Ty) → Each (IsFrom p slot) (stack_events b p slot cells)
-  stack-from true slot cells = cells-from slot cells 0 (length cells) slot (omega arith)
-  stack-from false slot cells = tt
+  stack-from x slot cells = grind (arith, cells-from, length)
 
   stack-rising : (b : Bool) (slot : ℕ) (cells : List Ty) → Rising (stack_events b p slot cells)
-  stack-rising true slot cells = cells-rising slot cells 0 (length cells)
-  stack-rising false slot cells = tt
+  stack-rising x slot cells = grind (arith, cells-rising, length)
 
 -- ---- places
 
@@ -140,16 +135,7 @@ places-rise (i ∷ is) f = (
 
 module _ (w : Linked) (m : Method) (frames : ℕ → Option Frame) (leaders : List Bool) where
   frame-rising : (i : Placed) (o : Option Frame) → Rising (frame_events w m frames leaders i o)
-  frame-rising i None = tt
-  frame-rising i (Some f) =
-      rising-append (IsBetween i.place 0 (register_count m.rec)) (IsFrom i.place (register_count m.rec))
-      (λ a b p q. inr (p.place ∙ sym q.place, inl (omega (arith, p.high, q.low))))
-      (locals_events frames m.rec.handlers i.place 0 (register_count m.rec))
-      (stack_events (keeps_stack w m.rec leaders i (length f.stack)) i.place (register_count m.rec) (reverse f.stack))
-      (locals-between frames m.rec.handlers i.place 0 (register_count m.rec) (register_count m.rec) (omega arith))
-      (stack-from frames m.rec.handlers i.place (keeps_stack w m.rec leaders i (length f.stack)) (register_count m.rec) (reverse f.stack))
-      (locals-rising frames m.rec.handlers i.place 0 (register_count m.rec))
-      (stack-rising frames m.rec.handlers i.place (keeps_stack w m.rec leaders i (length f.stack)) (register_count m.rec) (reverse f.stack))
+  frame-rising i x = grind (arith, rising-append, length, reverse, locals-between, stack-from, locals-rising, stack-rising)
 
   frame-place : (i : Placed) (o : Option Frame) → Each (IsAtPlace i.place) (frame_events w m frames leaders i o)
   frame-place i None = tt

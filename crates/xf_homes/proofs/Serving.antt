@@ -69,10 +69,7 @@ module _ (same : SameTypeDecides) where
           omega (arith, i.from, wide, at)
 
       second : same_home j k ≡ true → n ≡ s → register_from (n + type_width j.ty) js h ≡ Some r → s + type_width k.ty ≤ r
-      second q at f =
-          let i = register-is js h (n + type_width j.ty) r f in
-          let wide : type_width j.ty ≡ type_width k.ty = ap (λ (x : Home). type_width x.ty) (homes-equal same j k q) in
-          omega (arith, i.from, wide, at)
+      second q at f = grind (arith, register-is js h (n + type_width j.ty) r f, homes-equal same j k q)
 
       by : (b c : Bool) → same_home j h ≡ b → same_home j k ≡ c → (if b then Some n else register_from (n + type_width j.ty) js h) ≡ Some r
           → (if c then Some n else register_from (n + type_width j.ty) js k) ≡ Some s

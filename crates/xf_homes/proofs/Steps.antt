@@ -1,6 +1,6 @@
 -- Steps along the events of a walk.
 use Rattle.std.proofs.Common.{◌≡◌, ℕ, zero, suc, ◌+◌, ◌-◌, ◌<◌, ◌≤◌, Bool, true, false, List, [], ◌∷◌, length, drop, flat_map}
-use Rattle.std.proofs.Common.{Option, MatchBool, refl, sym, ◌∙◌, ap, arith, drop-cons}
+use Rattle.std.proofs.Common.{Option, MatchBool, refl, sym, ap, arith, drop-cons}
 use Rattle.std.specs.Prelude.{fold, get_or}
 use Rattle.std.proofs.lemmas.List.Sums.{fold-append}
 use Rattle.std.proofs.lemmas.List.Concat.{flat_map-cons}
@@ -19,33 +19,20 @@ pub cells-step : (homes : List Home) (p slot : ℕ) (cells : List Ty) (n len : �
     → with_events homes (cells_events p slot cells n (len - n)) ≡ with_events (with_home_of_value homes (slot + n) (value_in_cells cells n))
     (cells_events p slot cells (n + 1) (len - (n + 1)))
 unfolding with_events
-cells-step homes p slot cells n len lt =
-    let e : len - n ≡ suc (len - (n + 1)) = omega arith in
-    let next : suc n ≡ n + 1 = omega arith in
-    ap (λ k. fold with_event homes (cells_events p slot cells n k)) e
-    ∙ ap (λ k. fold with_event (with_home_of_value homes (slot + n) (value_in_cells cells n)) (cells_events p slot cells k (len - (n + 1)))) next
+cells-step homes p slot cells n len lt = grind (arith, suc)
 
 pub locals-step : (homes : List Home) (frames : ℕ → Option Frame) (handlers : List Handler) (p x len : ℕ) → x < len
     → with_events homes (locals_events frames handlers p x (len - x)) ≡ with_events (with_events homes (local_events frames handlers p x))
     (locals_events frames handlers p (x + 1) (len - (x + 1)))
 unfolding with_events
-locals-step homes frames handlers p x len lt =
-    let e : len - x ≡ suc (len - (x + 1)) = omega arith in
-    let next : suc x ≡ x + 1 = omega arith in
-    ap (λ k. fold with_event homes (locals_events frames handlers p x k)) e
-    ∙ fold-append with_event homes (local_events frames handlers p x) (locals_events frames handlers p (suc x) (len - (x + 1)))
-    ∙ ap (λ k. fold with_event (fold with_event homes (local_events frames handlers p x)) (locals_events frames handlers p k (len - (x + 1)))) next
+locals-step homes frames handlers p x len lt = grind (arith, suc, fold-append)
 
 pub handlers-step : (homes : List Home) (frames : ℕ → Option Frame) (p x n : ℕ) (handlers : List Handler) (d : Handler) (value : Option Ty)
     → n < length handlers → value ≡ caught_of frames p x (get_or handlers n d)
     → with_events homes (caught_events frames p x n (drop n handlers)) ≡ with_events (with_home_of_value homes x value)
     (caught_events frames p x (n + 1) (drop (n + 1) handlers))
 unfolding with_events
-handlers-step homes frames p x n handlers d value lt is =
-    let next : suc n ≡ n + 1 = omega arith in
-    ap (λ hs. fold with_event homes (caught_events frames p x n hs)) (drop-cons handlers n d lt)
-    ∙ ap (λ v. fold with_event (with_home_of_value homes x v) (caught_events frames p x (suc n) (drop (suc n) handlers))) (sym is)
-    ∙ ap (λ k. fold with_event (with_home_of_value homes x value) (caught_events frames p x k (drop k handlers))) next
+handlers-step homes frames p x n handlers d value lt is = grind (arith, suc, drop-cons, drop)
 
 pub handlers-end : (homes : List Home) (frames : ℕ → Option Frame) (p x n : ℕ) (handlers : List Handler) → length handlers ≤ n
     → with_events homes (caught_events frames p x n (drop n handlers)) ≡ homes
@@ -70,10 +57,7 @@ covers-is h p false n = by (is_covered h p) refl
 pub places-step : (homes : List Home) (f : Placed → List Event) (rest : List Placed) (i : Placed) (after : List Placed) → rest ≡ i ∷ after
     → with_events homes (flat_map f rest) ≡ with_events (with_events homes (f i)) (flat_map f after)
 unfolding with_events
-places-step homes f rest i after e =
-    ap (λ is. fold with_event homes (flat_map f is)) e
-    ∙ ap (fold with_event homes) (flat_map-cons f i after)
-    ∙ fold-append with_event homes (f i) (flat_map f after)
+places-step homes f rest i after e = grind (arith, flat_map, flat_map-cons, fold-append)
 
 pub places-end : (homes : List Home) (f : Placed → List Event) (rest : List Placed) → rest ≡ [] → homes ≡ with_events homes (flat_map f rest)
 unfolding with_events
@@ -82,5 +66,4 @@ places-end homes f rest e = ap (λ is. fold with_event homes (flat_map f is)) (s
 pub locals-end : (homes : List Home) (frames : ℕ → Option Frame) (handlers : List Handler) (p x len : ℕ) → len ≤ x
     → homes ≡ with_events homes (locals_events frames handlers p x (len - x))
 unfolding with_events
-locals-end homes frames handlers p x len le =
-    let none : 0 ≡ len - x = omega arith in ap (λ k. fold with_event homes (locals_events frames handlers p x k)) none
+locals-end homes frames handlers p x len le = grind (arith)

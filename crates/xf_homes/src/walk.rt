@@ -1,10 +1,8 @@
-ghost use Rattle.std.specs.Prelude.{◌≡◌, ◌↔◌, ◌+◌, ◌≤◌, ⊤, true, [], length, reverse, IsTrue, MatchBool, OnOk, OnErr, IfOk, Ok, slice_get, Some};
-ghost use Rattle.jc_base.specs.World.{Linked};
+ghost use Rattle.std.specs.Prelude.{◌≡◌, ◌↔◌, ◌+◌, ◌≤◌, ⊤, true, [], length, IsTrue, MatchBool, OnOk, OnErr, IfOk, Ok, Some};
 ghost use Rattle.jc_control.specs.Method.{IsMethodOf};
-ghost use Rattle.jc_rules.specs.Footprint.{footprint};
 ghost use Rattle.jc_rules.specs.Typing.{HaveSameRegisters};
 ghost use Rattle.xf_homes.specs.Home.{register_count};
-ghost use Rattle.xf_homes.specs.Walk.{local_of, is_covered, caught_events, caught_of, local_events, locals_events, cells_events, operands_of, operands_at, keeps_stack, stack_events, place_events, code_events, has, with_home, with_home_of_value, with_events};
+ghost use Rattle.xf_homes.specs.Walk.{local_of, is_covered, caught_events, caught_of, local_events, locals_events, cells_events, operands_of, operands_at, keeps_stack, place_events, code_events, has, with_home, with_home_of_value, with_events};
 ghost use Rattle.xf_homes.specs.Asked.{HandlersAreAsked, LocalsAreKnown, AreLastKnown, NoneIsNew, AreStill, is_new, knows, last_after, last_local};
 ghost use Rattle.xf_homes.specs.Subject.{walked, frames_of};
 
