@@ -1,22 +1,18 @@
 -- What an operation comes to over bare words is what it comes to over tagged cells, without their kinds.
-use Rattle.std.proofs.Common.{◌≡◌, ℕ, zero, suc, ◌+◌, ◌<◌, ◌*◌, ◌/◌, ◌==◌, ◌||◌, Bool, true, false, if◌then◌else◌, List}
+use Rattle.std.proofs.Common.{◌≡◌, ℕ, zero, suc, ◌+◌, ◌<◌, ◌*◌, ◌/◌, ◌==◌, Bool, true, false, if◌then◌else◌, List}
 use Rattle.std.proofs.Common.{[], ◌∷◌, ◌++◌, length, map, reverse, take, drop, set, refl, sym, ap, ◌∙◌, arith}
-use Rattle.std.specs.Prelude.{ℤ, pos, negsuc, Option, Some, None, find, slice_get, unwrap_or}
+use Rattle.std.specs.Prelude.{ℤ, pos, negsuc, Option, Some, None, slice_get}
 use Rattle.std.specs.Int.{w16, w32, int_wrapping_add}
 use Rattle.std.proofs.lemmas.List.{map-append, take-map, drop-map, map-set, length-map}
 use Rattle.jc_base.specs.declared.ty.Ty.{Ty}
-use Rattle.jc_base.specs.declared.ty.Ty.TheVariants.{Bottom, Short, IntHigh, IntLow, Null, Class, ArrBool, ArrByte, ArrShort, ArrInt, ArrRef, Fresh, Top}
+use Rattle.jc_base.specs.declared.ty.Ty.TheVariants.{Short, Top}
 use Rattle.jc_base.specs.declared.ty.Kind.{Kind}
 use Rattle.jc_base.specs.declared.ty.Kind.TheVariants as fields
 use Rattle.jc_base.specs.Class.{ClassTable}
 use Rattle.jc_base.specs.Cell.{width}
 use Rattle.jc_base.specs.World.{Linked}
 use Rattle.jc_decode.specs.declared.insn.Insn.{Insn}
-use Rattle.jc_decode.specs.Cases.{cases}
-use Rattle.jc_decode.specs.Listing.{target}
-use Rattle.jc_base.specs.Dispatch.{dispatched}
 use Rattle.jc_ops.specs.declared.want.Want.{Want}
-use Rattle.jc_ops.specs.declared.want.Want.TheVariants.{Value, Receiver, Storable, ByteArray, AnyArray, Whole}
 use Rattle.jc_ops.specs.declared.operation.Sameness.{Sameness}
 use Rattle.jc_ops.specs.declared.operation.StaticField.{StaticField}
 use Rattle.jc_ops.specs.declared.operation.Sort.TheVariants as sorts
@@ -41,18 +37,17 @@ use Rattle.jc_ops.specs.declared.operation.TypeTest.TheVariants as tests
 use Rattle.jc_ops.specs.declared.operation.TypeTest.{TypeTest}
 use Rattle.jc_ops.specs.declared.operation.Operation.{Operation}
 use Rattle.jc_ops.specs.declared.operation.Operation.TheVariants as ops
-use Rattle.vm_arithmetic.specs.Arithmetic.{succeeds, int_to_short, short_to_byte, int_to_byte, compared, high_word, low_word, of_shorts, of_ints, int_of_words}
+use Rattle.vm_arithmetic.specs.Arithmetic.{int_to_short, high_word, low_word, int_of_words}
 use Rattle.vm_arithmetic.specs.Arithmetic.{short_of_word}
 use Rattle.vm_store.specs.declared.cell.Cell.{Cell}
 use Rattle.vm_store.specs.declared.cell.Cell.TheVariants as cells
 use Rattle.vm_store.specs.declared.cell.CellKind.{CellKind}
 use Rattle.vm_store.specs.declared.cell.CellKind.TheVariants as made
 use Rattle.vm_store.specs.declared.kind.ObjectKind.{ObjectKind}
-use Rattle.vm_store.specs.declared.kind.ObjectKind.TheVariants.{Instance, Booleans, Bytes, Shorts, Ints, References}
 use Rattle.vm_store.specs.Kind.{kind_of_handle, element_width}
 use Rattle.vm_store.specs.Cells.{tagged, words, word_of, made_ready}
-use Rattle.vm_store.specs.State.{State, Frame, Object, map_frame, map_object, erased, top, nth, rotated}
-use Rattle.vm_store.specs.Objects.{kinds, object_cells, array_cells}
+use Rattle.vm_store.specs.State.{State, Frame, Object, map_frame, map_object, erased, nth, rotated}
+use Rattle.vm_store.specs.Objects.{object_cells}
 use Rattle.vm_store.specs.Value.{value_in, value_on, kept_value, with_object_value, with_static_value}
 use Rattle.vm_store.specs.Erasing.{ReadsErased, ObjectsErase, CellsErase}
 use Rattle.vm_store.proofs.CellTypes.{words-erase}
@@ -60,17 +55,17 @@ use Rattle.vm_store.proofs.Erasing.{states-erase, reverse-erased}
 use Rattle.vm_step.specs.declared.ending.Value.TheVariants as values
 use Rattle.vm_step.specs.declared.exception.Exception.{Exception}
 use Rattle.vm_step.specs.declared.exception.Exception.TheVariants as exceptions
-use Rattle.vm_step.specs.Act.{Act, goes, jumps, makes, calls, gives, raises, throws, unless_null, if_some}
+use Rattle.vm_step.specs.Act.{Act, goes, raises, throws, unless_null, if_some}
 use Rattle.vm_step.specs.Methods.{code_at}
-use Rattle.vm_step.specs.Values.{with_constant, with_load, with_store, incremented, with_increment, moved, computed, negated, arithmetic_act}
-use Rattle.vm_step.specs.Branching.{is_same, is_taken, leads_if, branch_width, branch_act, has_key, case_offset, switch_act}
-use Rattle.vm_step.specs.Fields.{with_static_read, with_static_write, held_handle, holder_width, with_field_read, field_read_act, with_field_write}
-use Rattle.vm_step.specs.Fields.{field_write_act, element_count_in, elements_of, element_index, at_element, array_read_act, takes_element, keeps_kind}
+use Rattle.vm_step.specs.Values.{with_constant, with_load, with_store, incremented, with_increment, moved, computed, arithmetic_act}
+use Rattle.vm_step.specs.Branching.{is_same, is_taken, leads_if, branch_act, switch_act}
+use Rattle.vm_step.specs.Fields.{with_static_read, with_static_write, held_handle, with_field_read, field_read_act}
+use Rattle.vm_step.specs.Fields.{field_write_act, element_count_in, elements_of, element_index, at_element, array_read_act, keeps_kind}
 use Rattle.vm_step.specs.Fields.{with_element, array_write_act, array_length_act}
-use Rattle.vm_step.specs.Objects.{new_act, kind_of_type, array_of_count, new_array_act, throw_act, kind_passes, passes, may_cast, truth, type_test_act}
-use Rattle.vm_step.specs.Calls.{class_with_methods, class_of, served, made_at, readied, with_ready, served_act, interface_act, chosen_act, args_of, return_act}
+use Rattle.vm_step.specs.Objects.{new_act, kind_of_type, array_of_count, new_array_act, throw_act, kind_passes, passes, type_test_act}
+use Rattle.vm_step.specs.Calls.{class_with_methods, class_of, made_at, readied, with_ready, served_act, interface_act, chosen_act, args_of, return_act}
 use Rattle.vm_step.specs.Performed.{act}
-use Rattle.vm_step.specs.Numbers.{handle_at, short_at, int_on, number_on, number_cells, number_width, dropped, replaced}
+use Rattle.vm_step.specs.Numbers.{handle_at, short_at, number_on, number_cells, dropped, replaced}
 use Rattle.law_erasure.specs.Erasure.{erased_act, ActsErase}
 
 -- ---- what may be thrown
@@ -84,8 +79,7 @@ null-erased h a b e = go (h == 0)
 
 some-erased : {X : Type 0} (exception : Exception) (o : Option X) (a : X → Act Cell) (b : X → Act ℕ) → ((x : X) → b x ≡ erased_act (a x))
     → if_some exception o b ≡ erased_act (if_some exception o a)
-some-erased exception None a b e = refl
-some-erased exception (Some x) a b e = e x
+some-erased exception x a b e = grind (arith)
 
 module _ (w : Linked) (f : Frame Cell) (below : List (Frame Cell)) (heap : List (Object Cell)) (statics : List Cell) where
   -- the state of words with other registers and another stack on top
@@ -116,8 +110,7 @@ module _ (w : Linked) (f : Frame Cell) (below : List (Frame Cell)) (heap : List 
   int-is cs m n = ap (λ a. int_of_words a (nth words (map word_of cs) n)) (word-at cs m) ∙ ap (int_of_words (word_of (nth tagged cs m))) (word-at cs n)
 
   number-is : (width : Width) (cs : List Cell) → number_on words width (map word_of cs) ≡ number_on tagged width cs
-  number-is widths.Short cs = short-is cs 0
-  number-is widths.Int cs = int-is cs 1 0
+  number-is x cs = grind (arith, short-is, int-is)
 
   -- ---- states
 
@@ -129,31 +122,21 @@ module _ (w : Linked) (f : Frame Cell) (below : List (Frame Cell)) (heap : List 
       (count : ℕ) (value : List Cell) (other : List ℕ) → map word_of value ≡ other
       → replaced (erased (record { frames = f ∷ below; heap = heap; statics = statics })) count other
       ≡ erased (replaced (record { frames = f ∷ below; heap = heap; statics = statics }) count value)
-  replaced-is count value other e =
-      ap (framed (map word_of f.registers))
-      (ap (λ vs. reverse vs ++ drop count (map word_of f.stack)) (sym e)
-      ∙ (ap (λ vs. vs ++ drop count (map word_of f.stack)) (sym (reverse-erased value))
-      ∙ (ap (λ vs. map word_of (reverse value) ++ vs) (drop-map word_of count f.stack) ∙ sym (map-append word_of (reverse value) (drop count f.stack)))))
+  replaced-is count value other e = grind (arith, map, reverse, drop, reverse-erased, drop-map, map-append)
 
   numbers-are : (width : Width) (n : ℤ) → map word_of (number_cells tagged width n) ≡ number_cells words width n
-  numbers-are widths.Short n = refl
-  numbers-are widths.Int n = refl
+  numbers-are x n = grind (arith)
 
   number-replaced : (count : ℕ) (width : Width) (n m : ℤ) → n ≡ m
       → goes (replaced (erased (record { frames = f ∷ below; heap = heap; statics = statics })) count (number_cells words width n))
       ≡ goes (erased (replaced (record { frames = f ∷ below; heap = heap; statics = statics }) count (number_cells tagged width m)))
-  number-replaced count width n m e =
-      ap (λ x. goes (replaced (erased (record { frames = f ∷ below; heap = heap; statics = statics })) count (number_cells words width x))) e
-      ∙ ap goes (replaced-is count (number_cells tagged width m) (number_cells words width m) (numbers-are width m))
+  number-replaced count width n m e = grind (arith, replaced-is, numbers-are)
 
   -- ---- constants and registers
 
   constant-is : (c : Constant) → with_constant words c (erased (record { frames = f ∷ below; heap = heap; statics = statics }))
       ≡ erased (with_constant tagged c (record { frames = f ∷ below; heap = heap; statics = statics }))
-  constant-is constants.Nothing = refl
-  constant-is constants.Null = refl
-  constant-is (constants.Short n) = refl
-  constant-is (constants.Int n) = refl
+  constant-is x = grind (arith)
 
   loaded-is : (kind : CellKind) (x : ℕ) → nth words (map word_of f.registers) x ≡ word_of (tagged.loaded kind (nth tagged f.registers x))
   loaded-is kind x = word-at f.registers x ∙ sym (words-erase.loaded kind (nth tagged f.registers x))
@@ -162,10 +145,7 @@ module _ (w : Linked) (f : Frame Cell) (below : List (Frame Cell)) (heap : List 
       ≡ erased (with_load tagged sort x (record { frames = f ∷ below; heap = heap; statics = statics }))
   load-is sorts.Reference x = ap (λ c. framed (map word_of f.registers) (c ∷ map word_of f.stack)) (loaded-is made.Reference x)
   load-is sorts.Short x = ap (λ c. framed (map word_of f.registers) (c ∷ map word_of f.stack)) (loaded-is made.Short x)
-  load-is sorts.Int x =
-      ap (λ c. framed (map word_of f.registers) (c ∷ nth words (map word_of f.registers) x ∷ map word_of f.stack)) (loaded-is made.Low (x + 1))
-      ∙ ap (λ c. framed (map word_of f.registers) (word_of (tagged.loaded made.Low (nth tagged f.registers (x + 1))) ∷ c ∷ map word_of f.stack))
-      (loaded-is made.High x)
+  load-is sorts.Int x = grind (arith, map word_of f.registers, map word_of f.stack, loaded-is made.Low (x + 1), loaded-is made.High x)
 
   set-is : (rs : List Cell) (x : ℕ) (n : ℕ) (c : Cell) → n ≡ word_of c → set (map word_of rs) x n ≡ map word_of (set rs x c)
   set-is rs x n c e = ap (set (map word_of rs) x) e ∙ sym (map-set word_of rs x c)
@@ -173,9 +153,7 @@ module _ (w : Linked) (f : Frame Cell) (below : List (Frame Cell)) (heap : List 
   one-stored : (x taken : ℕ) (n : ℕ) (c : Cell) → n ≡ word_of c
       → framed (set (map word_of f.registers) x n) (drop taken (map word_of f.stack))
       ≡ framed (map word_of (set f.registers x c)) (map word_of (drop taken f.stack))
-  one-stored x taken n c e =
-      ap (λ rs. framed rs (drop taken (map word_of f.stack))) (set-is f.registers x n c e)
-      ∙ ap (framed (map word_of (set f.registers x c))) (drop-map word_of taken f.stack)
+  one-stored x taken n c e = grind (arith, drop, map, set-is, set, drop-map)
 
   two-stored : (x taken m n : ℕ) (c d : Cell) → m ≡ word_of c → n ≡ word_of d
       → framed (set (set (map word_of f.registers) x m) (x + 1) n) (drop taken (map word_of f.stack))
@@ -214,61 +192,25 @@ module _ (w : Linked) (f : Frame Cell) (below : List (Frame Cell)) (heap : List 
   copied-is : (copied under : ℕ) (cs : List Cell)
       → take under (map word_of cs) ++ (take copied (map word_of cs) ++ drop under (map word_of cs))
       ≡ map word_of (take under cs ++ (take copied cs ++ drop under cs))
-  copied-is copied under cs =
-      ap (λ ts. ts ++ (take copied (map word_of cs) ++ drop under (map word_of cs))) (take-map word_of under cs)
-      ∙ (ap (λ ts. map word_of (take under cs) ++ ts)
-      (ap (λ ts. ts ++ drop under (map word_of cs)) (take-map word_of copied cs)
-      ∙ (ap (λ ts. map word_of (take copied cs) ++ ts) (drop-map word_of under cs) ∙ sym (map-append word_of (take copied cs) (drop under cs))))
-      ∙ sym (map-append word_of (take under cs) (take copied cs ++ drop under cs)))
+  copied-is copied under cs = grind (arith, take, map, drop, take-map, drop-map, map-append)
 
   rotated-is : (count by : ℕ) (cs : List Cell) → rotated count by (map word_of cs) ≡ map word_of (rotated count by cs)
-  rotated-is count by cs =
-      ap (λ ts. drop by ts ++ (take by (map word_of cs) ++ drop count (map word_of cs))) (take-map word_of count cs)
-      ∙ (ap (λ ts. ts ++ (take by (map word_of cs) ++ drop count (map word_of cs))) (drop-map word_of by (take count cs))
-      ∙ (ap (λ ts. map word_of (drop by (take count cs)) ++ ts)
-      (ap (λ ts. ts ++ drop count (map word_of cs)) (take-map word_of by cs)
-      ∙ (ap (λ ts. map word_of (take by cs) ++ ts) (drop-map word_of count cs) ∙ sym (map-append word_of (take by cs) (drop count cs))))
-      ∙ sym (map-append word_of (drop by (take count cs)) (take by cs ++ drop count cs))))
+  rotated-is count by cs = grind (arith, drop, take, map, take-map, drop-map, map-append)
 
   moved-is : (m : Move) (cs : List Cell) → moved m (map word_of cs) ≡ map word_of (moved m cs)
-  moved-is moves.Pop cs = drop-map word_of 1 cs
-  moved-is moves.PopTwo cs = drop-map word_of 2 cs
-  moved-is moves.Duplicate cs = copied-is 1 0 cs
-  moved-is moves.DuplicateTwo cs = copied-is 2 0 cs
-  moved-is (moves.CopyUnder copied under) cs = copied-is copied under cs
-  moved-is (moves.Exchange top under) cs = rotated-is (top + under) top cs
+  moved-is x cs = grind (arith, drop-map, copied-is, rotated-is)
 
   -- ---- arithmetic
 
   computed-is : (width : Width) (taken : ℕ) (o p : Option ℤ) → o ≡ p
       → computed words width (erased (record { frames = f ∷ below; heap = heap; statics = statics })) taken o
       ≡ erased_act (computed tagged width (record { frames = f ∷ below; heap = heap; statics = statics }) taken p)
-  computed-is width taken o p e =
-      ap (computed words width (erased (record { frames = f ∷ below; heap = heap; statics = statics })) taken) e
-      ∙ some-erased exceptions.Arithmetic p
-      (λ n. goes (replaced (record { frames = f ∷ below; heap = heap; statics = statics }) taken (number_cells tagged width n)))
-      (λ n. goes (replaced (erased (record { frames = f ∷ below; heap = heap; statics = statics })) taken (number_cells words width n)))
-      (λ n. number-replaced taken width n n refl)
+  computed-is width taken o p e = grind (arith, some-erased, number-replaced)
 
   arithmetic-is : (a : Arithmetic)
       → arithmetic_act words a (erased (record { frames = f ∷ below; heap = heap; statics = statics }))
       ≡ erased_act (arithmetic_act tagged a (record { frames = f ∷ below; heap = heap; statics = statics }))
-  arithmetic-is (arithmetic.Binary o widths.Short) =
-      computed-is widths.Short 2 _ _
-      (ap (λ n. of_shorts o n (short_at words (map word_of f.stack) 0)) (short-is f.stack 1)
-      ∙ ap (of_shorts o (short_at tagged f.stack 1)) (short-is f.stack 0))
-  arithmetic-is (arithmetic.Binary o widths.Int) =
-      computed-is widths.Int 4 _ _
-      (ap (λ n. of_ints o n (int_on words (map word_of f.stack) 0)) (int-is f.stack 3 2) ∙ ap (of_ints o (int_on tagged f.stack 2)) (int-is f.stack 1 0))
-  arithmetic-is (arithmetic.Negate widths.Short) = number-replaced 1 widths.Short _ _ (ap (negated widths.Short) (short-is f.stack 0))
-  arithmetic-is (arithmetic.Negate widths.Int) = number-replaced 2 widths.Int _ _ (ap (negated widths.Int) (int-is f.stack 1 0))
-  arithmetic-is arithmetic.ShortToByte = number-replaced 1 widths.Short _ _ (ap short_to_byte (short-is f.stack 0))
-  arithmetic-is arithmetic.ShortToInt = number-replaced 1 widths.Int _ _ (short-is f.stack 0)
-  arithmetic-is arithmetic.IntToByte = number-replaced 2 widths.Short _ _ (ap int_to_byte (int-is f.stack 1 0))
-  arithmetic-is arithmetic.IntToShort = number-replaced 2 widths.Short _ _ (ap int_to_short (int-is f.stack 1 0))
-  arithmetic-is arithmetic.CompareInts =
-      number-replaced 4 widths.Short _ _
-      (ap (λ n. compared n (int_on words (map word_of f.stack) 0)) (int-is f.stack 3 2) ∙ ap (compared (int_on tagged f.stack 2)) (int-is f.stack 1 0))
+  arithmetic-is x = grind (arith, computed-is, map, short-is, int-is, number-replaced)
 
   -- ---- branches
 
@@ -276,44 +218,29 @@ module _ (w : Linked) (f : Frame Cell) (below : List (Frame Cell)) (heap : List 
   same-handles e cs n = ap (λ h. is_same e h 0) (word-at cs n)
 
   taken-is : (b : Branch) (cs : List Cell) → is_taken words b (map word_of cs) ≡ is_taken tagged b cs
-  taken-is branches.Always cs = refl
-  taken-is (branches.Zero o) cs = ap (λ n. succeeds o n (pos 0)) (short-is cs 0)
-  taken-is (branches.Null e) cs = same-handles e cs 0
-  taken-is (branches.References e) cs =
-      ap (λ h. is_same e h (handle_at words (map word_of cs) 0)) (word-at cs 1) ∙ ap (is_same e (handle_at tagged cs 1)) (word-at cs 0)
-  taken-is (branches.Shorts o) cs =
-      ap (λ n. succeeds o n (short_at words (map word_of cs) 0)) (short-is cs 1) ∙ ap (succeeds o (short_at tagged cs 1)) (short-is cs 0)
+  taken-is x cs = grind (arith, short-is, same-handles, map, word-at)
 
   leads-is : (taken : Bool) (to : ℤ) (n : ℕ)
       → leads_if taken to (dropped (erased (record { frames = f ∷ below; heap = heap; statics = statics })) n)
       ≡ erased_act (leads_if taken to (dropped (record { frames = f ∷ below; heap = heap; statics = statics }) n))
-  leads-is true to n = ap (jumps to) (dropped-is n)
-  leads-is false to n = ap goes (dropped-is n)
+  leads-is x to n = grind (arith, dropped-is)
 
   branch-is : (i : Insn) (b : Branch)
       → branch_act words i b (erased (record { frames = f ∷ below; heap = heap; statics = statics }))
       ≡ erased_act (branch_act tagged i b (record { frames = f ∷ below; heap = heap; statics = statics }))
-  branch-is i b =
-      ap (λ x. leads_if x (target f.place i.x) (dropped (erased (record { frames = f ∷ below; heap = heap; statics = statics })) (branch_width b)))
-      (taken-is b f.stack)
-      ∙ leads-is (is_taken tagged b f.stack) (target f.place i.x) (branch_width b)
+  branch-is i b = grind (arith, taken-is, leads-is)
 
   switch-is : (code : List ℕ) (i : Insn) (width : Width)
       → switch_act words code i width (erased (record { frames = f ∷ below; heap = heap; statics = statics }))
       ≡ erased_act (switch_act tagged code i width (record { frames = f ∷ below; heap = heap; statics = statics }))
-  switch-is code i width =
-      let to : ℤ → ℤ = λ n. target f.place (case_offset i.x (find (has_key n) (cases code f.place i))) in
-      ap (λ n. jumps (to n) (dropped (erased (record { frames = f ∷ below; heap = heap; statics = statics })) (number_width width)))
-      (number-is width f.stack)
-      ∙ ap (jumps (to (number_on tagged width f.stack))) (dropped-is (number_width width))
+  switch-is code i width = grind (arith, number-is, dropped-is)
 
   -- ---- fields
 
   static-read-is : (fd : StaticField)
       → with_static_read words fd (erased (record { frames = f ∷ below; heap = heap; statics = statics }))
       ≡ erased (with_static_read tagged fd (record { frames = f ∷ below; heap = heap; statics = statics }))
-  static-read-is fd =
-      replaced-is 0 (value_in tagged fd.kind statics fd.slot) (value_in words fd.kind (map word_of statics) fd.slot) (of-cells.read fd.kind statics fd.slot)
+  static-read-is fd = grind (arith, replaced-is, map, of-cells)
 
   kept-is : (kind : Kind) → map word_of (kept_value tagged kind (value_on tagged kind f.stack)) ≡ kept_value words kind
       (value_on words kind (map word_of f.stack))
@@ -334,15 +261,12 @@ module _ (w : Linked) (f : Frame Cell) (below : List (Frame Cell)) (heap : List 
   held-is : (holder : Holder) (under : ℕ)
       → held_handle words holder under (erased (record { frames = f ∷ below; heap = heap; statics = statics })) ≡ held_handle tagged holder under
       (record { frames = f ∷ below; heap = heap; statics = statics })
-  held-is holders.Stack under = word-at f.stack under
-  held-is holders.This under = word-at f.registers 0
+  held-is x under = grind (arith, word-at)
 
   read-is : (kind : Kind) (h i : ℕ)
       → map word_of (value_in tagged kind (object_cells (record { frames = f ∷ below; heap = heap; statics = statics }) h) i)
       ≡ value_in words kind (object_cells (erased (record { frames = f ∷ below; heap = heap; statics = statics })) h) i
-  read-is kind h i =
-      of-cells.read kind (object_cells (record { frames = f ∷ below; heap = heap; statics = statics }) h) i
-      ∙ ap (λ cs. value_in words kind cs i) (reads.cells h)
+  read-is kind h i = grind (arith, of-cells, reads)
 
   field-read-is : (fd : InstanceField) (holder : Holder) (h : ℕ)
       → with_field_read words fd holder h (erased (record { frames = f ∷ below; heap = heap; statics = statics }))
@@ -357,12 +281,7 @@ module _ (w : Linked) (f : Frame Cell) (below : List (Frame Cell)) (heap : List 
   field-read-act-is : (fd : InstanceField) (holder : Holder)
       → field_read_act words fd holder (erased (record { frames = f ∷ below; heap = heap; statics = statics }))
       ≡ erased_act (field_read_act tagged fd holder (record { frames = f ∷ below; heap = heap; statics = statics }))
-  field-read-act-is fd holder =
-      let s : State Cell = record { frames = f ∷ below; heap = heap; statics = statics } in
-      let h : ℕ = held_handle tagged holder 0 s in
-      ap (λ n. unless_null n (λ k. goes (with_field_read words fd holder k (erased s)))) (held-is holder 0)
-      ∙ null-erased h (λ k. goes (with_field_read tagged fd holder k s)) (λ k. goes (with_field_read words fd holder k (erased s)))
-      (ap goes (field-read-is fd holder h))
+  field-read-act-is fd holder = grind (arith, held-is, null-erased, field-read-is)
 
   -- a value on top of the stack goes into an object
   written-is : (taken h i : ℕ) (kind : Kind)
@@ -380,12 +299,7 @@ module _ (w : Linked) (f : Frame Cell) (below : List (Frame Cell)) (heap : List 
   field-write-act-is : (fd : InstanceField) (holder : Holder)
       → field_write_act words fd holder (erased (record { frames = f ∷ below; heap = heap; statics = statics }))
       ≡ erased_act (field_write_act tagged fd holder (record { frames = f ∷ below; heap = heap; statics = statics }))
-  field-write-act-is fd holder =
-      let s : State Cell = record { frames = f ∷ below; heap = heap; statics = statics } in
-      let h : ℕ = held_handle tagged holder (width fd.kind) s in
-      ap (λ n. unless_null n (λ k. goes (with_field_write words fd holder k (erased s)))) (held-is holder (width fd.kind))
-      ∙ null-erased h (λ k. goes (with_field_write tagged fd holder k s)) (λ k. goes (with_field_write words fd holder k (erased s)))
-      (ap goes (written-is (width fd.kind + holder_width holder) h fd.cell fd.kind))
+  field-write-act-is fd holder = grind (arith, held-is, null-erased, written-is)
 
   -- ---- arrays
 
@@ -419,18 +333,11 @@ module _ (w : Linked) (f : Frame Cell) (below : List (Frame Cell)) (heap : List 
   keeps-is : (t : ClassTable) (kind : Kind) (h : ℕ)
       → keeps_kind words t kind (erased (record { frames = f ∷ below; heap = heap; statics = statics })) h ≡ keeps_kind tagged t kind
       (record { frames = f ∷ below; heap = heap; statics = statics }) h
-  keeps-is t fields.Ref h =
-      let ks = kinds (erased (record { frames = f ∷ below; heap = heap; statics = statics })) in
-      ap (takes_element t ks (kind_of_handle ks h)) (word-at f.stack 0)
-      ∙ ap (λ xs. takes_element t xs (kind_of_handle xs h) (handle_at tagged f.stack 0)) reads.kinds_are
-  keeps-is t fields.Byte h = refl
-  keeps-is t fields.Short h = refl
-  keeps-is t fields.Int h = refl
+  keeps-is t x h = grind (arith, word-at, reads)
 
   kept-or-raised : (keep : Bool) (a : State Cell) (b : State ℕ) → b ≡ erased a
       → ◌≡◌ {A = Act ℕ} (if keep then goes b else raises exceptions.ArrayStore) (erased_act (if keep then goes a else raises exceptions.ArrayStore))
-  kept-or-raised true a b e = ap goes e
-  kept-or-raised false a b e = refl
+  kept-or-raised x a b e = grind (arith)
 
   array-write-is : (t : ClassTable) (kind : Kind)
       → array_write_act words t kind (erased (record { frames = f ∷ below; heap = heap; statics = statics }))
@@ -456,14 +363,7 @@ module _ (w : Linked) (f : Frame Cell) (below : List (Frame Cell)) (heap : List 
 
   array-length-is : array_length_act words (erased (record { frames = f ∷ below; heap = heap; statics = statics }))
       ≡ erased_act (array_length_act tagged (record { frames = f ∷ below; heap = heap; statics = statics }))
-  array-length-is =
-      let s : State Cell = record { frames = f ∷ below; heap = heap; statics = statics } in
-      let h : ℕ = handle_at tagged f.stack 0 in
-      let a : ℕ → Act Cell = λ n. goes (replaced s 1 (cells.Short (short_of_word (elements_of s n)) ∷ [])) in
-      let b : ℕ → Act ℕ = λ n. goes (replaced (erased s) 1 (words.short (short_of_word (elements_of (erased s) n)) ∷ [])) in
-      ap (λ n. unless_null n b) (word-at f.stack 0)
-      ∙ null-erased h a b (ap (λ n. goes (replaced (erased s) 1 (words.short (short_of_word n) ∷ []))) (elements-are h)
-      ∙ ap goes (replaced-is 1 (cells.Short (short_of_word (elements_of s h)) ∷ []) _ refl))
+  array-length-is = grind (arith, word-at, null-erased, elements-are, replaced-is)
 
   -- ---- objects
 
@@ -471,24 +371,17 @@ module _ (w : Linked) (f : Frame Cell) (below : List (Frame Cell)) (heap : List 
       → array_of_count words kind count (dropped (erased (record { frames = f ∷ below; heap = heap; statics = statics })) n)
       ≡ erased_act (array_of_count tagged kind count (dropped (record { frames = f ∷ below; heap = heap; statics = statics }) n))
   array-of-is kind (negsuc k) n = refl
-  array-of-is kind (pos count) n =
-      ap (λ z. makes kind (array_cells words kind count) words.reference z) (dropped-is n)
-      ∙ ap (λ cs. makes kind cs (λ h. h) (erased (dropped (record { frames = f ∷ below; heap = heap; statics = statics }) n)))
-      (sym (of-cells.array kind count))
+  array-of-is kind (pos count) n = grind (arith, dropped-is, of-cells)
 
   new-array-is : (ty : Ty)
       → new_array_act words ty (erased (record { frames = f ∷ below; heap = heap; statics = statics }))
       ≡ erased_act (new_array_act tagged ty (record { frames = f ∷ below; heap = heap; statics = statics }))
-  new-array-is ty =
-      ap (λ n. array_of_count words (kind_of_type ty) n (dropped (erased (record { frames = f ∷ below; heap = heap; statics = statics })) 1))
-      (short-is f.stack 0)
-      ∙ array-of-is (kind_of_type ty) (short_at tagged f.stack 0) 1
+  new-array-is ty = grind (arith, short-is f.stack 0, array-of-is (kind_of_type ty) (short_at tagged f.stack 0) 1)
 
   new-is : (place class : ℕ)
       → new_act words w.classes place class (erased (record { frames = f ∷ below; heap = heap; statics = statics }))
       ≡ erased_act (new_act tagged w.classes place class (record { frames = f ∷ below; heap = heap; statics = statics }))
-  new-is place class =
-      ap (λ cs. makes (Instance class) cs (λ h. h) (erased (record { frames = f ∷ below; heap = heap; statics = statics }))) (sym (of-cells.instance class))
+  new-is place class = grind (arith, of-cells)
 
   throw-is : throw_act words (erased (record { frames = f ∷ below; heap = heap; statics = statics }))
       ≡ erased_act (throw_act tagged (record { frames = f ∷ below; heap = heap; statics = statics }))
@@ -501,39 +394,22 @@ module _ (w : Linked) (f : Frame Cell) (below : List (Frame Cell)) (heap : List 
 
   cast-or-raised : (b : Bool) (s : State Cell) → ◌≡◌ {A = Act ℕ} (if b then goes (erased s) else raises exceptions.ClassCast)
       (erased_act (if b then goes s else raises exceptions.ClassCast))
-  cast-or-raised true s = refl
-  cast-or-raised false s = refl
+  cast-or-raised x s = grind (arith)
 
   type-test-is : (test : TypeTest) (ty : Ty)
       → type_test_act words w.classes test ty (erased (record { frames = f ∷ below; heap = heap; statics = statics }))
       ≡ erased_act (type_test_act tagged w.classes test ty (record { frames = f ∷ below; heap = heap; statics = statics }))
-  type-test-is tests.Cast ty =
-      let s : State Cell = record { frames = f ∷ below; heap = heap; statics = statics } in
-      ap (λ n. if may_cast w.classes (erased s) ty n then goes (erased s) else raises exceptions.ClassCast) (word-at f.stack 0)
-      ∙ (ap (λ b. if (handle_at tagged f.stack 0 == 0 || b) then goes (erased s) else raises exceptions.ClassCast)
-      (passes-is ty (handle_at tagged f.stack 0))
-      ∙ cast-or-raised (may_cast w.classes s ty (handle_at tagged f.stack 0)) s)
-  type-test-is tests.InstanceOf ty =
-      let s : State Cell = record { frames = f ∷ below; heap = heap; statics = statics } in
-      ap (λ n. goes (replaced (erased s) 1 (words.short (truth (passes w.classes (erased s) ty n)) ∷ []))) (word-at f.stack 0)
-      ∙ (ap (λ b. goes (replaced (erased s) 1 (words.short (truth b) ∷ []))) (passes-is ty (handle_at tagged f.stack 0))
-      ∙ ap goes (replaced-is 1 (cells.Short (truth (passes w.classes s ty (handle_at tagged f.stack 0))) ∷ []) _ refl))
+  type-test-is tests.Cast ty = grind (arith, word-at, passes-is, cast-or-raised)
+  type-test-is tests.InstanceOf ty = grind (arith, word-at, passes-is, replaced-is)
 
   -- ---- calls and returns
 
   made-top : (want : Option Want) → made_at want Top ≡ None
-  made-top None = refl
-  made-top (Some (Receiver class)) = refl
-  made-top (Some (Value ty)) = refl
-  made-top (Some Storable) = refl
-  made-top (Some ByteArray) = refl
-  made-top (Some AnyArray) = refl
-  made-top (Some Whole) = refl
+  made-top x = grind (arith)
 
   ready-words : (place : ℕ) (cs : List Cell) → map word_of (map (made_ready place) cs) ≡ map word_of cs
   ready-words place [] = refl
-  ready-words place (c ∷ cs) =
-      ap (λ n. n ∷ map word_of (map (made_ready place) cs)) (words-erase.ready place c) ∙ ap (λ ns. word_of c ∷ ns) (ready-words place cs)
+  ready-words place (c ∷ cs) = grind (arith, map, words-erase, ready-words place cs)
 
   readied-is : (place : Option ℕ) → erased (record { frames = f ∷ below; heap = heap; statics = statics })
       ≡ erased (readied tagged (record { frames = f ∷ below; heap = heap; statics = statics }) place)
@@ -543,78 +419,31 @@ module _ (w : Linked) (f : Frame Cell) (below : List (Frame Cell)) (heap : List 
   with-ready-is : (callee : Callee) (args : ℕ)
       → with_ready words w.classes callee args (erased (record { frames = f ∷ below; heap = heap; statics = statics }))
       ≡ erased (with_ready tagged w.classes callee args (record { frames = f ∷ below; heap = heap; statics = statics }))
-  with-ready-is callee args =
-      let s : State Cell = record { frames = f ∷ below; heap = heap; statics = statics } in
-      ap (readied words (erased s)) (made-top callee.receiver)
-      ∙ readied-is (made_at callee.receiver (tagged.type_of w.classes (kinds s) (nth tagged f.stack args)))
+  with-ready-is callee args = grind (arith, made-top, readied-is)
 
   class-is : (h : ℕ) → class_of w.classes (erased (record { frames = f ∷ below; heap = heap; statics = statics })) h ≡ class_of w.classes
       (record { frames = f ∷ below; heap = heap; statics = statics }) h
   class-is h = ap (λ ks. class_with_methods w.classes (kind_of_handle ks h)) reads.kinds_are
 
   served-is : (o : Option ℕ) (class count : ℕ) (s : State Cell) → served_act o class count (erased s) ≡ erased_act (served_act o class count s)
-  served-is None class count s = refl
-  served-is (Some n) class count s = refl
+  served-is x class count s = grind (arith)
 
   interface-is : (c token count : ℕ) (o : Option ObjectKind) (s : State Cell) → interface_act w.classes c token count o (erased s)
       ≡ erased_act (interface_act w.classes c token count o s)
-  interface-is c token count (Some (Instance r)) s = served-is (served w.classes c token r) r count s
-  interface-is c token count (Some Booleans) s = refl
-  interface-is c token count (Some Bytes) s = refl
-  interface-is c token count (Some Shorts) s = refl
-  interface-is c token count (Some Ints) s = refl
-  interface-is c token count (Some (References r)) s = refl
-  interface-is c token count None s = refl
+  interface-is c token count x s = grind (arith, served-is)
 
   chosen-is : (callee : Callee) (args : ℕ) (choice : Choice)
       → chosen_act words w.classes callee args choice (erased (record { frames = f ∷ below; heap = heap; statics = statics }))
       ≡ erased_act (chosen_act tagged w.classes callee args choice (record { frames = f ∷ below; heap = heap; statics = statics }))
   chosen-is callee args choices.Static = refl
-  chosen-is callee args choices.Special =
-      let s : State Cell = record { frames = f ∷ below; heap = heap; statics = statics } in
-      ap (λ n. unless_null n (λ h. calls callee.method (args + 1) (with_ready words w.classes callee args (erased s)))) (word-at f.stack args)
-      ∙ null-erased (handle_at tagged f.stack args) (λ h. calls callee.method (args + 1) (with_ready tagged w.classes callee args s))
-      (λ h. calls callee.method (args + 1) (with_ready words w.classes callee args (erased s)))
-      (ap (calls callee.method (args + 1)) (with-ready-is callee args))
-  chosen-is callee args (choices.Virtual class token) =
-      let s : State Cell = record { frames = f ∷ below; heap = heap; statics = statics } in
-      let b : ℕ → Act ℕ = λ h. calls (unwrap_or (dispatched w.classes class token (class_of w.classes (erased s) h)) callee.method) (args + 1)
-      (erased s) in
-      let h : ℕ = handle_at tagged f.stack args in
-      ap (λ n. unless_null n b) (word-at f.stack args)
-      ∙ null-erased h (λ k. calls (unwrap_or (dispatched w.classes class token (class_of w.classes s k)) callee.method) (args + 1) s) b
-      (ap (λ c. calls (unwrap_or (dispatched w.classes class token c) callee.method) (args + 1) (erased s)) (class-is h))
-  chosen-is callee args (choices.Interface class token count) =
-      let s : State Cell = record { frames = f ∷ below; heap = heap; statics = statics } in
-      let b : ℕ → Act ℕ = λ h. interface_act w.classes class token (args + 1) (kind_of_handle (kinds (erased s)) h) (erased s) in
-      let h : ℕ = handle_at tagged f.stack args in
-      ap (λ n. unless_null n b) (word-at f.stack args)
-      ∙ null-erased h (λ k. interface_act w.classes class token (args + 1) (kind_of_handle (kinds s) k) s) b
-      (ap (λ ks. interface_act w.classes class token (args + 1) (kind_of_handle ks h) (erased s)) reads.kinds_are
-      ∙ interface-is class token (args + 1) (kind_of_handle (kinds s) h) s)
+  chosen-is callee args choices.Special = grind (arith, word-at, null-erased, with-ready-is)
+  chosen-is callee args (choices.Virtual class token) = grind (arith, word-at, null-erased, class-is)
+  chosen-is callee args (choices.Interface class token count) = grind (arith, word-at, null-erased, reads, interface-is)
 
   return-is : (result : Option Ty)
       → return_act words result (erased (record { frames = f ∷ below; heap = heap; statics = statics }))
       ≡ erased_act (return_act tagged result (record { frames = f ∷ below; heap = heap; statics = statics }))
-  return-is None = refl
-  return-is (Some Short) =
-      ap (λ n. gives (values.Short n) (nth words (map word_of f.stack) 0 ∷ [])) (short-is f.stack 0)
-      ∙ ap (λ n. gives (values.Short (short_at tagged f.stack 0)) (n ∷ [])) (word-at f.stack 0)
-  return-is (Some IntHigh) =
-      ap (λ n. gives (values.Int n) (nth words (map word_of f.stack) 1 ∷ nth words (map word_of f.stack) 0 ∷ [])) (int-is f.stack 1 0)
-      ∙ (ap (λ n. gives (values.Int (int_on tagged f.stack 0)) (n ∷ nth words (map word_of f.stack) 0 ∷ [])) (word-at f.stack 1)
-      ∙ ap (λ n. gives (values.Int (int_on tagged f.stack 0)) (word_of (nth tagged f.stack 1) ∷ n ∷ [])) (word-at f.stack 0))
-  return-is (Some Bottom) = ap (λ n. gives (values.Ref n) (n ∷ [])) (word-at f.stack 0)
-  return-is (Some IntLow) = ap (λ n. gives (values.Ref n) (n ∷ [])) (word-at f.stack 0)
-  return-is (Some Null) = ap (λ n. gives (values.Ref n) (n ∷ [])) (word-at f.stack 0)
-  return-is (Some (Class c)) = ap (λ n. gives (values.Ref n) (n ∷ [])) (word-at f.stack 0)
-  return-is (Some ArrBool) = ap (λ n. gives (values.Ref n) (n ∷ [])) (word-at f.stack 0)
-  return-is (Some ArrByte) = ap (λ n. gives (values.Ref n) (n ∷ [])) (word-at f.stack 0)
-  return-is (Some ArrShort) = ap (λ n. gives (values.Ref n) (n ∷ [])) (word-at f.stack 0)
-  return-is (Some ArrInt) = ap (λ n. gives (values.Ref n) (n ∷ [])) (word-at f.stack 0)
-  return-is (Some (ArrRef c)) = ap (λ n. gives (values.Ref n) (n ∷ [])) (word-at f.stack 0)
-  return-is (Some (Fresh p c)) = ap (λ n. gives (values.Ref n) (n ∷ [])) (word-at f.stack 0)
-  return-is (Some Top) = ap (λ n. gives (values.Ref n) (n ∷ [])) (word-at f.stack 0)
+  return-is x = grind (arith, map, short-is, word-at, int-is)
 
   -- ---- every operation
 
@@ -646,8 +475,7 @@ module _ (w : Linked) (f : Frame Cell) (below : List (Frame Cell)) (heap : List 
 acts-by : (w : Linked) (fs : List (Frame Cell)) (heap : List (Object Cell)) (statics : List Cell) (i : Insn) (op : Operation) → 0 < length fs
     → act words w i op (erased (record { frames = fs; heap = heap; statics = statics }))
     ≡ erased_act (act tagged w i op (record { frames = fs; heap = heap; statics = statics }))
-acts-by w [] heap statics i op runs = absurd (omega (arith, runs))
-acts-by w (f ∷ below) heap statics i op runs = act-erases w f below heap statics i op
+acts-by w x heap statics i op runs = grind (arith, act-erases)
 
 pub acts-erase : (w : Linked) → ActsErase w
 acts-erase w i op s runs = acts-by w s.frames s.heap s.statics i op runs

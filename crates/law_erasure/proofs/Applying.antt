@@ -1,9 +1,9 @@
 -- In a typed state the rule of the instruction applies to the least types of the cells.
-use Rattle.std.proofs.Common.{◌≡◌, List, [], ◌∷◌, sym, ap, ◌∙◌, subst, arith}
-use Rattle.std.specs.Prelude.{Some, Ok}
+use Rattle.std.proofs.Common.{List, [], ◌∷◌, arith}
+use Rattle.std.specs.Prelude.{Ok}
 use Rattle.std.proofs.lemmas.Option.{same_Some}
 use Rattle.jc_base.specs.declared.record.MethodRec.{MethodRec}
-use Rattle.jc_base.specs.World.{Linked, IsWorld, code_of}
+use Rattle.jc_base.specs.World.{Linked, IsWorld}
 use Rattle.jc_decode.specs.declared.insn.Placed.{Placed}
 use Rattle.jc_ops.specs.declared.operation.Operation.{Operation}
 use Rattle.jc_ops.specs.Resolve.{Resolves}
@@ -13,7 +13,6 @@ use Rattle.jc_rules.specs.Demand.{Frame as Types}
 use Rattle.jc_rules.specs.Apply.{OperationApplies}
 use Rattle.vm_store.specs.declared.cell.Cell.{Cell}
 use Rattle.vm_store.specs.State.{Frame, Object, first_frame}
-use Rattle.vm_step.specs.Methods.{of_method, code_at, instruction_at}
 use Rattle.vm_step.specs.Step.{Fetches}
 use Rattle.law_sound.specs.Frames.{Typings, types_of_frame}
 use Rattle.law_sound.specs.State.{IsTypedState}
@@ -29,23 +28,7 @@ module _ (w : Linked) (world : IsWorld w) (typings : Typings) where
       → Fetches w (record { frames = f ∷ below; heap = heap; statics = statics }) m i
       → Resolves w m i.place i.insn (Ok op)
       → (after : Types) × (o : Rule) × OperationApplies w m.max_stack op Flow (types_of_frame w.classes (typings.unset f.method) (kinds_of heap) f) after o
-  of-turn f below heap statics m i op t fetched resolves =
-      let st = t.stands in
-      let there : instruction_at (code_at w f.method) f.place ≡ Some st.instruction =
-      ap (λ bytes. instruction_at bytes f.place) (ap (of_method [] (code_of w.infos)) st.is_method) ∙ st.there in
-      let same_m : st.rec ≡ m = same_Some st.rec m (sym st.is_method ∙ fetched.method) in
-      let same_i : st.instruction ≡ i = same_Some st.instruction i (sym there ∙ fetched.instruction) in
-      let moved : Resolves w m st.instruction.place st.instruction.insn (Ok t.operation) =
-      subst (λ (x : MethodRec). Resolves w x st.instruction.place st.instruction.insn (Ok t.operation)) same_m t.resolves in
-      let here : Resolves w m i.place i.insn (Ok t.operation) = subst (λ (x : Placed). Resolves w m x.place x.insn (Ok t.operation)) same_i moved in
-      let answers : Ok t.operation ≡ Ok op = here ∙ sym resolves in
-      let same_op : t.operation ≡ op = cc in
-      let exact = types_of_frame w.classes (typings.unset f.method) (kinds_of heap) f in (
-        t.after,
-        t.outcome,
-        subst (λ (x : Operation). OperationApplies w m.max_stack x Flow exact t.after t.outcome) same_op
-            (subst (λ (x : MethodRec). OperationApplies w x.max_stack t.operation Flow exact t.after t.outcome) same_m t.applies),
-      )
+  of-turn f below heap statics m i op t fetched resolves = grind (arith, same_Some)
 
   applies-by :
       (fs : List (Frame Cell)) (heap : List (Object Cell)) (statics : List Cell) (m : MethodRec) (i : Placed) (op : Operation)

@@ -11,26 +11,23 @@ use Rattle.jc_ops.specs.declared.operation.Operation.{Operation}
 use Rattle.vm_store.specs.declared.cell.Cell.{Cell}
 use Rattle.vm_store.specs.declared.kind.ObjectKind.{ObjectKind}
 use Rattle.vm_store.specs.declared.kind.ObjectKind.TheVariants.{Instance}
-use Rattle.vm_store.specs.Kind.{kind_of_handle}
 use Rattle.vm_store.specs.Cells.{tagged, words, word_of}
-use Rattle.vm_store.specs.State.{State, Frame, Object, map_frame, map_object, erased, top, with_place, with_stack, with_call, without_top, frame_limit}
+use Rattle.vm_store.specs.State.{State, Frame, Object, map_frame, map_object, erased, top, with_place, with_stack, without_top}
 use Rattle.vm_store.specs.Objects.{has_room, new_instance_cells, with_object}
 use Rattle.vm_store.specs.Value.{with_value}
 use Rattle.vm_store.specs.Erasing.{ReadsErased, FramesErase, ObjectsErase}
 use Rattle.vm_store.proofs.Erasing.{states-erase, reverse-erased}
 use Rattle.vm_step.specs.declared.ending.Value.{Value}
 use Rattle.vm_step.specs.declared.ending.Ending.TheVariants.{Plain, Faulted}
-use Rattle.vm_step.specs.declared.ending.Plain.TheVariants.{Returned, TooDeep, HeapFull}
+use Rattle.vm_step.specs.declared.ending.Plain.TheVariants.{Returned, HeapFull}
 use Rattle.vm_step.specs.declared.ending.Fault.{Fault}
 use Rattle.vm_step.specs.declared.ending.Fault.TheVariants.{StackFault}
 use Rattle.vm_step.specs.declared.exception.Exception.{Exception}
 use Rattle.vm_step.specs.Act.{Act, goes, jumps, makes, calls, gives, raises, throws, lacks, role_of}
 use Rattle.vm_step.specs.Methods.{code_at, max_stack_of, instruction_at}
-use Rattle.vm_step.specs.Calls.{class_with_methods, class_of}
-use Rattle.vm_step.specs.Performed.{act}
-use Rattle.vm_step.specs.Tests.{fault_before}
-use Rattle.vm_step.specs.Raising.{Outcome, running, ended, ends, handler_for, caught, caught_or, unwound, thrown, raised}
-use Rattle.vm_step.specs.Settled.{unless_fault, fault_next, fault_target, place_number, return_place, goes_to, jumps_to, with_new, made, entered_call, given_to}
+use Rattle.vm_step.specs.Calls.{class_of}
+use Rattle.vm_step.specs.Raising.{Outcome, running, ended, ends, caught, caught_or, unwound, thrown, raised}
+use Rattle.vm_step.specs.Settled.{unless_fault, fault_next, return_place, goes_to, jumps_to, with_new, made, entered_call, given_to}
 use Rattle.vm_step.specs.Settled.{settled}
 use Rattle.vm_step.specs.Step.{Steps, misplaced, unresolved, performs, performed}
 use Rattle.vm_step.specs.Run.{Runs, stands, stops, steps}
@@ -39,14 +36,12 @@ use Rattle.law_erasure.proofs.Acts.{act-erases}
 
 -- tests that are passed
 unless-none : (s : State Cell) (o : Option Fault) (x : Outcome Cell) → IsNoFault (unless_fault s o x) → (unless_fault s o x ≡ x) × IsNoFault x
-unless-none s None x h = (refl, h)
-unless-none s (Some fault) x h = absurd h
+unless-none s x x2 h = grind (arith)
 
 if-erased : (b : Bool) (x y : Outcome Cell) (u v : Outcome ℕ) → IsNoFault (if b then x else y) → (IsNoFault x → u ≡ erased_outcome x)
     → (IsNoFault y → v ≡ erased_outcome y)
     → (if b then u else v) ≡ erased_outcome (if b then x else y)
-if-erased true x y u v h e g = e h
-if-erased false x y u v h e g = g h
+if-erased x x2 y u v h e g = grind (arith)
 
 module _ (w : Linked) where
   reads : (s : State Cell) → ReadsErased s
@@ -62,24 +57,17 @@ module _ (w : Linked) where
 
   goes-erased : (next : ℕ) (s z : State Cell) → IsNoFault (goes_to tagged w next s z) → goes_to words w next (erased s) (erased z)
       ≡ erased_outcome (goes_to tagged w next s z)
-  goes-erased next s z h =
-      let passed = unless-none s (fault_next tagged w z (length (top z).stack) next) (running (with_place z next)) h in
-      ap running (sym ((frames z).place next)) ∙ sym (ap erased_outcome passed.0)
+  goes-erased next s z h = grind (arith, unless-none, length, frames)
 
   jumps-erased : (to : ℤ) (z : State Cell) → IsNoFault (jumps_to tagged w to z)
       → jumps_to words w to (erased z) ≡ erased_outcome (jumps_to tagged w to z)
-  jumps-erased to z h =
-      let passed = unless-none z (fault_target tagged w z to) (running (with_place z (place_number to))) h in
-      ap running (sym ((frames z).place (place_number to))) ∙ sym (ap erased_outcome passed.0)
+  jumps-erased to z h = grind (arith, unless-none, frames)
 
   -- ---- new objects
 
   with-new-erased : (z : State Cell) (kind : ObjectKind) (cs : List Cell) (c : Cell) → with_new (erased z) kind (map word_of cs) (word_of c)
       ≡ erased (with_new z kind cs c)
-  with-new-erased z kind cs c =
-      let m : State Cell = with_object z kind cs in
-      ap (λ (x : State ℕ). with_stack x (word_of c ∷ (top (erased z)).stack)) (sym ((objects z).object kind cs))
-      ∙ (ap (λ (g : Frame ℕ). with_stack (erased m) (word_of c ∷ g.stack)) (sym (reads z).top_is) ∙ sym ((frames m).stack (c ∷ (top z).stack)))
+  with-new-erased z kind cs c = grind (arith, objects z, reads z, frames)
 
   makes-erased : (next : ℕ) (kind : ObjectKind) (cs : List Cell) (reference : ℕ → Cell) (z : State Cell)
       → IsNoFault (made tagged w next kind cs reference z)
@@ -107,12 +95,7 @@ module _ (w : Linked) where
 
   enters-erased : (method count : ℕ) (z : State Cell) → IsNoFault (entered_call tagged w method count z)
       → entered_call words w method count (erased z) ≡ erased_outcome (entered_call tagged w method count z)
-  enters-erased method count z h =
-      ap (λ n. if nat_lt n frame_limit then running (with_call words w.methods (erased z) method count) else ends (Plain TooDeep) (erased z))
-      (length-map z.frames (map_frame word_of))
-      ∙ if-erased (nat_lt (length z.frames) frame_limit) (running (with_call tagged w.methods z method count)) (ends (Plain TooDeep) z)
-      (running (with_call words w.methods (erased z) method count)) (ends (Plain TooDeep) (erased z))
-      h (λ x. ap running (sym ((frames z).call method count))) (λ x. refl)
+  enters-erased method count z h = grind (arith, length-map, frames, if-erased, length)
 
   given-erased : (value : Value) (cs : List Cell) (z : State Cell) → IsNoFault (given_to tagged w value cs z)
       → given_to words w value (map word_of cs) (erased z) ≡ erased_outcome (given_to tagged w value cs z)
@@ -156,16 +139,11 @@ module _ (w : Linked) where
   unwound-erased : (class handle : ℕ) (s : State Cell) (fs : List (Frame Cell)) → IsNoFault (unwound tagged w class handle s fs)
       → unwound words w class handle (erased s) (map (map_frame word_of) fs) ≡ erased_outcome (unwound tagged w class handle s fs)
   unwound-erased class handle s [] h = refl
-  unwound-erased class handle s (f ∷ fs) h =
-      caught-erased s f fs (unwound tagged w class handle s fs) (unwound words w class handle (erased s) (map (map_frame word_of) fs)) handle
-      (handler_for w class f) h
-      (unwound-erased class handle s fs)
+  unwound-erased class handle s (f ∷ fs) h = grind (arith, caught-erased, map, unwound-erased class handle s fs)
 
   thrown-erased : (handle : ℕ) (s : State Cell) → IsNoFault (thrown tagged w handle s)
       → thrown words w handle (erased s) ≡ erased_outcome (thrown tagged w handle s)
-  thrown-erased handle s h =
-      ap (λ ks. unwound words w (class_with_methods w.classes (kind_of_handle ks handle)) handle (erased s) (erased s).frames) (reads s).kinds_are
-      ∙ unwound-erased (class_of w.classes s handle) handle s s.frames h
+  thrown-erased handle s h = grind (arith, reads s, unwound-erased (class_of w.classes s handle) handle s s.frames h)
 
   raised-erased : (exception : Exception) (s : State Cell) → IsNoFault (raised tagged w exception s) → raised words w exception (erased s)
       ≡ erased_outcome (raised tagged w exception s)
@@ -194,8 +172,7 @@ module _ (w : Linked) where
   settled-erases next s (jumps to z) h = jumps-erased to z h
   settled-erases next s (makes kind cs reference z) h = makes-erased next kind cs reference z h
   settled-erases next s (calls method count z) h = enters-erased method count z h
-  settled-erases next s (gives value cs) h =
-      ap (given_to words w value (map word_of cs)) (sym (frames s).left) ∙ given-erased value cs (without_top s) h
+  settled-erases next s (gives value cs) h = grind (arith, map word_of cs, frames s, given-erased value cs (without_top s) h)
   settled-erases next s (raises exception) h = raised-erased exception s h
   settled-erases next s (throws handle) h = thrown-erased handle s h
   settled-erases next s (lacks class) h = refl
@@ -206,12 +183,7 @@ module _ (w : Linked) where
     performs-erased : (i : Placed) (op : Operation) → IsNoFault (performed tagged w i op (record { frames = f ∷ below; heap = heap; statics = statics }))
         → performed words w i op (erased (record { frames = f ∷ below; heap = heap; statics = statics })) ≡ erased_outcome
         (performed tagged w i op (record { frames = f ∷ below; heap = heap; statics = statics }))
-    performs-erased i op h =
-        let s : State Cell = record { frames = f ∷ below; heap = heap; statics = statics } in
-        let next : ℕ = i.place + i.insn.len in
-        let passed = unless-none s (fault_before tagged w op s) (settled tagged w next s (act tagged w i.insn op s)) h in
-        ap (settled words w next (erased s)) (act-erases w f below heap statics i.insn op)
-        ∙ (settled-erases next s (act tagged w i.insn op s) passed.1 ∙ sym (ap erased_outcome passed.0))
+    performs-erased i op h = grind (arith, frames, unless-none, act-erases, settled-erases)
 
     step-erased : {o : Outcome Cell} → IsNoFault o → Steps tagged w (record { frames = f ∷ below; heap = heap; statics = statics }) o
         → Steps words w (erased (record { frames = f ∷ below; heap = heap; statics = statics })) (erased_outcome o)
@@ -222,15 +194,12 @@ module _ (w : Linked) where
         (ap erased_outcome is ∙ sym (performs-erased i op (subst IsNoFault is h)))
 
   runs-some : (s : State Cell) {o : Outcome Cell} → Steps tagged w s o → 0 < length s.frames
-  runs-some s (misplaced checks runs e) = runs
-  runs-some s (unresolved checks fetched fault resolves) = fetched.runs
-  runs-some s (performs fetched op resolves is) = fetched.runs
+  runs-some s x = grind (arith)
 
   steps-by : (fs : List (Frame Cell)) (heap : List (Object Cell)) (statics : List Cell) (o : Outcome Cell) → IsNoFault o
       → Steps tagged w (record { frames = fs; heap = heap; statics = statics }) o
       → Steps words w (erased (record { frames = fs; heap = heap; statics = statics })) (erased_outcome o)
-  steps-by [] heap statics o h step = let runs = runs-some (record { frames = []; heap = heap; statics = statics }) step in absurd (omega (arith, runs))
-  steps-by (f ∷ below) heap statics o h step = step-erased f below heap statics h step
+  steps-by x heap statics o h step = grind (arith, runs-some, frames, step-erased)
 
   pub steps-erase : StepsErase w
   steps-erase s o h step = steps-by s.frames s.heap s.statics o h step

@@ -1,14 +1,13 @@
 -- In typed code a machine of bare words does what one of tagged cells does.
-use Rattle.std.proofs.Common.{◌≡◌, ◌<◌, ℕ, zero, suc, length, refl, ap, subst, arith}
+use Rattle.std.proofs.Common.{◌≡◌, ℕ, zero, suc, length, refl, ap, subst, arith}
 use Rattle.std.proofs.lemmas.List.{length-map}
 use Rattle.jc_base.specs.World.{Linked, IsWorld}
 use Rattle.jc_ops.specs.Sound.{OperationsAreDecided}
 use Rattle.vm_store.specs.declared.cell.Cell.{Cell}
-use Rattle.vm_store.specs.Cells.{tagged, words, word_of}
-use Rattle.vm_store.specs.State.{State, IsRunning, erased, map_frame}
-use Rattle.vm_step.specs.declared.ending.Ending.TheVariants.{Plain, Faulted}
+use Rattle.vm_store.specs.Cells.{tagged, words}
+use Rattle.vm_store.specs.State.{State, IsRunning, erased}
 use Rattle.vm_step.specs.Raising.{Outcome, running, ended}
-use Rattle.vm_step.specs.Step.{Steps, misplaced, unresolved, performs}
+use Rattle.vm_step.specs.Step.{Steps}
 use Rattle.vm_step.specs.Run.{Runs, stands, stops, steps}
 use Rattle.vm_step.proofs.Lasting.{runs-exist}
 use Rattle.vm_step.proofs.Running.{steps-exist, steps-one, continues-one}
@@ -22,21 +21,14 @@ use Rattle.law_erasure.specs.Erasure.{erased_outcome, IsNoFault, WordsFollow, Ty
 use Rattle.law_erasure.proofs.Steps.{steps-erase, runs-erase}
 
 pub safe-free : (w : Linked) (typings : Typings) (o : Outcome Cell) → IsTypedOutcome w typings o → IsNoFault o
-safe-free w typings (running s) h = tt
-safe-free w typings (ended (Plain plain) s) h = tt
-safe-free w typings (ended (Faulted fault) s) h = h
+safe-free w typings x h = grind (arith)
 
 -- a state of words that takes a step is that of a state in which a method runs
 words-run : (w : Linked) (z : State ℕ) {x : Outcome ℕ} → Steps words w z x → IsRunning z
-words-run w z (misplaced checks runs e) = runs
-words-run w z (unresolved checks fetched fault resolves) = fetched.runs
-words-run w z (performs fetched op resolves is) = fetched.runs
+words-run w z x = grind (arith)
 
 cells-run : (w : Linked) (s : State Cell) {x : Outcome ℕ} → Steps words w (erased s) x → IsRunning s
-cells-run w s step =
-    let runs : 0 < length (erased s).frames = words-run w (erased s) step in
-    let same : length (erased s).frames ≡ length s.frames = length-map s.frames (map_frame word_of) in
-    omega (arith, runs, same)
+cells-run w s step = grind (arith, length, words-run, length-map)
 
 pub typed-steps-follow : (w : Linked) → IsWorld w → OperationsAreDecided w → TypedStepsFollow w
 typed-steps-follow w world decided typings s x are typed step =
