@@ -1,6 +1,6 @@
 -- What is live in the flow graph of a method is live in the method.
 use Rattle.std.proofs.Common.{◌≡◌, ℕ, zero, suc, ◌+◌, ◌<◌, ◌≤◌, ◌⊎◌, inl, inr, List, length, refl, sym, ◌∙◌, subst, arith}
-use Rattle.std.specs.Prelude.{Contains, Ok, Some, pos, slice_get}
+use Rattle.std.specs.Prelude.{Contains, Ok, Some, slice_get}
 use Rattle.std.proofs.lemmas.Bool.{cases_eq, cases_lt}
 use Rattle.std.proofs.lemmas.List.Elements.{All-contains}
 use Rattle.jc_base.specs.declared.record.Handler.{Handler}
@@ -8,10 +8,9 @@ use Rattle.jc_base.specs.World.{Linked}
 use Rattle.jc_base.proofs.Lists.{slice_get-some}
 use Rattle.jc_decode.specs.declared.insn.Placed.{Placed}
 use Rattle.jc_decode.specs.Laws.{AreListed}
-use Rattle.jc_decode.specs.Listing.{targets}
 use Rattle.jc_control.specs.Control.{IsSuccessor, falls_through, jumped, Covers}
 use Rattle.jc_control.specs.Method.{Method}
-use Rattle.jc_control.specs.WellFormed.{HasInstruction, IsHandlerOf, IsTargetPlace, IsWellFormed}
+use Rattle.jc_control.specs.WellFormed.{HasInstruction, IsHandlerOf, IsWellFormed}
 use Rattle.jc_control.proofs.PlacesWithin.{place-inside, target-place}
 use Rattle.jc_ops.specs.declared.operation.Operation.{Operation}
 use Rattle.jc_ops.specs.Resolve.{Resolves}
@@ -21,12 +20,12 @@ use Rattle.xf_live.specs.declared.graph.Edge.{Edge}
 use Rattle.xf_live.specs.declared.graph.Uses.{Uses}
 use Rattle.xf_live.specs.declared.interference.Interference.{Interference}
 use Rattle.xf_live.specs.Flow.{IsLiveIn, read_here, kept_on}
-use Rattle.xf_live.specs.Interference.{AreInterfering, ClashIn, InterfereIn, clash_forth, clash_back, live_first}
+use Rattle.xf_live.specs.Interference.{AreInterfering, ClashIn, InterfereIn}
 use Rattle.xf_live.specs.Set.{Has}
 use Rattle.xf_allot.specs.Graph.{caught_at, IsBound, bound_first, bound_start, bound_end, IsBlank, IsNodeAt, IsFall, IsJump, IsOut, out_fall}
 use Rattle.xf_allot.specs.Graph.{out_jump, out_caught}
 use Rattle.xf_allot.specs.Graph.{IsCatch, catch_before, catch_entry, IsEdgeAt, edge_out, edge_catch, IsGraphOf}
-use Rattle.xf_allot.specs.Graph.{AreApart, apart_forth, apart_back, apart_first, AreFound}
+use Rattle.xf_allot.specs.Graph.{AreApart, AreFound}
 use Rattle.jc_rules.proofs.Decides.{ok-same}
 
 pub operation-one : (w : Linked) (m : Method) → AreListed m.code → (i j : Placed) (a b : Operation) → Operates w m i a → Operates w m j b
@@ -66,10 +65,7 @@ module _ (w : Linked) (m : Method) (listed : AreListed m.code) (formed : IsWellF
   fall-near i edge stands fall = let within = listed.within i stands in let to = fall.to in omega (arith, within, to)
 
   jump-near : (i : Placed) (edge : Edge) → HasInstruction m.code i → IsJump m i edge → edge.to ≤ size
-  jump-near i edge stands jump =
-      let inside = target-place m.code listed edge.to (pos edge.to)
-      (All-contains (IsTargetPlace m.code) (targets m.code i) (pos edge.to) (formed.targets i stands) jump.leads) refl in
-      omega (arith, inside)
+  jump-near i edge stands jump = grind (arith, target-place)
 
   fall-follows : (i : Placed) (edge : Edge) → IsFall i edge → IsSuccessor m.code i edge.to
   fall-follows i edge fall = subst (IsSuccessor m.code i) (sym fall.to) (falls_through fall.falls)
@@ -124,13 +120,10 @@ module _ (w : Linked) (m : Method) (listed : AreListed m.code) (formed : IsWellF
       }
 
   catch-from : (place : ℕ) (edge : Edge) → IsCatch m place edge → edge.from ≡ caught_at size place
-  catch-from place edge (catch_before none at to) = at
-  catch-from place edge (catch_entry bound e) = e.enters.at
+  catch-from place edge x = grind (arith)
 
   out-from : (i : Placed) (edge : Edge) → IsOut m i edge → edge.from ≡ i.place
-  out-from i edge (out_fall fall) = fall.at
-  out-from i edge (out_jump jump) = jump.at
-  out-from i edge (out_caught at to) = at
+  out-from i edge x = grind (arith)
 
   -- along an edge from a place
   edge-live : (x n : ℕ) (u : Uses) (place : ℕ) (edge : Edge) → slice_get uses n ≡ Some u → place < size → edge.from ≡ n → IsEdgeAt w m place edge
@@ -183,8 +176,7 @@ module _ (w : Linked) (m : Method) (listed : AreListed m.code) (formed : IsWellF
       record { uses_there = e.0; is = e.1 }
 
   to-edge : (i : Placed) (q : ℕ) → IsSuccessor m.code i q → IsOut m i (record { «from» = i.place; to = q })
-  to-edge i _ (falls_through goes) = out_fall (record { falls = goes; at = refl; to = refl })
-  to-edge i q (jumped leads) = out_jump (record { leads = leads; at = refl })
+  to-edge i q x = grind (arith)
 
   covers-on : (h : Handler) (place : ℕ) → ¬ (IsBound m.rec.handlers (suc place)) → Contains m.rec.handlers h → Covers h (suc place) → Covers h place
   covers-on h place none there covers =
@@ -325,14 +317,10 @@ module _ (w : Linked) (m : Method) (listed : AreListed m.code) (formed : IsWellF
     first-there x live = (live-there x 0 live).at_place (omega arith)
 
     apart-there : (x y : ℕ) → InterfereIn uses edges x y → AreApart w m x y
-    apart-there x y (clash_forth c) = apart_forth (clash-there x y c)
-    apart-there x y (clash_back c) = apart_back (clash-there y x c)
-    apart-there x y (live_first h g) = apart_first (first-there x h) (first-there y g)
+    apart-there x y x2 = grind (arith, clash-there, first-there)
 
     apart-in : (x y : ℕ) → AreApart w m x y → InterfereIn uses edges x y
-    apart-in x y (apart_forth c) = clash_forth (clash-in x y c)
-    apart-in x y (apart_back c) = clash_back (clash-in y x c)
-    apart-in x y (apart_first h g) = live_first (live-in x 0 h) (live-in y 0 g)
+    apart-in x y x2 = grind (arith, clash-in, live-in)
 
     pub found-apart : (found : Interference) → AreInterfering uses edges found → AreFound w m found
     found-apart found are x y lx ly = (

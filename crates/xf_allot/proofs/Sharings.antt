@@ -1,6 +1,5 @@
 -- What is answered of a method's registers.
-use Rattle.std.proofs.Common.{◌≡◌, ℕ, ◌+◌, ◌≤◌, List, length, drop, ◌∙◌, arith, All}
-use Rattle.std.proofs.lemmas.List.Elements.{All-weaker}
+use Rattle.std.proofs.Common.{◌≡◌, ℕ, ◌+◌, ◌≤◌, List, length, drop, arith, All}
 use Rattle.jc_base.specs.declared.ty.Ty.{Ty}
 use Rattle.jc_base.specs.World.{Linked, IsWorld}
 use Rattle.jc_control.specs.Method.{Method, IsMethodOf}
@@ -20,19 +19,11 @@ module _ (w : Linked) (links : IsWorld w) (m : Method) (is : IsMethodOf w m) (ty
   argument-types = let count = its-count w links m is types typed.stacks typed.typing in omega (arith, count)
 
   pub before-all : (s : Allotment) → AreAllottedBy w m types s → All (LiesBefore 255) s.given.items
-  before-all s all =
-      let few = few-types in
-      All-weaker (LiesBefore (length types)) (LiesBefore 255)
-      (λ a lies. (let le = lies.given in record { sized = lies.sized; given = omega (arith, le, few) })) s.given.items all.before
+  before-all s all = grind (arith, few-types, length)
 
   pub shares : (s : Allotment) (locals : ℕ) → AreAllottedBy w m types s → m.rec.nargs + locals ≡ end_of m.rec.nargs (given_of s)
       → Shares w m (record { numbers = s.numbers; locals = locals })
-  shares s locals all size = record {
-    given = given_of s;
-    is = record { regs = types; typed = typed; variables = all.variables; are = all.are; allotted = all.allotted; size = size };
-    count = all.count ∙ its-count w links m is types typed.stacks typed.typing;
-    numbered = all.numbered;
-  }
+  shares s locals all size = grind (arith, its-count w links m is types typed.stacks typed.typing)
 
   pub keeps : HasNone m.rec.nargs (drop m.rec.nargs types) → KeepsRegisters w m
   keeps none = record { regs = types; typed = typed; none = none }

@@ -1,7 +1,7 @@
 -- The registers that operations read and write lie one after the other.
-use Rattle.std.proofs.Common.{◌≡◌, ◌↔◌, ℕ, zero, suc, ◌+◌, ◌<◌, ◌≤◌, inl, inr, ⊎_elim, List, [], ◌∷◌, ◌++◌, length, reverse, refl, sym, ◌∙◌, subst, arith}
+use Rattle.std.proofs.Common.{◌≡◌, ◌↔◌, ℕ, zero, suc, ◌+◌, ◌<◌, ◌≤◌, inl, inr, ⊎_elim, List, [], ◌∷◌, ◌++◌, length, reverse, refl, sym, subst, arith}
 use Rattle.std.proofs.lemmas.Bool.{cases_eq}
-use Rattle.std.specs.Prelude.{Contains, Option, Some, None, slice_get}
+use Rattle.std.specs.Prelude.{Contains, Option, Some, None}
 use Rattle.jc_base.specs.declared.ty.Ty.{Ty}
 use Rattle.jc_base.specs.declared.ty.Ty.TheVariants as types
 use Rattle.jc_base.specs.World.{Linked}
@@ -24,7 +24,7 @@ use Rattle.jc_ops.specs.declared.operation.Sort.TheVariants as sorts
 use Rattle.jc_ops.specs.declared.operation.Width.{Width}
 use Rattle.jc_ops.specs.declared.operation.Width.TheVariants as widths
 use Rattle.jc_rules.specs.Footprint.{footprint, registers_read}
-use Rattle.jc_rules.specs.Rule.{demands, args_at, arithmetic_demands, array_write_demands, branch_demands, cells_wanted, move_demands, number}
+use Rattle.jc_rules.specs.Rule.{demands, arithmetic_demands, array_write_demands, branch_demands, cells_wanted, move_demands, number}
 use Rattle.jc_rules.specs.Rule.{receiver_wanted, two_numbers, value_size, value_wanted}
 use Rattle.jc_rules.specs.declared.demand.Demand.{Demand}
 use Rattle.jc_rules.specs.declared.demand.Demand.TheVariants.{Cell, Held}
@@ -43,11 +43,7 @@ those x (suc n) = x ∷ those (x + 1) n
 among-those : (x n y : ℕ) → IsAmong y (those x n) → IsIn (span x n) y
 among-those x zero y among = absurd among
 among-those x (suc n) y (inl here) = record { from = omega (arith, here); before = omega (arith, here) }
-among-those x (suc n) y (inr later) =
-    let i = among-those (x + 1) n y later in
-    let from = i.from in
-    let before = i.before in
-    record { from = omega (arith, from); before = omega (arith, before) }
+among-those x (suc n) y (inr later) = grind (arith, among-those (x + 1) n y later)
 
 those-among : (x n y : ℕ) → x ≤ y → y < x + n → IsAmong y (those x n)
 those-among x zero y from before = absurd (omega (arith, from, before))
@@ -63,41 +59,31 @@ cells-read n [] ds = refl
 cells-read n (ty ∷ tys) ds = cells-read (n + 1) tys ds
 
 receiver-reads : (n : ℕ) (want : Option Want) → registers_read (receiver_wanted n want) ≡ []
-receiver-reads n None = refl
-receiver-reads n (Some want) = refl
+receiver-reads n x = grind (arith)
 
 value-reads : (ty : Ty) (ds : List Demand) → registers_read (value_wanted ty ++ ds) ≡ registers_read ds
-value-reads types.IntHigh ds = refl
-value-reads _ ds = refl
+value-reads x ds = grind (arith)
 
 value-alone : (ty : Ty) → registers_read (value_wanted ty) ≡ []
-value-alone types.IntHigh = refl
-value-alone _ = refl
+value-alone x = grind (arith)
 
 number-reads : (width : Width) (n : ℕ) → registers_read (number width n) ≡ []
-number-reads widths.Short n = refl
-number-reads widths.Int n = refl
+number-reads x n = grind (arith)
 
 two-read : (width : Width) → registers_read (two_numbers width) ≡ []
-two-read widths.Short = refl
-two-read widths.Int = refl
+two-read x = grind (arith)
 
 moves-read : (m : Move) → registers_read (move_demands m) ≡ []
-moves-read moves.Pop = refl
-moves-read _ = refl
+moves-read x = grind (arith)
 
 arithmetic-reads : (a : Arithmetic) → registers_read (arithmetic_demands a) ≡ []
-arithmetic-reads (arithmetic.Binary o width) = two-read width
-arithmetic-reads (arithmetic.Negate width) = number-reads width 0
-arithmetic-reads _ = refl
+arithmetic-reads x = grind (arith, two-read, number-reads)
 
 writes-read : (w : Linked) (kind : Kind) → registers_read (array_write_demands w.classes kind) ≡ []
-writes-read w kinds.Ref = refl
-writes-read w _ = refl
+writes-read w x = grind (arith)
 
 branches-read : (w : Linked) (b : Branch) → registers_read (branch_demands w.classes b) ≡ []
-branches-read w branches.Always = refl
-branches-read w _ = refl
+branches-read w x = grind (arith)
 
 reads-are : (w : Linked) (op : Operation) → registers_read (demands w op) ≡ those (read_by op).first (read_by op).count
 reads-are w (ops.Constant c) = refl
@@ -122,9 +108,7 @@ reads-are w (ops.FieldRead field holders.Stack) = refl
 reads-are w (ops.FieldRead field holders.This) = refl
 reads-are w (ops.FieldWrite field holders.Stack) = value-reads field.ty (Cell (value_size field.ty) (Value (types.Class field.class)) ∷ [])
 reads-are w (ops.FieldWrite field holders.This) = value-reads field.ty (Held 0 (types.Class field.class) ∷ [])
-reads-are w (ops.Call callee) =
-    let args = args_at (slice_get w.methods callee.method) in
-    cells-read 0 (reverse args) (receiver_wanted (length args) callee.receiver) ∙ receiver-reads (length args) callee.receiver
+reads-are w (ops.Call callee) = grind (arith, cells-read, reverse, length, receiver-reads)
 reads-are w (ops.New place class) = refl
 reads-are w (ops.NewArray ty) = refl
 reads-are w ops.Throw = refl
@@ -144,20 +128,10 @@ reads-in w op x = (
 
 writes-are : (w : Linked) (op : Operation) → IsStoring op → ((footprint w op).register ≡ (written_by op).first)
     × ((footprint w op).written ≡ (written_by op).count)
-writes-are w (ops.Store sorts.Reference x) is = (refl, refl)
-writes-are w (ops.Store sorts.Short x) is = (refl, refl)
-writes-are w (ops.Store sorts.Int x) is = (refl, refl)
-writes-are w (ops.Increment widths.Short x amount) is = (refl, refl)
-writes-are w (ops.Increment widths.Int x amount) is = (refl, refl)
-writes-are w _ is = absurd is
+writes-are w x is = grind (arith)
 
 none-in : (w : Linked) (op : Operation) → (footprint w op).written ≡ 0 → (written_by op).count ≡ 0
-none-in w (ops.Store sorts.Reference x) none = absurd (omega (arith, none))
-none-in w (ops.Store sorts.Short x) none = absurd (omega (arith, none))
-none-in w (ops.Store sorts.Int x) none = absurd (omega (arith, none))
-none-in w (ops.Increment widths.Short x amount) none = absurd (omega (arith, none))
-none-in w (ops.Increment widths.Int x amount) none = absurd (omega (arith, none))
-none-in w _ none = refl
+none-in w x none = grind (arith)
 
 pub writes-in : (w : Linked) (op : Operation) (x : ℕ) → IsIn (written_by op) x ↔ Writes w op x
 writes-in w op x = ⊎_elim quiet stores (quiet-or-stores w op)
@@ -170,13 +144,7 @@ writes-in w op x = ⊎_elim quiet stores (quiet-or-stores w op)
         )
 
     stores : IsStoring op → IsIn (written_by op) x ↔ Writes w op x
-    stores is =
-        let e = writes-are w op is in
-        let first = e.0 in
-        let count = e.1 in (
-          λ i. (let from = i.from in let before = i.before in record { from = omega (arith, from, first); before = omega (arith, before, first, count) }),
-          λ h. (let from = h.from in let before = h.before in record { from = omega (arith, from, first); before = omega (arith, before, first, count) }),
-        )
+    stores is = grind (arith, writes-are)
 
 -- ---- and they are asked for
 

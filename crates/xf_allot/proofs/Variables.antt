@@ -34,8 +34,7 @@ use Rattle.xf_live.specs.Interference.{Tells}
 rest-whole : {x : ℕ} {all : List Ty} {vs : List law.Variable} → AreVariables x all vs → (ty : Ty) (tys : List Ty) → all ≡ ty ∷ tys → IsWhole ty
     → (us : List law.Variable) × AreVariables (x + 1) tys us
 rest-whole no_variables ty tys e whole = absurd (cc)
-rest-whole {x = x} (one_register {tys = others} {vs = us} _ rest) ty tys e whole =
-    let same : others ≡ tys = cc in (us, subst (λ (ts : List Ty). AreVariables (x + 1) ts us) same rest)
+rest-whole {x = x} (one_register {tys = others} {vs = us} _ rest) ty tys e whole = grind (arith)
 rest-whole (two_registers {tys = others} rest) ty tys e whole = let high : types.IntHigh ≡ ty = cc in absurd (subst IsWhole (sym high) whole)
 
 pub whole-first : (x : ℕ) (ty : Ty) (tys : List Ty) → IsWhole ty → IsFirstOf x (ty ∷ tys) (record { register = x; width = 1; ty = ty })
@@ -64,13 +63,11 @@ int-first x tys = record {
 
 -- a type of no value, and a low half that stands first
 pub unwhole-none : (x : ℕ) (ty : Ty) (tys : List Ty) → ¬ (IsWhole ty) → ¬ (ty ≡ types.IntHigh) → HasNone x (ty ∷ tys)
-unwhole-none x ty tys none apart _ (one_register whole rest) = none whole
-unwhole-none x _ _ none apart _ (two_registers rest) = apart refl
+unwhole-none x ty tys none apart x2 x22 = grind (arith)
 
 -- a high half with nothing behind it, or no low half
 pub high-none : (x : ℕ) (tys : List Ty) → ((rest : List Ty) → ¬ (tys ≡ types.IntLow ∷ rest)) → HasNone x (types.IntHigh ∷ tys)
-high-none x tys none _ (one_register whole rest) = whole
-high-none x _ none _ (two_registers {tys = tys} rest) = none tys refl
+high-none x tys none x2 x22 = grind (arith)
 
 -- in registers of these types, where the first of the rest is this one
 module _ (tys : List Ty) (x : ℕ) (d : Ty) (lt : x < length tys) where
@@ -78,9 +75,7 @@ module _ (tys : List Ty) (x : ℕ) (d : Ty) (lt : x < length tys) where
   here-drop = drop-cons tys x d lt
 
   pub whole-there : IsWhole (get_or tys x d) → IsFirstOf x (drop x tys) (record { register = x; width = 1; ty = get_or tys x d })
-  whole-there whole =
-      subst (λ (ts : List Ty). IsFirstOf x ts (record { register = x; width = 1; ty = get_or tys x d })) (sym here-drop)
-      (whole-first x (get_or tys x d) (drop (suc x) tys) whole)
+  whole-there whole = grind (arith, whole-first x (get_or tys x d) (drop (suc x) tys) whole, here-drop)
 
   pub unwhole-there : ¬ (IsWhole (get_or tys x d)) → ¬ (get_or tys x d ≡ types.IntHigh) → HasNone x (drop x tys)
   unwhole-there none apart = subst (HasNone x) (sym here-drop) (unwhole-none x (get_or tys x d) (drop (suc x) tys) none apart)
@@ -99,18 +94,13 @@ module _ (tys : List Ty) (x : ℕ) (d : Ty) (lt : x < length tys) where
   no-low ts rest none e = absurd (cc)
 
   pub high-alone : get_or tys x d ≡ types.IntHigh → length tys ≤ suc x → HasNone x (drop x tys)
-  high-alone high le =
-      subst (HasNone x) (sym (high-drop high))
-      (high-none x (drop (suc x) tys) (λ rest. no-low (drop (suc x) tys) rest (drop_of_length-le tys le)))
+  high-alone high le = grind (arith, high-drop, high-none, drop, suc, no-low, drop_of_length-le)
 
   first-is : (t u : Ty) (ts us : List Ty) → t ∷ ts ≡ u ∷ us → t ≡ u
   first-is t u ts us e = cc
 
   pub high-other : get_or tys x d ≡ types.IntHigh → suc x < length tys → ¬ (get_or tys (suc x) d ≡ types.IntLow) → HasNone x (drop x tys)
-  high-other high more none =
-      subst (HasNone x) (sym (high-drop high))
-      (high-none x (drop (suc x) tys)
-      (λ rest e. none (first-is (get_or tys (suc x) d) types.IntLow (drop (suc (suc x)) tys) rest (sym (drop-cons tys (suc x) d more) ∙ e))))
+  high-other high more none = grind (arith, high-drop, high-none, drop, suc, first-is, get_or, drop-cons)
 
 -- ---- interference
 
@@ -148,9 +138,7 @@ module _ (w : Linked) (m : Method) where
   -- behind all that are given out
   pub last-fits : (k : Variable) (before : List Allotted) → All (LiesBefore k.register) before
       → All (λ other. FitsBeside w m (variable_of k) k.register (allotted_of other)) before
-  last-fits k before all =
-      All-weaker (LiesBefore k.register) (λ other. FitsBeside w m (variable_of k) k.register (allotted_of other))
-      (λ other lies. fits_after lies.given) before all
+  last-fits k before all = grind (arith)
 
   -- ---- one variable more
 
@@ -194,17 +182,10 @@ module _ (w : Linked) (m : Method) where
     behind = drop-twice x k.width types
 
     inside : x + k.width ≤ length types
-    inside =
-        let lies = first.inside in
-        let long = length-drop x types in
-        let le = is.within in
-        omega (arith, lies, long, le)
+    inside = grind (arith, length-drop)
 
     variables-is : (vs : List law.Variable) → variables_in (given_of new) ++ vs ≡ variables_in (given_of old) ++ variable_of k ∷ vs
-    variables-is vs =
-        ap (λ (gs : List sharing.Allotted). variables_in gs ++ vs) given-is
-        ∙ (ap (λ (us : List law.Variable). us ++ vs) (map-append (λ (a : sharing.Allotted). a.variable) (given_of old) (more ∷ []))
-        ∙ append_assoc (variables_in (given_of old)) (variable_of k ∷ []) vs)
+    variables-is vs = grind (arith, given-is, map-append, append_assoc)
 
     given-on : (rest : List sharing.Allotted) → given_of new ++ rest ≡ given_of old ++ more ∷ rest
     given-on rest = ap (λ (gs : List sharing.Allotted). gs ++ rest) given-is ∙ append_assoc (given_of old) (more ∷ []) rest
@@ -344,12 +325,7 @@ module _ (w : Linked) (m : Method) (found : Interference) (are : AreFound w m fo
 -- the next register meets none either
 pub meets-more : (w : Linked) (m : Method) (k : law.Variable) (first x : ℕ) → ((n : ℕ) → first ≤ n → n < x → ¬ (MeetsOne w m n k)) → ¬ (MeetsOne w m x k)
     → (n : ℕ) → first ≤ n → n < x + 1 → ¬ (MeetsOne w m n k)
-meets-more w m k first x none not n from lt meets = elim (cases_lt n x) [
-  | inl before ↦ none n from before meets
-  | inr ge ↦
-      let same : n ≡ x = omega (arith, ge, lt) in
-      not (subst (λ y. MeetsOne w m y k) same meets)
-]
+meets-more w m k first x none not n from lt meets = grind (arith, cases_lt n x)
 
 -- so no registers of both do
 pub none-meet : (w : Linked) (m : Method) (j k : law.Variable) (x : ℕ) → j.register + j.width ≤ x
@@ -380,10 +356,7 @@ unfit w m k at a after before same (fits_with here width ty apart) = same here w
 
 pub end-from : (nargs : ℕ) (given : List sharing.Allotted) → nargs ≤ end_of nargs given
 end-from nargs [] = omega arith
-end-from nargs (a ∷ given) =
-    let le = end-from nargs given in
-    let up = le-max_right (a.at + a.variable.width) (end_of nargs given) in
-    omega (arith, le, up)
+end-from nargs (a ∷ given) = grind (arith, le-max_right, end-from nargs given)
 
 pub fits-decided : (w : Linked) (m : Method) (k : Variable) (at : ℕ) (a : Allotted) (b : Bool) → ¬ (a.at + a.variable.width ≤ at) → ¬ (at + k.width ≤ a.at)
     → a.at ≡ at → a.variable.width ≡ k.width → a.variable.ty ≡ k.ty

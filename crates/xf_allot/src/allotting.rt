@@ -1,4 +1,4 @@
-ghost use Rattle.std.specs.Prelude.{◌≡◌, ◌+◌, ◌≤◌, ◌++◌, drop, length, max, map, All, IfOk, IfSome, MatchOption, OnOk};
+ghost use Rattle.std.specs.Prelude.{◌≡◌, ◌+◌, ◌≤◌, ◌++◌, drop, length, max, map, All, IfOk, MatchOption, OnOk};
 ghost use Rattle.jc_control.specs.Subject.{method, world_of};
 ghost use Rattle.law_share.specs.Sharing.{end_of};
 ghost use Rattle.xf_allot.specs.Allotting.{AreAllottedBy, Gives, IsAllottedTo, IsSized, LiesBefore, numbers_from};

@@ -1,4 +1,4 @@
-ghost use Rattle.std.specs.Prelude.{◌≡◌, ◌<◌, suc, length, IfOk, OnOk};
+ghost use Rattle.std.specs.Prelude.{◌<◌, suc, length, IfOk, OnOk};
 ghost use Rattle.jc_control.specs.Flags.{Marks};
 ghost use Rattle.jc_control.specs.Listing.{IsListingOf};
 ghost use Rattle.jc_control.specs.WellFormed.{HasInstruction};

@@ -1,7 +1,7 @@
-ghost use Rattle.std.specs.Prelude.{◌≡◌, ◌<◌, length, Contains, OnOk};
+ghost use Rattle.std.specs.Prelude.{◌≡◌, ◌<◌, length, OnOk};
 ghost use Rattle.jc_base.specs.declared.record.Handler.{Handler};
 ghost use Rattle.jc_control.specs.Flags.{Marks};
-ghost use Rattle.jc_control.specs.WellFormed.{HasInstruction, IsHandlerOf};
+ghost use Rattle.jc_control.specs.WellFormed.{HasInstruction};
 ghost use Rattle.jc_control.specs.Subject.{method};
 ghost use Rattle.xf_allot.specs.Graph.{Adds, IsBound, IsCatch, IsEnter, IsEntryOf, IsFall, IsJump, IsOut, caught_at};
 ghost use Rattle.xf_allot.specs.Subject.{IsSubject};

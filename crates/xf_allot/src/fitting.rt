@@ -1,4 +1,4 @@
-ghost use Rattle.std.specs.Prelude.{◌≡◌, ◌+◌, ◌≤◌, map, All, MatchBool};
+ghost use Rattle.std.specs.Prelude.{◌+◌, ◌≤◌, map, All, MatchBool};
 ghost use Rattle.jc_control.specs.Subject.{method, world_of};
 ghost use Rattle.law_share.specs.Sharing.{FitsBeside, IsLeastFit};
 ghost use Rattle.law_share.specs.Variable.{Interferes};
