@@ -12,7 +12,7 @@ use Rattle.jc_decode.specs.declared.insn.Placed.{Placed}
 use Rattle.jc_decode.specs.declared.insn.CodeEnd.{CodeEnd}
 use Rattle.jc_decode.specs.declared.insn.CodeEnd.TheVariants.{OutOfScope}
 use Rattle.jc_decode.specs.Decoding.{decoded}
-use Rattle.jc_decode.specs.Listing.{listing_from, end_from, ListsFound}
+use Rattle.jc_decode.specs.Listing.{listing_from, ListsFound}
 use Rattle.jc_decode.specs.Places.{place_after}
 use Rattle.jc_decode.proofs.Decoded.{Begins-decoded, IsWithin-decoded}
 use Rattle.jc_decode.proofs.Listing.{listing_from-more, listing_from-end}
@@ -59,10 +59,7 @@ module _ (code : List ℕ) where
   pub instructions-found : (at : ℕ) (i : Insn) → fetched code at ≡ Ok i
       → instructions_from code at ≡ here at i ∷ instructions_from code (at + i.len)
   unfolding instructions_from
-  instructions-found at i h =
-      let bare = fetched-bare at i h in
-      rw (listing_from-more code at i (fetched-decoded at i h))
-      (take_while-cons (λ j. is_bare j.insn.op) (here at i) (listing_from code (at + i.len)) ∙ rw bare refl)
+  instructions-found at i h = grind (arith, fetched-bare, listing_from-more, fetched-decoded, take_while-cons)
 
   pub instructions-none : (at : ℕ) (end : CodeEnd) → fetched code at ≡ Err end → instructions_from code at ≡ []
   unfolding instructions_from
@@ -158,11 +155,7 @@ module _ (code : List ℕ) where
 
   pub split-at : (at : ℕ) (i : Placed) → (r : IsSuffixAt code at) → IsHere at i
       → instructions code ≡ r.before ++ i ∷ instructions_from code (place_after i)
-  split-at at i r h =
-      let same : here at i.insn ≡ i = ap (λ (n : ℕ). here n i.insn) (sym h.place) in
-      let after : at + i.insn.len ≡ place_after i = ap (λ (n : ℕ). n + i.insn.len) (sym h.place) in
-      r.whole ∙ ap (λ (is : List Placed). r.before ++ is) (instructions-found at i.insn h.found
-      ∙ ap (λ (k : Placed). k ∷ instructions_from code (at + i.insn.len)) same ∙ ap (λ (n : ℕ). i ∷ instructions_from code n) after)
+  split-at at i r h = grind (arith, instructions-found)
 
   unfoldable pub reached-after : (at : ℕ) (i : Placed) → IsSuffixAt code at → IsHere at i → IsSuffixAt code (place_after i)
   reached-after at i r h = record {
@@ -178,7 +171,6 @@ module _ (code : List ℕ) where
 
   -- where no instruction is found they end
   pub ends-at : (at : ℕ) (end : CodeEnd) → (r : IsSuffixAt code at) → fetched code at ≡ Err end → instructions_end code ≡ at
-  ends-at at end r h =
-      ap (end_from 0) (r.whole ∙ ap (λ (is : List Placed). r.before ++ is) (instructions-none at end h) ∙ append-nil r.before) ∙ r.ends
+  ends-at at end r h = grind (arith, instructions-none, append-nil)
 
 pub ruleset walking = (instructions-found, instructions-none)

@@ -19,8 +19,7 @@ IsNear place (pos target) = (target ≤ place + 127) × (place ≤ target + 128)
 IsNear place (negsuc n) = Unit {0}
 
 near-sum : (place : ℕ) (distance t : ℤ) → FitsSigned w8 distance → target place distance ≡ t → IsNear place t
-near-sum place distance (pos t) h e = (omega (arith, ints), omega (arith, ints))
-near-sum place distance (negsuc n) h e = tt
+near-sum place distance x h e = grind (arith, ints)
 
 module _ (code : List ℕ) (bytes : AreBytes code) where
   near : (i : Placed) (t : ℤ) → HasInstruction code i → Contains (targets code i) t → IsNear i.place t
@@ -39,8 +38,7 @@ module _ (code : List ℕ) (bytes : AreBytes code) where
 
   -- where a branch leads is not before the instruction that trails it
   from-on : (from place : ℕ) (t : ℤ) → IsTrailing code from place → IsNear place t → IsFromOn from t
-  from-on from place (pos t) h near = ⊎_elim (λ e. omega arith) (λ le. omega (arith, near.0, near.1)) h.far
-  from-on from place (negsuc n) h near = tt
+  from-on from place x h near = grind (arith, ⊎_elim, near)
 
   pub leads-from-on : (from : ℕ) (i : Placed) (t : ℤ) → IsTrailing code from i.place → HasInstruction code i
       → Contains (targets code i) t → IsFromOn from t

@@ -1,5 +1,5 @@
 -- A method has one refusal at most: whatever state is met, the walk along the code comes to it.
-use Rattle.std.proofs.Common.{◌≡◌, ◌≢◌, ◌∙◌, sym, ap, subst, ℕ, zero, suc, ◌+◌, ◌-◌, ◌<◌, Bool, true, false, Option, Some, None}
+use Rattle.std.proofs.Common.{◌≡◌, ◌≢◌, ◌∙◌, sym, ap, subst, ℕ, zero, suc, ◌+◌, ◌-◌, ◌<◌, Bool, true, false, Option}
 use Rattle.std.proofs.Common.{Result, Ok, Err, List, [], ◌++◌, length, refl, arith, ◌==◌, eq-eqb}
 use Rattle.std.proofs.lemmas.Bool.{lt-ltb}
 use Rattle.std.proofs.lemmas.Bool.Decides.{nat_tests}
@@ -18,7 +18,7 @@ use Rattle.cap_bare.specs.Effects.{register_of, register_written, cells_taken, c
 use Rattle.cap_bare.specs.Code.{instructions, instructions_from, HasInstruction, fault}
 use Rattle.cap_bare.specs.Typing.{Kind, shorts, register_count, Applies}
 use Rattle.cap_bare.specs.Met.{Passes, IsMet, met_entry, met_next, met_again, RuleFails, fails_local, fails_cells, fails_room}
-use Rattle.cap_bare.specs.Met.{LandsEmpty, IsWrong, wrong_target, wrong_rule, wrong_branch, wrong_end, IsRefused, refused_flaw, refused_state}
+use Rattle.cap_bare.specs.Met.{LandsEmpty, IsWrong, wrong_target, wrong_rule, wrong_branch, wrong_end, IsRefused}
 use Rattle.cap_bare.specs.Walk.{is_target, if_local, applied, left, passed, then_on, first_wrong}
 use Rattle.cap_bare.proofs.Instructions.{stands-here, instructions-found}
 use Rattle.cap_bare.proofs.Places.{target-true, target-from}
@@ -31,8 +31,7 @@ use Rattle.cap_bare.proofs.WellFormed.{flaw-not, first-one}
 
 locals-pass : (bare : Bare) (o : Option ℕ) (depth : ℕ) (rest : Result ℕ BareKind) → IfSome o (λ x. x < register_count bare)
     → if_local bare o depth rest ≡ rest
-locals-pass bare None depth rest h = refl
-locals-pass bare (Some x) depth rest h = rw (lt-ltb x (register_count bare) h) refl
+locals-pass bare x depth rest h = grind (arith, lt-ltb)
 
 stack-there : (n : ℕ) → shorts n ≢ [] → nat_lt 0 n ≡ true
 stack-there zero h = absurd (h refl)
@@ -40,12 +39,8 @@ stack-there (suc n) h = lt-ltb 0 (suc n) (omega arith)
 
 module _ (bare : Bare) (i : Instruction) (depth : ℕ) (stack : List Kind) (is : stack ≡ shorts depth) where
   fails-applied : (kind : BareKind) → RuleFails bare i stack kind → applied bare i depth ≡ Err kind
-  fails-applied _ (fails_local x e le) =
-      let no : nat_lt x (register_count bare) ≡ false = grind (arith, nat_tests) in
-      rw e (rw no refl)
-  fails-applied _ (fails_cells local lt) =
-      let few : nat_lt depth (cells_taken i) ≡ true = lt-ltb depth (cells_taken i) (omega (arith, lt, ap length is, shorts-length depth)) in
-      locals-pass bare (register_of i) depth _ local ∙ rw few refl
+  fails-applied _ (fails_local x e le) = grind (arith, nat_tests)
+  fails-applied _ (fails_cells local lt) = grind (arith, lt-ltb, length, shorts-length, locals-pass)
   fails-applied _ (fails_room local rest takes lt) =
       let r = shorts-rest depth (cells_taken i) rest (sym is ∙ takes) in
       let enough : nat_lt depth (cells_taken i) ≡ false = grind (arith, nat_tests, r.0) in
@@ -73,16 +68,9 @@ module _ (code : List ℕ) (bare : Bare) where
         )
 
     wrong-passed : (kind : BareKind) → IsWrong code bare i registers stack kind → passed code bare i depth ≡ Err kind
-    wrong-passed _ (wrong_target t ne) =
-        let met : is_target code i.place ≡ true = target-true code i.place t in
-        let some : nat_lt 0 depth ≡ true = stack-there depth (λ e. ne (is ∙ e)) in
-        rw (some, met) refl
-    wrong-passed kind (wrong_rule k empty f) =
-        rw (lands empty) (ap (left code i) (fails-applied bare (instruction_of i.insn) depth stack is kind f))
-    wrong-passed _ (wrong_branch after empty a j ne) =
-        let r = rule-from after a in
-        let some = stack-there _ (λ e. ne (r.1 ∙ e)) in
-        rw (lands empty) (ap (left code i) r.0 ∙ rw (j, some) refl)
+    wrong-passed _ (wrong_target t ne) = grind (arith, target-true, stack-there)
+    wrong-passed kind (wrong_rule k empty f) = grind (arith, lands, fails-applied)
+    wrong-passed _ (wrong_branch after empty a j ne) = grind (arith, rule-from after a, lands empty, stack-there)
     wrong-passed _ (wrong_end after empty a branch f last) =
         let r = rule-from after a in
         let at_end : (place_after i == length code) ≡ true = eq-eqb (place_after i) (length code) last in
@@ -157,14 +145,7 @@ module _ (code : List ℕ) (bare : Bare) where
         comes = comes-here i k.depth p.stands k.comes
             ∙ ap (λ r. then_on i.place r (λ after. first_wrong code bare after (instructions_from code (place_after i)))) ok;
       }
-  known _ _ _ (met_again i registers stack after met p last) =
-      let k = known i.place registers stack met in
-      record {
-        depth = 0;
-        is = refl;
-        count = raised-length (register_written (instruction_of i.insn)) registers ∙ k.count;
-        comes = refl;
-      }
+  known _ _ _ (met_again i registers stack after met p last) = grind (arith, raised-length, known i.place registers stack met)
 
   state-found : (i : Placed) (registers stack : List Kind) (kind : BareKind) → HasInstruction code i → IsMet code bare i.place registers stack
       → IsWrong code bare i registers stack kind
@@ -179,9 +160,4 @@ module _ (code : List ℕ) (bare : Bare) where
   same-fault r f g h k = let e : Err f ≡ Err g = sym h ∙ k in cc
 
   pub one-refusal : (f g : BareFault) → IsRefused code bare f → IsRefused code bare g → f ≡ g
-  one-refusal f g (refused_flaw _ h) (refused_flaw _ k) = first-one code f g h k
-  one-refusal f _ (refused_flaw _ h) (refused_state i registers stack kind w stands met wrong) = absurd (flaw-not code f w h.flaw)
-  one-refusal _ g (refused_state i registers stack kind w stands met wrong) (refused_flaw _ k) = absurd (flaw-not code g w k.flaw)
-  one-refusal _ _ (refused_state i registers stack kind w stands met wrong) (refused_state j registers' stack' kind' w' stands' met' wrong') =
-      same-fault (first_wrong code bare 0 (instructions code)) (fault i.place kind) (fault j.place kind')
-      (state-found i registers stack kind stands met wrong) (state-found j registers' stack' kind' stands' met' wrong')
+  one-refusal f g x x2 = grind (arith, first-one, flaw-not, same-fault, state-found)

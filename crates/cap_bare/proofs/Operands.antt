@@ -1,6 +1,6 @@
 -- What the rows of the table of formats have in common: the operands that each reads are those of its opcode, none is a
 -- switch, and where an instruction leads is what its opcode says.
-use Rattle.std.proofs.Common.{◌≡◌, ◌∙◌, sym, ℕ, ℤ, Bool, true, false, Option, Some, None, Result, Ok, Err, refl, ap, arith}
+use Rattle.std.proofs.Common.{◌≡◌, ◌∙◌, sym, ℕ, ℤ, Bool, true, false, Option, Some, Result, Ok, Err, refl, ap, arith}
 use Rattle.std.specs.Prelude.{not, is_some, FitsSigned, ◌&&◌, ◌||◌}
 use Rattle.std.specs.Option.{option_map, unwrap_or}
 use Rattle.std.specs.Int.{w8}
@@ -36,17 +36,13 @@ is_u1 U1 = true
 is_u1 _ = false
 
 s1-fits : (o : Operand) (v : ℤ) → is_s1 o ≡ true → FitsOperand o v → FitsSigned w8 v
-s1-fits S1 v e h = h
-s1-fits _ v e h = absurd (cc)
+s1-fits x v e h = grind (arith)
 
 short-fits : (o : Operand) (v : ℤ) → is_short o ≡ true → FitsOperand o v → FitsOperand S2 v
-short-fits S1 v e h = omega arith
-short-fits S2 v e h = h
-short-fits _ v e h = absurd (cc)
+short-fits x v e h = grind (arith)
 
 u1-fits : (o : Operand) (v : ℤ) → is_u1 o ≡ true → FitsOperand o v → FitsOperand U1 v
-u1-fits U1 v e h = h
-u1-fits _ v e h = absurd (cc)
+u1-fits x v e h = grind (arith)
 
 abbrev reads : BareFormat → Layout → Bool
 reads (Implied i) l = true
@@ -101,15 +97,10 @@ agree-at op f h =
     record { reads = a.0; single = b.0; near = c.0; branches = d.0; goes_on = d.1 }
 
 reads-fits : (f : BareFormat) (l : Layout) (insn : Insn) → reads f l ≡ true → FitsLayout insn (Ok l) → FitsFormat f insn
-reads-fits (Implied i) l insn e h = tt
-reads-fits Constant l insn e h = short-fits l.x insn.x e h.0
-reads-fits Loads l insn e h = u1-fits l.x insn.x e h.0
-reads-fits Stores l insn e h = u1-fits l.x insn.x e h.0
-reads-fits Increments l insn e h = let two = and_parts (is_u1 l.x) (is_short l.y) e in (u1-fits l.x insn.x two.0 h.0, short-fits l.y insn.y two.1 h.1)
+reads-fits x l insn e h = grind (arith, short-fits, u1-fits, and_parts)
 
 has-fits : (f : BareFormat) (l : Result Layout CodeEnd) (insn : Insn) → has (reads f) l ≡ true → FitsLayout insn l → FitsFormat f insn
-has-fits f (Ok l) insn e h = reads-fits f l insn e h
-has-fits f (Err end) insn e h = absurd h
+has-fits f x insn e h = grind (arith, reads-fits)
 
 -- what a layout's operands fit, the format of the same opcode reads
 pub format-fits : (op : ℕ) (f : BareFormat) (insn : Insn) → instruction_format op ≡ Some f → FitsLayout insn (layout_of op) → FitsFormat f insn
@@ -117,8 +108,7 @@ format-fits op f insn e h = has-fits f (layout_of op) insn (agree-at op f e).rea
 
 -- an opcode of bare methods has a row
 bare-row : (o : Option BareFormat) → is_some o ≡ true → (f : BareFormat) × (o ≡ Some f)
-bare-row None h = absurd (cc)
-bare-row (Some f) h = (f, refl)
+bare-row x h = grind (arith)
 
 module _ (i : Insn) (bare : is_bare i.op ≡ true) where
   abbrev row : (f : BareFormat) × (instruction_format i.op ≡ Some f)
@@ -128,12 +118,10 @@ module _ (i : Insn) (bare : is_bare i.op ≡ true) where
   no-switch = not-true (is_switch i.op) (agree-at i.op row.0 row.1).single
 
   x-near : (l : Result Layout CodeEnd) → has (λ l. is_s1 l.x) l ≡ true → FitsLayout i l → FitsSigned w8 i.x
-  x-near (Ok l) e h = s1-fits l.x i.x e h.0
-  x-near (Err end) e h = absurd h
+  x-near x e h = grind (arith, s1-fits)
 
   either : (a b : Bool) → (a || b) ≡ true → b ≡ false → a ≡ true
-  either true b h e = refl
-  either false b h e = absurd (cc)
+  either x b h e = grind (arith)
 
   -- the distance of a target is a signed byte
   pub distance-fits : jumps i.op ≡ true → FitsLayout i (layout_of i.op) → FitsSigned w8 i.x
@@ -141,11 +129,7 @@ module _ (i : Insn) (bare : is_bare i.op ≡ true) where
       x-near (layout_of i.op) (or-rest (is_branch i.op) _ (agree-at i.op row.0 row.1).near (either (is_branch i.op) (is_switch i.op) j no-switch)) fits
 
   shaped : (f : BareFormat) → (branches (resolved f i) ≡ branches (shape f)) × (goes_on (resolved f i) ≡ goes_on (shape f))
-  shaped (Implied k) = (refl, refl)
-  shaped Constant = (refl, refl)
-  shaped Loads = (refl, refl)
-  shaped Stores = (refl, refl)
-  shaped Increments = (refl, refl)
+  shaped x = grind (arith)
 
   is-resolved : instruction_of i ≡ resolved row.0 i
   is-resolved = ap (λ (o : Option BareFormat). unwrap_or (option_map (λ f. resolved f i) o) Nop) row.1

@@ -1,5 +1,5 @@
 -- What it means that nothing is wrong, or something is, at an instruction over a stack of shorts.
-use Rattle.std.proofs.Common.{◌≡◌, ◌≢◌, ◌∙◌, sym, ap, subst, ℕ, Bool, true, false, Result, Ok, Err, List, [], length, refl, arith, ◌==◌}
+use Rattle.std.proofs.Common.{◌≡◌, ◌≢◌, ◌∙◌, ap, subst, ℕ, Bool, true, false, Result, Ok, Err, List, [], length, refl, arith, ◌==◌}
 use Rattle.std.proofs.Common.{eq-eqb}
 use Rattle.std.proofs.lemmas.Bool.{eqb-true, ltb-true, and_parts, both_ways}
 use Rattle.std.proofs.lemmas.Bool.Decides.{nat_tests}
@@ -42,12 +42,10 @@ not-target depth false h = by_test (nat_lt 0 depth)
     by_test false = refl
 
 at-branch : (after : ℕ) (b : Bool) → (b && nat_lt 0 after) ≡ false → b ≡ true → after ≡ 0
-at-branch after true e h = grind (arith, nat_tests)
-at-branch after false e h = absurd (cc)
+at-branch after x e h = grind (arith, nat_tests)
 
 not-branch : (after : ℕ) (b : Bool) → (b ≡ true → after ≡ 0) → (b && nat_lt 0 after) ≡ false
-not-branch after true h = let z = h refl in rw z refl
-not-branch after false h = refl
+not-branch after x h = grind (arith)
 
 module _ (code : List ℕ) (bare : Bare) (i : Placed) where
   abbrev leaving : Bool → Bool → Bool → ℕ → Result ℕ BareKind
@@ -57,17 +55,11 @@ module _ (code : List ℕ) (bare : Bare) (i : Placed) where
   leaves-ok : (branching falling last : Bool) (after next : ℕ) → leaving branching falling last after ≡ Ok next
       → (place_after i == length code) ≡ last
       → (branching ≡ false) × Leaves code i after next falling
-  leaves-ok true f l after next h e = absurd (cc)
-  leaves-ok false true true after next h e = absurd (cc)
-  leaves-ok false true false after next h e =
-      (refl, ((λ same. both_ways (place_after i == length code) e (eq-eqb (place_after i) (length code) same)), cc))
-  leaves-ok false false l after next h e = (refl, cc)
+  leaves-ok x f l after next h e = grind (arith, both_ways, length, eq-eqb)
 
   leaves-is : (falling last : Bool) (after next : ℕ) → Leaves code i after next falling → (place_after i == length code) ≡ last
       → leaving false falling last after ≡ Ok next
-  leaves-is true true after next h e = absurd (h.0 (eqb-true (place_after i) (length code) e))
-  leaves-is true false after next h e = ap Ok (sym h.1)
-  leaves-is false l after next h e = ap Ok (sym h)
+  leaves-is x l after next h e = grind (arith, eqb-true, length)
 
   abbrev passing : Bool → Result ℕ BareKind → Result ℕ BareKind
   passing met rest = if met then Err StackAtTarget else left code i rest

@@ -1,5 +1,5 @@
 -- The tests of places and of targets, and what a search along the code finds.
-use Rattle.std.proofs.Common.{◌≡◌, ◌∙◌, sym, ap, subst, ℕ, zero, suc, ◌+◌, ◌<◌, ◌≤◌, ◌⊎◌, inl, inr, ⊎_elim, Bool, true}
+use Rattle.std.proofs.Common.{◌≡◌, ◌∙◌, sym, ap, subst, ℕ, zero, suc, ◌+◌, ◌<◌, ◌≤◌, ◌⊎◌, inr, ⊎_elim, Bool, true}
 use Rattle.std.proofs.Common.{false, Some, None, Result, Ok, Err, List, [], refl, arith, ◌==◌, eq-eqb, Contains, All}
 use Rattle.std.specs.Prelude.{ℤ, pos, negsuc, is_ok, IsTrue, ◌↔◌, slice_get}
 use Rattle.std.specs.List.{list_any}
@@ -11,10 +11,8 @@ use Rattle.jc_decode.specs.declared.insn.Insn.{Insn}
 use Rattle.jc_decode.specs.declared.insn.Placed.{Placed}
 use Rattle.jc_decode.specs.declared.insn.CodeEnd.{CodeEnd}
 use Rattle.jc_decode.specs.declared.layout.Layout.{Layout}
-use Rattle.jc_decode.specs.Layout.{layout_of, total_width}
+use Rattle.jc_decode.specs.Layout.{layout_of}
 use Rattle.jc_decode.specs.declared.layout.Cases.{Cases}
-use Rattle.jc_decode.specs.declared.layout.Cases.TheVariants.{Range, Pairs}
-use Rattle.jc_decode.specs.declared.layout.Cases.TheVariants.{Absent as NoCases}
 use Rattle.jc_decode.specs.Cases.{cases, cases_by, cases_in, is_table, has_cases, is_switch}
 use Rattle.jc_decode.specs.Listing.{targets, target, jumps}
 use Rattle.jc_decode.proofs.Elements.{Contains-slice_get, slice_get-Contains}
@@ -37,8 +35,7 @@ at-true : (place : ℕ) (t : ℤ) → t ≡ pos place → is_at place t ≡ true
 at-true place t e = rw e (eq-eqb place place refl)
 
 at-from : (place : ℕ) (t : ℤ) → is_at place t ≡ true → t ≡ pos place
-at-from place (pos n) h = ap pos (eqb-true n place h)
-at-from place (negsuc n) h = absurd (cc)
+at-from place x h = grind (arith, eqb-true)
 
 module _ (code : List ℕ) where
   -- the test of a place
@@ -47,8 +44,7 @@ module _ (code : List ℕ) where
   place-true (negsuc n) h = absurd h
 
   pub place-from : (t : ℤ) → is_place code t ≡ true → IsTargetPlace code t
-  place-from (pos p) h = let found = any-from (λ (i : Placed). i.place == p) (instructions code) h in (found.0, found.1, eqb-true _ _ found.2)
-  place-from (negsuc n) h = absurd (cc)
+  place-from x h = grind (arith, any-from, eqb-true)
 
   pub place-means : (t : ℤ) → IsTrue (is_place code t) ↔ IsTargetPlace code t
   place-means t = (place-from t, place-true t)
@@ -60,16 +56,11 @@ module _ (code : List ℕ) where
       (any-of (is_at p) (targets code h.from) (pos p) h.leads (at-true p (pos p) refl))
 
   pub target-from : (p : ℕ) → is_target code p ≡ true → IsTarget code p
-  target-from p h =
-      let found = any-from (leads_to code p) (instructions code) h in
-      let leads = any-from (is_at p) (targets code found.0) found.2 in
-      record { from = found.0; stands = found.1; leads = subst (Contains (targets code found.0)) (at-from p leads.0 leads.2) leads.1 }
+  target-from p h = grind (arith, any-from, at-from)
 
   pub target-is : (place : ℕ) (r : Bool) → (r ≡ true → IsTarget code place) → (IsTarget code place → r ≡ true)
       → r ≡ is_target code place
-  target-is place r f g =
-      same_from_decides {P = is_target code place ≡ true} r (is_target code place) ((λ e. target-true place (f e)), (λ e. g (target-from place e)))
-      ((λ e. e), (λ e. e))
+  target-is place r f g = grind (arith, same_from_decides, target-true, target-from)
 
   -- ---- an instruction leads to one place at most
 
@@ -81,13 +72,10 @@ module _ (code : List ℕ) where
   branch-leads i h = rw h refl
 
   no-table : (k : Cases) (table : ℕ) (i : Insn) → is_table k ≡ false → cases_in k code table i ≡ []
-  no-table NoCases table i h = refl
-  no-table Range table i h = absurd (cc)
-  no-table (Pairs key) table i h = absurd (cc)
+  no-table x table i h = grind (arith)
 
   no-cases-in : (l : Result Layout CodeEnd) (at : ℕ) (i : Insn) → has_cases l ≡ false → cases_by l code at i ≡ []
-  no-cases-in (Err e) at i h = refl
-  no-cases-in (Ok l) at i h = no-table l.cases (at + 1 + total_width l) i h
+  no-cases-in x at i h = grind (arith, no-table)
 
   no-cases : (i : Placed) → is_switch i.insn.op ≡ false → cases code i.place i.insn ≡ []
   unfolding cases
@@ -160,8 +148,7 @@ module _ (code : List ℕ) where
       stands = stands-at code at (here at i) r (is-here code at i f)
 
       by_order : (b : Bool) → (at == t.from.place) ≡ b → (at ≡ t.from.place) ⊎ (at < t.from.place)
-      by_order true e = inl (eqb-true at t.from.place e)
-      by_order false e = inr (grind (arith, nat_tests))
+      by_order x e = grind (arith, eqb-true, nat_tests)
 
       is_there : at ≡ t.from.place → Contains (targets code (here at i)) (pos place)
       is_there e = subst (λ (k : Placed). Contains (targets code k) (pos place)) (sym (one-at code (here at i) t.from stands t.stands e)) t.leads
@@ -177,5 +164,4 @@ module _ (code : List ℕ) where
   trails-on farther at i h f le = record { reached = reached-after code farther (here farther i) h.reached (is-here code farther i f); far = inr le }
 
   pub trails-later : (farther at later : ℕ) → IsTrailing code farther at → at ≤ later → IsTrailing code farther later
-  trails-later farther at later h le =
-      record { reached = h.reached; far = ⊎_elim (λ e. inl e) (λ far. inr (omega arith)) h.far }
+  trails-later farther at later h le = grind (arith, ⊎_elim)

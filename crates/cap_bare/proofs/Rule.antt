@@ -7,7 +7,6 @@ use Rattle.std.proofs.lemmas.List.{replicate-append-replicate, length-replicate,
 use Rattle.std.specs.Prelude.{if◌then◌else◌, nat_lt, IfSome, IsSomeAnd, slice_get}
 use Rattle.cap_bare.specs.declared.bare.Bare.{Bare}
 use Rattle.cap_bare.specs.declared.instruction.Instruction.{Instruction}
-use Rattle.cap_bare.specs.declared.instruction.Instruction.TheVariants.{Load, Store, Increment}
 use Rattle.cap_bare.specs.declared.fault.BareKind.{BareKind}
 use Rattle.cap_bare.specs.declared.fault.BareKind.TheVariants.{NoLocal, Underflow, Overflow}
 use Rattle.cap_bare.specs.Effects.{register_of, register_read, register_written, cells_taken, cells_given}
@@ -17,8 +16,7 @@ use Rattle.cap_bare.specs.Walk.{if_local, applied}
 
 -- lists of shorts
 pub shorts-split : (d n : ℕ) → n ≤ d → shorts d ≡ shorts n ++ shorts (d - n)
-shorts-split d n le =
-    let e : n + (d - n) ≡ d = omega arith in ap shorts (sym e) ∙ sym (replicate-append-replicate n (d - n) short)
+shorts-split d n le = grind (arith, replicate-append-replicate)
 
 pub shorts-join : (m n : ℕ) → shorts m ++ shorts n ≡ shorts (n + m)
 shorts-join m n = let e : m + n ≡ n + m = omega arith in replicate-append-replicate m n short ∙ ap shorts e
@@ -41,14 +39,10 @@ shorts-rest d n rest e =
 
 -- the register that is read or written is the one that is named
 pub read-named : (i : Instruction) (n : ℕ) → IfSome (register_of i) (λ x. x < n) → IfSome (register_read i) (λ x. x < n)
-read-named (Load x) n h = h
-read-named (Increment x k) n h = h
-read-named _ n h = tt
+read-named x n h = grind (arith)
 
 pub written-named : (i : Instruction) (n : ℕ) → IfSome (register_of i) (λ x. x < n) → IfSome (register_written i) (λ x. x < n)
-written-named (Increment x k) n h = h
-written-named (Store x) n h = h
-written-named _ n h = tt
+written-named x n h = grind (arith)
 
 below-any : (k : Kind) → IsBelow k short
 below-any bottom = below_short
@@ -62,8 +56,7 @@ get-below (k ∷ ks) (suc x) h = get-below ks x (omega arith)
 
 read-below : (o : Option ℕ) (registers : List Kind) (n : ℕ) → length registers ≡ n → IfSome o (λ x. x < n)
     → IfSome o (λ x. IsSomeAnd (slice_get registers x) (λ k. IsBelow k short))
-read-below None registers n e h = tt
-read-below (Some x) registers n e h = get-below registers x (omega arith)
+read-below x registers n e h = grind (arith, get-below)
 
 -- the rule's tests passed
 pub record Applied (bare : Bare) (i : Instruction) (depth after : ℕ) : Type 0 where
@@ -97,10 +90,7 @@ cells-ok taken max depth next after h = by_test (nat_lt depth taken) refl (nat_l
     by_test false d false e h = (grind (arith, nat_tests), grind (arith, nat_tests), cc)
 
 pub applied-ok : (bare : Bare) (i : Instruction) (depth after : ℕ) → applied bare i depth ≡ Ok after → Applied bare i depth after
-applied-ok bare i depth after h =
-    let w = within-ok bare (register_of i) depth after _ h in
-    let k = cells-ok (cells_taken i) bare.max_stack depth (depth - cells_taken i + cells_given i) after w.1 in
-    record { local = w.0; enough = k.0; value = k.2; room = omega (arith, k.1, k.2) }
+applied-ok bare i depth after h = grind (arith, within-ok, cells-ok)
 
 pub applied-is : (bare : Bare) (i : Instruction) (depth after : ℕ) → Applied bare i depth after → applied bare i depth ≡ Ok after
 applied-is bare i depth after a = by_local (register_of i) a.local
@@ -110,8 +100,7 @@ applied-is bare i depth after a = by_local (register_of i) a.local
 
     by_local : (o : Option ℕ) → IfSome o (λ x. x < register_count bare)
         → if_local bare o depth (cells (cells_taken i) bare.max_stack depth (depth - cells_taken i + cells_given i)) ≡ Ok after
-    by_local None h = rest
-    by_local (Some x) h = rw (lt-ltb _ _ h) rest
+    by_local x h = grind (arith, lt-ltb)
 
 -- then the rule applies, whatever the types in the registers
 pub applies : (bare : Bare) (i : Instruction) (registers : List Kind) (depth after : ℕ) → length registers ≡ register_count bare

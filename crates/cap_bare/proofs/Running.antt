@@ -1,11 +1,11 @@
 -- Code with a card typing never meets a fault.
-use Rattle.std.proofs.Common.{◌≡◌, ◌∙◌, sym, ap, subst, ℕ, zero, suc, ◌+◌, ◌-◌, ◌<◌, ◌≤◌, Bool, true, false, Option, Some, None}
+use Rattle.std.proofs.Common.{◌≡◌, ◌∙◌, sym, ap, subst, ℕ, zero, suc, ◌+◌, ◌-◌, ◌<◌, ◌≤◌, Bool, true, false, Option}
 use Rattle.std.proofs.Common.{Result, Ok, Err, List, [], length, drop, replicate, refl, arith, inl, inr, ◌⊎◌, ⊎_elim, Contains}
 use Rattle.std.proofs.lemmas.Bool.{ltb-true, lt-ltb, le-ltb, ltb-false}
 use Rattle.std.proofs.lemmas.List.{length-replicate, length-append, length-drop}
 use Rattle.std.proofs.lemmas.List.Elements.{All-contains}
 use Rattle.std.proofs.Math.ListN.{length-set}
-use Rattle.std.specs.Prelude.{if◌then◌else◌, ℤ, pos, negsuc, IfSome, MatchBool, nat_lt}
+use Rattle.std.specs.Prelude.{if◌then◌else◌, ℤ, pos, IfSome, MatchBool, nat_lt}
 use Rattle.jc_decode.specs.declared.insn.CodeEnd.{CodeEnd}
 use Rattle.cap_bare.specs.declared.bare.Bare.{Bare}
 use Rattle.jc_decode.specs.declared.insn.Insn.{Insn}
@@ -15,7 +15,6 @@ use Rattle.jc_decode.specs.Places.{place_after}
 use Rattle.cap_bare.specs.declared.instruction.Instruction.{Instruction}
 use Rattle.cap_bare.specs.declared.instruction.Instruction.TheVariants.{Nop, Push, Load, Store, Increment, Pop, Duplicate, Negate, ToByte, Binary, Test}
 use Rattle.cap_bare.specs.declared.instruction.Instruction.TheVariants.{Compare, Goto, Return}
-use Rattle.vm_arithmetic.specs.Arithmetic.{succeeds}
 use Rattle.cap_bare.specs.Format.{is_bare, instruction_of}
 use Rattle.cap_bare.specs.Effects.{register_of, cells_taken, cells_given}
 use Rattle.cap_bare.specs.Code.{fetched, HasInstruction, IsPlace, IsTargetPlace}
@@ -23,8 +22,8 @@ use Rattle.cap_bare.specs.Typing.{Kind, shorts, register_count, IsTyped, BareTyp
 use Rattle.cap_bare.specs.Walk.{is_place}
 use Rattle.cap_bare.specs.Machine.{BareFrame, BareState, BareOutcome, running, returned, faulted, jump_fault, local_fault, stack_fault, Lead, leads}
 use Rattle.cap_bare.specs.Machine.{gives, frame}
-use Rattle.cap_bare.specs.Machine.{top_of_stack, second, acted, acts, branch_target, has_register, place_number, settled, performed, step, go_on, after}
-use Rattle.cap_bare.specs.Machine.{entered, IsFault, IsSafe, IsFaultFree}
+use Rattle.cap_bare.specs.Machine.{top_of_stack, acted, acts, branch_target, has_register, place_number, settled, performed, step, go_on, after}
+use Rattle.cap_bare.specs.Machine.{IsFault, IsSafe, IsFaultFree}
 use Rattle.cap_bare.proofs.Operands.{branches, goes_on as falls_on, branches-jumps, goes_on-falls}
 use Rattle.cap_bare.proofs.Instructions.{here, is-here, fetched-bare, reached-first, stands-at, stands-here, stands-next, ends-at}
 use Rattle.cap_bare.proofs.Places.{place-true, leads-there, branch-leads}
@@ -55,10 +54,8 @@ acted-is Duplicate t next r s h = acts_on _ _ (inl (refl, refl)) refl (omega ari
 acted-is Negate t next r s h = acts_on _ _ (inl (refl, refl)) refl (omega (arith, length-drop 1 s))
 acted-is ToByte t next r s h = acts_on _ _ (inl (refl, refl)) refl (omega (arith, length-drop 1 s))
 acted-is (Binary o) t next r s h = acts_on _ _ (inl (refl, refl)) refl (omega (arith, length-drop 2 s))
-acted-is (Test c) t next r s h =
-    acted-either (Test c) t next r s (succeeds c (top_of_stack s) (pos 0)) (frame r (drop 1 s)) refl refl refl (omega (arith, length-drop 1 s))
-acted-is (Compare c) t next r s h =
-    acted-either (Compare c) t next r s (succeeds c (second s) (top_of_stack s)) (frame r (drop 2 s)) refl refl refl (omega (arith, length-drop 2 s))
+acted-is (Test c) t next r s h = grind (arith, acted-either, drop, length-drop)
+acted-is (Compare c) t next r s h = grind (arith, acted-either, drop, length-drop)
 acted-is Goto t next r s h = acts_on t (frame r s) (inr (refl, refl)) refl (omega arith)
 acted-is Return t next r s h = acts_out (top_of_stack s) refl
 
@@ -71,12 +68,10 @@ pub acting : (code : List ℕ) (i : Placed) (f : BareFrame) → cells_taken (ins
 acting code i f h = acted-is (instruction_of i.insn) (branch_target code i) (place_after i) f.registers f.stack h
 
 has-register : (bare : Bare) (o : Option ℕ) → IfSome o (λ x. x < register_count bare) → has_register bare o ≡ true
-has-register bare None h = refl
-has-register bare (Some x) h = lt-ltb _ _ h
+has-register bare x h = grind (arith, lt-ltb)
 
 register-there : (bare : Bare) (o : Option ℕ) → has_register bare o ≡ true → IfSome o (λ x. x < register_count bare)
-register-there bare None h = tt
-register-there bare (Some x) h = ltb-true _ _ h
+register-there bare x h = grind (arith, ltb-true)
 
 module _ (code : List ℕ) (bare : Bare) where
   -- a step's tests, passed
@@ -201,18 +196,11 @@ module _ (code : List ℕ) (bare : Bare) where
     next-falls : (i : Placed) (k : IsTyped code bare t.registers t.stacks i) → HasInstruction code i → (b : Bool) → b ≡ true
         → MatchBool b ((place_after i < length code) × (t.stacks (place_after i) ≡ k.after)) (t.stacks (place_after i) ≡ [])
         → Next k.after (pos (place_after i))
-    next-falls i k s true e h = record { place = place_after i; is = refl; there = next-place i s h.0; stack = ap length h.1 }
-    next-falls i k s false e h = absurd (cc)
+    next-falls i k s x e h = grind (arith, next-place, length)
 
     next-branch : (i : Placed) (k : IsTyped code bare t.registers t.stacks i) → HasInstruction code i → (to : ℤ) → jumps i.insn.op ≡ true
         → Contains (targets code i) to → IsTargetPlace code to → Next k.after to
-    next-branch i k s (pos p) j c h = record {
-      place = p;
-      is = refl;
-      there = h;
-      stack = ap length (t.targets p (record { from = i; stands = s; leads = c })) ∙ sym (ap length (k.branch j));
-    }
-    next-branch i k s (negsuc n) j c h = absurd h
+    next-branch i k s x j c h = grind (arith, length, k)
 
     abbrev LeadsTo : Placed → ℤ → Type 0
     LeadsTo i to =
@@ -306,10 +294,4 @@ module _ (code : List ℕ) (bare : Bare) where
         by_step (goes_out v e) more = subst (λ (o : BareOutcome). IsFault (go_on o (after n code bare))) e h
 
     pub fault-free : IsFaultFree code bare
-    fault-free args e n h =
-        safe n (entered bare args)
-        (record {
-          place = first-place;
-          registers = length-append args (replicate bare.max_locals (pos 0)) ∙ omega (arith, e, length-replicate bare.max_locals (pos 0));
-          stack = sym (ap length t.entry);
-        }) h
+    fault-free args e n h = grind (arith, safe, first-place, length-append, replicate, length-replicate, length)

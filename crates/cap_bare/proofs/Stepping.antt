@@ -28,15 +28,10 @@ module _ (code : List ℕ) (bare : Bare) (s : BareState) (safe : IsSafe code bar
 
   module _ (i : Insn) (e : fetched code s.place ≡ Ok i) where
     pub sound-at : Sound code bare s i
-    sound-at =
-        let k = sound code bare s (safe-step code bare s safe) in
-        let found = k.1.found in
-        let same : k.0 ≡ i = cc in subst (Sound code bare s) same k.1
+    sound-at = grind (arith, sound code bare s (safe-step code bare s safe))
 
     settles : (l : Lead) → acts code (here s.place i) s.frame ≡ l → IsFault (settled code bare l) → ⊥
-    settles l e h =
-        let is : step code bare s ≡ settled code bare l = sound-at.is ∙ ap (settled code bare) e in
-        safe-step code bare s safe (subst IsFault (sym is) h)
+    settles l e h = grind (arith, sound-at, safe-step)
 
     pub can-act : length s.frame.registers ≡ register_count bare → bare.max_stack ≤ 15 → CanAct (instruction_of i) s.frame
     can-act registers low = record {
@@ -59,10 +54,7 @@ module _ (code : List ℕ) (bare : Bare) (s : BareState) (safe : IsSafe code bar
       pub stepped : step code bare s ≡ running (state_in_frame place f)
 
     going-at : (to : ℤ) (f : BareFrame) → IsTargetPlace code to → step code bare s ≡ running (state_in_frame (place_number to) f) → Going to f
-    going-at (pos p) f h e =
-        let inside = here-inside code h.0.place h.0 (stands-here code h.0 h.1) in
-        let small : p < length code = omega (arith, h.2, inside.farther, inside.inside) in
-        record { place = p; is = refl; small = small; stepped = e }
+    going-at (pos p) f h e = grind (arith, here-inside code h.0.place h.0 (stands-here code h.0 h.1), length)
     going-at (negsuc n) f h e = absurd h
 
     -- what the code makes of the frame, with this instruction and this target
@@ -74,10 +66,7 @@ module _ (code : List ℕ) (bare : Bare) (s : BareState) (safe : IsSafe code bar
       is-made l a = sym (a ∙ (rw (same, target) refl))
 
       pub step-to : (to : ℤ) (f : BareFrame) → leads to f ≡ made → Going to f
-      step-to to f a =
-          let e = is-made (leads to f) a in
-          let k = settled-from code bare to f (settles (leads to f) e) in
-          going-at to f (place-from code to k.there) (sound-at.is ∙ ap (settled code bare) e ∙ k.is)
+      step-to to f a = grind (arith, is-made, settled-from, settles, going-at, place-from, sound-at)
 
       pub step-out : (n : ℤ) → gives n ≡ made → step code bare s ≡ returned n
       step-out n a = sound-at.is ∙ ap (settled code bare) (is-made (gives n) a)

@@ -1,6 +1,6 @@
 -- The second walk accepts exactly what has a card typing, and refuses at a met state.
 use Rattle.std.proofs.Common.{◌≡◌, ◌≢◌, ◌∙◌, sym, ap, subst, ℕ, zero, suc, ◌+◌, ◌-◌, ◌<◌, ◌≤◌, Bool, true, false, Option}
-use Rattle.std.proofs.Common.{Some, None, Result, Ok, Err, List, [], ◌∷◌, ⊎_elim, Contains, length, replicate, refl, arith, ◌==◌, eq-eqb}
+use Rattle.std.proofs.Common.{Result, Ok, Err, List, [], ◌∷◌, ⊎_elim, Contains, length, replicate, refl, arith, ◌==◌, eq-eqb}
 use Rattle.std.proofs.lemmas.Bool.{eqb-true, both_ways}
 use Rattle.std.proofs.lemmas.List.{length-replicate, length-append}
 use Rattle.std.proofs.lemmas.List.Elements.{All-contains}
@@ -18,7 +18,7 @@ use Rattle.cap_bare.specs.Format.{instruction_of}
 use Rattle.cap_bare.specs.Effects.{register_written, cells_taken, cells_given}
 use Rattle.cap_bare.specs.Code.{fetched, instructions, HasInstruction, IsPlace, IsTargetPlace, IsTarget, IsWellFormed, fault}
 use Rattle.cap_bare.specs.Window.{IsSuffixAt}
-use Rattle.cap_bare.specs.Typing.{Kind, bottom, short, IsBelow, below_itself, shorts, register_count, Applies, IsTyped, BareTyping}
+use Rattle.cap_bare.specs.Typing.{Kind, short, IsBelow, below_itself, shorts, register_count, Applies, IsTyped, BareTyping}
 use Rattle.cap_bare.specs.Met.{declared, with_raised, raised_at, Passes, IsMet, met_entry, met_next, IsRefused, refused_state}
 use Rattle.cap_bare.specs.Walk.{passed, then_on, first_wrong}
 use Rattle.cap_bare.proofs.Instructions.{IsInside, here-inside, IsHere, Lists, head-here, tail-lists, lists-instructions, stands-here, reached-first}
@@ -35,17 +35,13 @@ get-short (suc n) (suc x) h = get-short n x (omega arith)
 
 written-short : (o : Option ℕ) (n : ℕ) → IfSome o (λ x. x < n)
     → IfSome o (λ x. IsSomeAnd (slice_get (shorts n) x) (λ k. IsBelow short k))
-written-short None n h = tt
-written-short (Some x) n h = get-short n x h
+written-short x n h = grind (arith, get-short)
 
 pub raised-length : (o : Option ℕ) (registers : List Kind) → length (raised_at o registers) ≡ length registers
-raised-length None registers = refl
-raised-length (Some x) registers = length-set registers x short
+raised-length x registers = grind (arith, length-set)
 
 pub declared-length : (bare : Bare) → length (declared bare) ≡ register_count bare
-declared-length bare =
-    length-append (replicate bare.nargs short) (replicate bare.max_locals bottom)
-    ∙ omega (arith, length-replicate bare.nargs short, length-replicate bare.max_locals bottom)
+declared-length bare = grind (arith, length-append, replicate, length-replicate)
 
 module _ (code : List ℕ) (bare : Bare) where
   -- the number of cells before each place, read off the walk
@@ -81,18 +77,15 @@ module _ (code : List ℕ) (bare : Bare) where
   module _ (w : IsWellFormed code) where
     -- the code ends at no other place than its end
     none-left : (at : ℕ) (is : List Placed) → IsSuffixAt code at → Lists code at is → is ≡ [] → at ≡ length code
-    none-left at [] r l e = let end = err-of (fetched code at) l in sym (ends-at code at end.0 r end.1) ∙ w.ends
-    none-left at (i ∷ is) r l e = absurd (cc)
+    none-left at x r l e = grind (arith, err-of, ends-at)
 
     fits-leaves : (i : Placed) (after next : ℕ) (falls : Bool) → (place_after i) ≤ length code → Leaves code i after next falls
         → MatchBool falls ((place_after i < length code) × (next ≡ after)) (next ≡ 0)
-    fits-leaves i after next true le h = let ne = h.0 in (omega arith, h.1)
-    fits-leaves i after next false le h = h
+    fits-leaves i after next x le h = grind (arith)
 
     nothing-left : (i : Placed) (after next : ℕ) (falls : Bool) → Leaves code i after next falls
         → place_after i ≡ length code → next ≡ 0
-    nothing-left i after next true h e = absurd (h.0 e)
-    nothing-left i after next false h e = h
+    nothing-left i after next x h e = grind (arith)
 
     -- what the walk accepts fits, instruction by instruction
     abbrev FitsIn : ℕ → List Placed → Placed → Type 0
@@ -158,8 +151,7 @@ module _ (code : List ℕ) (bare : Bare) where
     typed-next : (i : Placed) (after : ℕ) (falls : Bool)
         → MatchBool falls ((place_after i < length code) × (depths (place_after i) ≡ after)) (depths (place_after i) ≡ 0)
         → MatchBool falls ((place_after i < length code) × (shorts (depths (place_after i)) ≡ shorts after)) (shorts (depths (place_after i)) ≡ [])
-    typed-next i after true h = (h.0, ap shorts h.1)
-    typed-next i after false h = ap shorts h
+    typed-next i after x h = grind (arith)
 
     typed-from : (i : Placed) → HasInstruction code i → FitsIn 0 (instructions code) i
         → IsTyped code bare (shorts (register_count bare)) (λ p. shorts (depths p)) i
@@ -223,22 +215,17 @@ module _ (code : List ℕ) (bare : Bare) where
         met = subst (λ (n : ℕ). IsMet code bare n registers (shorts depth)) (sym inside.place) m
 
         goes-on : (after next : ℕ) (falls : Bool) → Leaves code i after next falls → falls ≡ true → place_after i < length code
-        goes-on after next true k t = let ne = k.0 in let le = inside.inside in omega arith
-        goes-on after next false k t = absurd (cc)
+        goes-on after next x k t = grind (arith, inside)
 
         stack-next : (after next : ℕ) (falls : Bool) → Leaves code i after next falls
             → (if falls then shorts after else []) ≡ shorts next
-        stack-next after next true k = ap shorts (sym k.1)
-        stack-next after next false k = ap shorts (sym k)
+        stack-next after next x k = grind (arith)
 
         by_end : (next : ℕ) → Passing code bare i depth next → (b : Bool) → ((place_after i) == length code) ≡ b
             → (IsMet code bare (place_after i) (with_raised (instruction_of i.insn) registers) (shorts next) → first_wrong code bare next is ≡ Err f
             → IsRefused code bare f)
             → first_wrong code bare next is ≡ Err f → IsRefused code bare f
-        by_end next p true t more h =
-            let last = eqb-true (place_after i) (length code) t in
-            let empty : is ≡ [] = list-past (place_after i) is rest (omega arith) in
-            let ok : first_wrong code bare next is ≡ Ok tt = ap (first_wrong code bare next) empty in absurd (cc)
+        by_end next p true t more h = grind (arith, eqb-true, length, list-past, rest)
         by_end next p false t more h =
             let ne : (place_after i) ≢ length code = λ k. both_ways ((place_after i) == length code) t (eq-eqb (place_after i) (length code) k) in
             let le = inside.inside in
@@ -271,8 +258,7 @@ module _ (code : List ℕ) (bare : Bare) where
     typed-leaves : (i : Placed) (after : ℕ) (stack : List Kind) (falls : Bool) → stack ≡ shorts after
         → MatchBool falls ((place_after i < length code) × (t.stacks (place_after i) ≡ stack)) (t.stacks (place_after i) ≡ [])
         → (next : ℕ) × Leaves code i after next falls × (t.stacks (place_after i) ≡ shorts next)
-    typed-leaves i after stack true e h = let lt = h.0 in (after, ((λ last. absurd (omega arith)), refl), h.1 ∙ e)
-    typed-leaves i after stack false e h = (0, refl, h)
+    typed-leaves i after stack x e h = grind (arith)
 
     passing-typed : (i : Placed) (depth : ℕ) → HasInstruction code i → t.stacks i.place ≡ shorts depth
         → (next : ℕ) × Passing code bare i depth next × (t.stacks (place_after i) ≡ shorts next)

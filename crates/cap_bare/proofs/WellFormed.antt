@@ -82,8 +82,7 @@ module _ (code : List ℕ) where
 
   -- what is well formed has no flaw
   pub flaw-not : (f : BareFault) → IsWellFormed code → IsFlaw code f → ⊥
-  flaw-not _ w (flaw_end end ne e) = ne w.ends
-  flaw-not _ w (flaw_target i t s leads away) = astray i t (w.leads i s) leads away
+  flaw-not x w x2 = grind (arith, astray)
 
   -- two flaws of one place are one
   flaw-one : (f g : BareFault) → IsFlaw code f → IsFlaw code g → f.place ≡ g.place → f ≡ g
@@ -97,9 +96,7 @@ module _ (code : List ℕ) where
 
   -- so the first flaw is one
   pub first-one : (f g : BareFault) → IsFirstFlaw code f → IsFirstFlaw code g → f ≡ g
-  first-one f g h k =
-      let le = h.least g k.flaw in let ge = k.least f h.flaw in flaw-one f g h.flaw k.flaw (omega arith)
+  first-one f g h k = grind (arith, flaw-one)
 
   pub flaw-kind : (f : BareFault) → IsFlaw code f → IsFlawKind f.kind
-  flaw-kind _ (flaw_end e ne h) = tt
-  flaw-kind _ (flaw_target j t s l away) = tt
+  flaw-kind x x2 = grind (arith)

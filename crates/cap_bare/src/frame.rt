@@ -1,4 +1,4 @@
-ghost use Rattle.std.specs.Prelude.{◌≡◌, ◌<◌, ◌≤◌, ◌+◌, ℤ, pos, [], ◌∷◌, ◌++◌, length, drop, replicate, slice_index_or, slice_set, if◌then◌else◌};
+ghost use Rattle.std.specs.Prelude.{◌≡◌, ◌<◌, ◌≤◌, ◌+◌, pos, [], ◌∷◌, ◌++◌, length, drop, replicate, slice_index_or, slice_set, if◌then◌else◌};
 ghost use Rattle.vm_arithmetic.specs.Arithmetic.{succeeds};
 ghost use Rattle.cap_bare.specs.Machine.{acted, frame, leads, top_of_stack, second};
 

@@ -1,9 +1,8 @@
 ghost use Rattle.std.specs.Prelude.{◌≡◌, ◌≤◌, ◌+◌, ◌↔◌, pos, length, All, Contains, IfOk, IfErr, IfSome, IfNone, IsOk, IsTrue, OnOk};
-ghost use Rattle.cap_bytes.specs.Bytes.{AreBytes};
 ghost use Rattle.jc_decode.specs.Decoding.{FitsLayout};
 ghost use Rattle.jc_decode.specs.Layout.{layout_of};
 ghost use Rattle.jc_decode.specs.Listing.{targets};
-ghost use Rattle.cap_bare.specs.Code.{instructions, IsFirstFlaw, IsFlawKind, IsPlace, IsTarget, IsTargetPlace, IsWellFormed, HasInstruction};
+ghost use Rattle.cap_bare.specs.Code.{instructions, IsFirstFlaw, IsFlawKind, IsPlace, IsTargetPlace, IsWellFormed, HasInstruction};
 ghost use Rattle.cap_bare.specs.Typing.{BareTyping, IsCompact};
 ghost use Rattle.cap_bare.specs.Laws.{LeadsOn};
 ghost use Rattle.cap_bare.specs.Met.{IsRefused};
