@@ -1,5 +1,5 @@
 -- All handlers of a method with one number of the constant pool catch the same class.
-use Rattle.std.proofs.Common.{◌≡◌, ℕ, zero, suc, ◌==◌, Bool, true, false, if◌then◌else◌, List, [], ◌∷◌, refl, sym, ◌∙◌, ap, subst}
+use Rattle.std.proofs.Common.{◌≡◌, ℕ, zero, suc, ◌==◌, Bool, false, if◌then◌else◌, List, [], ◌∷◌, refl, sym, ◌∙◌, ap}
 use Rattle.std.proofs.Common.{arith}
 use Rattle.std.proofs.lemmas.Bool.{eqb-true}
 use Rattle.std.proofs.lemmas.Bool.Decides.{nat_tests}
@@ -21,10 +21,7 @@ first-of :
     → Catches t pool h.index c
     → (b ≡ false → rest ≡ c)
     → (if b then x.class else rest) ≡ c
-first-of t pool length x h c rest true e is a other =
-    let same : x.index ≡ h.index = eqb-true x.index h.index e in
-    one-class t pool h.index x.class c (subst (λ n. Catches t pool n x.class) same is.catches) a
-first-of t pool length x h c rest false e is a other = other refl
+first-of t pool length x h c rest x2 e is a other = grind (arith, eqb-true, one-class)
 
 pub catches-by-pool : CatchesByPool
 catches-by-pool t pool length [] h c all (k, lt, e) a = absurd (omega (arith, lt))

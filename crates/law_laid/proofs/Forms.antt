@@ -1,7 +1,7 @@
 -- Instructions that are the same in one of their forms resolve alike, fall through alike and jump alike.
 use Rattle.std.proofs.Common.{◌≡◌, ◌≢◌, ℕ, ◌<◌, ◌==◌, Bool, true, false, cond, if◌then◌else◌, ℤ, pos, List, [], ◌∷◌, map}
-use Rattle.std.proofs.Common.{get_or, set, Option, Some, None, IfSome, Result, Ok, Err, refl, sym, ◌∙◌, ap, subst, arith}
-use Rattle.std.specs.Prelude.{◌||◌, nat_le, find}
+use Rattle.std.proofs.Common.{get_or, set, Option, Some, None, IfSome, Result, Ok, Err, refl, sym, ◌∙◌, ap, arith}
+use Rattle.std.specs.Prelude.{nat_le, find}
 use Rattle.std.specs.List.{list_all, range_with_len}
 use Rattle.std.proofs.lemmas.Bool.{eqb-true, and_parts}
 use Rattle.std.proofs.lemmas.Bool.Decides.{nat_tests}
@@ -15,10 +15,10 @@ use Rattle.jc_base.specs.Dispatch.{is_concrete}
 use Rattle.jc_base.specs.World.{Linked, member_at}
 use Rattle.jc_decode.specs.declared.insn.Insn.{Insn}
 use Rattle.jc_decode.specs.Cases.{is_switch, has_cases}
-use Rattle.jc_decode.specs.Forms.{essence, with_operand, wide, is_load_n, is_store_n}
+use Rattle.jc_decode.specs.Forms.{essence, with_operand, wide}
 use Rattle.jc_decode.specs.Layout.{Span, spans, is_in_span, is_out_of_scope, opcode_in_span, layout_from, layout_of, opcode}
 use Rattle.jc_decode.specs.declared.layout.Opcode.TheVariants.{Reserved, Unused}
-use Rattle.jc_decode.specs.Listing.{falls, jumps, is_branch}
+use Rattle.jc_decode.specs.Listing.{falls, jumps}
 use Rattle.jc_ops.specs.declared.fault.RuleFault.{RuleFault}
 use Rattle.jc_ops.specs.declared.fault.RuleFault.TheVariants.{NotConcrete}
 use Rattle.jc_ops.specs.declared.operation.Operation.{Operation}
@@ -33,9 +33,7 @@ use Rattle.jc_decode.proofs.Passed.{at-op, by-size}
 
 past-span : (op : ℕ) → 255 < op → (s : Span) (rest : Option Span) (a b : Bool) → nat_le s.last 255 ≡ a → is_in_span op s ≡ b → rest ≡ None
     → a ≡ true → cond b (Some s) rest ≡ None
-past-span op lt s rest true false x y r e = r
-past-span op lt s rest false b x y r e = absurd (cc)
-past-span op lt s rest true true x y r e = absurd (grind (arith, nat_tests, lt, x, y))
+past-span op lt s rest x b x2 y r e = grind (arith, nat_tests)
 
 past-spans : (op : ℕ) → 255 < op → (ss : List Span) → list_all (λ s. nat_le s.last 255) ss ≡ true → find (is_in_span op) ss ≡ None
 past-spans op lt [] e = refl
@@ -54,25 +52,17 @@ past-switch op lt =
     by false = refl
 
 past-jumps : (op : ℕ) → 255 < op → jumps op ≡ false
-past-jumps op lt =
-    let a : is_branch op ≡ false = grind (arith, nat_tests, lt) in
-    ap (λ b. b || is_switch op) a ∙ past-switch op lt
+past-jumps op lt = grind (arith, nat_tests, past-switch)
 
 neither : (c d : Bool) (x y i : Insn) → c ≡ false → d ≡ false → (if c then x else if d then y else i) ≡ i
-neither true d x y i a b = absurd (cc)
-neither false true x y i a b = absurd (cc)
-neither false false x y i a b = refl
+neither x d x2 y i a b = grind (arith)
 
 past-form : (i : Insn) → 255 < i.op → with_operand i ≡ i
-past-form i lt =
-    let a : is_load_n i.op ≡ false = grind (arith, nat_tests, lt) in
-    let b : is_store_n i.op ≡ false = grind (arith, nat_tests, lt) in
-    neither (is_load_n i.op) (is_store_n i.op) _ _ i a b
+past-form i lt = grind (arith, nat_tests, neither)
 
 plain-essence : (i j : Insn) (b : Bool) → b ≡ false → j ≡ i
     → (if b then record i { op = wide i.op; x = pos 0; len = 0 } else record j { len = 0 }) ≡ record i { len = 0 }
-plain-essence i j true x y = absurd (cc)
-plain-essence i j false x y = subst (λ (k : Insn). record k { len = 0 } ≡ record i { len = 0 }) (sym y) refl
+plain-essence i j x x2 y = grind (arith)
 
 past-essence : (i : Insn) → 255 < i.op → essence i ≡ record i { len = 0 }
 past-essence i lt = plain-essence i (with_operand i) (jumps i.op) (past-jumps i.op lt) (past-form i lt)
@@ -176,8 +166,7 @@ module _ (w : Linked) (m : MethodRec) where
 
   -- what resolves alike at two places is no `new`
   no-new : (f : ℕ → ℕ) (op : Operation) → IsSound w m 0 op → IsSound w m 1 op → operation_renamed f op ≡ op
-  no-new f (ops.New p c) a b = absurd (omega (arith, a.0, b.0))
-  no-new f _ a b = refl
+  no-new f x a b = grind (arith)
 
   module _ (sound : OperationsAreSound w) (declared : IfSome m.sig.result (IsDeclared w.classes)) where
     -- at another place of it an instruction has the operation that makes its objects there

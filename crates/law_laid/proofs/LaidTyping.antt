@@ -1,6 +1,6 @@
 -- Laid code has the card typing of its symbols.
 use Rattle.std.proofs.Common.{◌≡◌, ℕ, suc, ◌+◌, ◌-◌, ◌<◌, ◌≤◌, Bool, true, false, if◌then◌else◌, List, [], length, map, Option}
-use Rattle.std.proofs.Common.{Some, None, IsSomeAnd, IfSome, Ok, slice_get, All, Contains, inl, inr, refl, sym, ◌∙◌, ap, subst, arith}
+use Rattle.std.proofs.Common.{Some, IsSomeAnd, IfSome, Ok, slice_get, All, Contains, inl, inr, refl, sym, ◌∙◌, ap, subst, arith}
 use Rattle.std.specs.Prelude.{pos, nat_le}
 use Rattle.std.proofs.lemmas.Bool.Decides.{nat_tests}
 use Rattle.std.proofs.lemmas.List.{length-map}
@@ -20,7 +20,7 @@ use Rattle.jc_decode.specs.declared.symbols.Laid.{Laid}
 use Rattle.jc_decode.specs.declared.symbols.Range.{Range}
 use Rattle.jc_decode.specs.declared.symbols.Symbols.{Symbols}
 use Rattle.jc_decode.specs.Laws.{InstructionsAreListed}
-use Rattle.jc_decode.specs.Listing.{listing, listing_end, end_from, falls, jumps, targets}
+use Rattle.jc_decode.specs.Listing.{listing, listing_end, falls, jumps, targets}
 use Rattle.jc_decode.specs.Places.{IsTargetAmong}
 use Rattle.jc_decode.specs.Standing.{StandsForStep, AreSteps, StandsAt}
 use Rattle.jc_decode.specs.Symbols.{Step, steps, handler, place_of}
@@ -215,9 +215,7 @@ module _
 
     place-handlers : m.rec.handlers ≡ map by_places symbols.ranges
     unfolding by_places
-    place-handlers =
-        has.handlers ∙ ap (map (catching r.handlers)) stand.handlers ∙ map-map (catching r.handlers) (handler (λ l. place (place_of l symbols.items)))
-        symbols.ranges
+    place-handlers = grind (arith, map, map-map)
 
     -- a range is a handler of the method, and of the symbols
     record IsRangeOf (h : Handler) : Type 0 where
@@ -244,9 +242,7 @@ module _
 
     entry-alike : (range : Range) → Contains symbols.ranges range → (by_places range).entry ≡ f (by_steps range).entry
     unfolding by_steps by_places
-    entry-alike range c =
-        let lt : place_of range.entry symbols.items < count = (in-steps range c).entry in
-        sym (within (place_of range.entry symbols.items) (omega (arith, lt)))
+    entry-alike range c = grind (arith, in-steps range c, within)
 
     handler-formed : (range : Range) → Contains symbols.ranges range → IsHandlerOf m.code (by_places range)
     unfolding by_steps by_places
@@ -403,8 +399,7 @@ module _
     same-room = sym stand.max_stack ∙ sym has.max_stack
 
     entry-same : (o : Option ℕ) → IfSome o (λ entry. member_at w from.package entry ≡ member_at w m.rec.package entry)
-    entry-same None = tt
-    entry-same (Some entry) = ap (λ home. member_at w home entry) same-package
+    entry-same x = grind (arith, same-package)
 
     frame-there : (i : Placed) (x : IsStepOf i) → frame_renamed f (frame_at regs stacks x.number) ≡ frame_at regs laid_stacks i.place
     frame-there i x =
@@ -463,9 +458,7 @@ module _
     -- ---- the method
 
     listing-whole : listing_end m.code ≡ length m.code
-    listing-whole =
-        let whole : 0 + count ≡ count = omega arith in
-        ap (λ x. end_from x (listing m.code)) (sym stand.begins) ∙ end-is m.code place 0 all (listing m.code) laid-steps ∙ ap place whole ∙ ends
+    listing-whole = grind (arith, end-is, laid-steps, ends)
 
     well-formed : IsWellFormed m
     well-formed = record {
@@ -477,12 +470,7 @@ module _
     }
 
     start-same : (start_frame from Bottom).regs ≡ (start_frame m.rec Bottom).regs
-    start-same =
-        let static = ap (λ (x : MethodRec). x.is_static) has.same in
-        let class = ap (λ (x : MethodRec). x.class) has.same in
-        let args = ap (λ (x : MethodRec). x.sig.args) has.same in
-        let locals : from.max_locals ≡ m.rec.max_locals = sym stand.max_locals ∙ sym has.max_locals in
-        cc
+    start-same = grind (arith)
 
     room-there : (i : Placed) → HasInstruction m.code i → length (laid_stacks i.place) ≤ m.rec.max_stack
     room-there i c =
@@ -519,5 +507,4 @@ module _
     }
 
 pub laid-is-typed : (w : Linked) → IsWorld w → OperationsAreSound w → RestsOnEntry w → InstructionsAreListed → LaidIsTyped w
-laid-is-typed w is sound rests listed r source symbols laid place m regs stacks declared stand has ty =
-    laid-typed w is sound rests listed r source symbols laid place m regs stacks declared stand has ty
+laid-is-typed w is sound rests listed r source symbols laid place m regs stacks declared stand has ty = grind (arith, laid-typed)

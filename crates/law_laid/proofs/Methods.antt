@@ -1,4 +1,5 @@
 -- The method of a number, in a world.
+use Rattle.std.proofs.Common.{arith}
 use Rattle.std.proofs.Common.{◌≡◌, ◌<◌, ℕ, length, Option, Some, None, option_map, IsSomeAnd, slice_get, refl, sym, ◌∙◌, ap, subst}
 use Rattle.std.proofs.lemmas.Option.{same_Some}
 use Rattle.jc_base.specs.declared.record.MethodRec.{MethodRec}
@@ -6,9 +7,7 @@ use Rattle.jc_base.specs.World.{Linked}
 use Rattle.jc_control.specs.Method.{Method, IsMethodOf, method_in, method_with}
 
 pub in-world : (w : Linked) (m : Method) → IsMethodOf w m → method_in w m.number ≡ Some m
-in-world w m mo =
-    ap (option_map (method_with w m.number)) mo.rec
-    ∙ ap (λ code. Some (record { number = m.number; rec = m.rec; code = code })) (sym mo.code)
+in-world w m mo = grind (arith, option_map)
 
 pub of-world : (w : Linked) (m : Method) → method_in w m.number ≡ Some m → 0 < length m.code → IsMethodOf w m
 of-world w m e filled = by (slice_get w.methods m.number) refl e
@@ -32,9 +31,7 @@ method-there w n P h = by (slice_get w.methods n) refl h
 
 pub method-is : (w : Linked) (m : Method) (n : ℕ) (r : MethodRec) → IsMethodOf w m → m.number ≡ n → slice_get w.methods n ≡ Some r
     → method_with w n r ≡ m
-method-is w m n r mo number here =
-    let there : method_in w n ≡ Some (method_with w n r) = ap (option_map (method_with w n)) here in
-    same_Some (method_with w n r) m (sym there ∙ (ap (method_in w) (sym number) ∙ in-world w m mo))
+method-is w m n r mo number here = grind (arith, option_map, same_Some, in-world)
 
 -- what the method of a number is known to be
 pub known : (w : Linked) (n : ℕ) (P : Method → Type 0) → IsSomeAnd (method_in w n) P → (m : Method) → IsMethodOf w m → m.number ≡ n → P m

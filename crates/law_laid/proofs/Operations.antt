@@ -9,7 +9,7 @@ use Rattle.std.proofs.lemmas.List.Folds.{list_all-append}
 use Rattle.std.proofs.Math.ListN.{get_or-map}
 use Rattle.jc_base.proofs.Lists.{All-reverse, All-slice_get}
 use Rattle.jc_base.specs.declared.ty.Ty.{Ty}
-use Rattle.jc_base.specs.declared.ty.Ty.TheVariants.{IntHigh, IntLow, Class, Fresh, Top}
+use Rattle.jc_base.specs.declared.ty.Ty.TheVariants.{IntHigh, IntLow, Class, Top}
 use Rattle.jc_base.specs.declared.ty.Kind.TheVariants as kinds
 use Rattle.jc_base.specs.declared.record.MethodRec.{MethodRec}
 use Rattle.jc_base.specs.Cell.{IsDeclared}
@@ -35,16 +35,14 @@ use Rattle.jc_ops.specs.declared.want.Want.TheVariants.{Value, Receiver}
 use Rattle.jc_ops.specs.Next.{falls_from, ends_at}
 use Rattle.jc_ops.specs.Sound.{IsReceiverOf, IsChosen, IsCalleeOf, IsNamedType, IsSound}
 use Rattle.jc_rules.specs.declared.demand.Demand.{Demand}
-use Rattle.jc_rules.specs.declared.demand.Demand.TheVariants.{Cell, Held}
 use Rattle.jc_rules.specs.declared.effect.Cells.{Cells}
 use Rattle.jc_rules.specs.declared.effect.Cells.TheVariants as given
-use Rattle.jc_rules.specs.declared.effect.Change.TheVariants.{Replace, MakeReady}
 use Rattle.jc_rules.specs.declared.effect.Mode.TheVariants.{Flow}
 use Rattle.jc_rules.specs.declared.rule.Outcome.{Outcome}
-use Rattle.jc_rules.specs.Effect.{changed, reg, WritesRegister, WritesCells, StoresInRegisters}
+use Rattle.jc_rules.specs.Effect.{changed, WritesRegister, WritesCells, StoresInRegisters}
 use Rattle.jc_rules.specs.Demand.{Frame, SatisfiesAll}
-use Rattle.jc_rules.specs.Rule.{cell, or_null, element, value_given, value_wanted, value_size, cells_wanted, receiver_wanted, call_demands, result_given}
-use Rattle.jc_rules.specs.Rule.{ready_with, call_effect, args_at, result_at, seen, demands, effect, wrote}
+use Rattle.jc_rules.specs.Rule.{cell, or_null, element, value_given, value_wanted, cells_wanted, receiver_wanted, call_demands, result_given}
+use Rattle.jc_rules.specs.Rule.{ready_with, call_effect, args_at, seen, demands, effect, wrote}
 use Rattle.jc_rules.specs.Apply.{OperationApplies}
 use Rattle.law_laid.specs.Laid.{renamed}
 use Rattle.law_laid.proofs.Renaming.{is_ready, ready_demand, are_ready, frame_renamed, given_renamed, effect_renamed, change_renamed, ready-stays, all-renamed}
@@ -53,12 +51,10 @@ use Rattle.law_laid.proofs.Renaming.{changed-renamed}
 -- ---- what is asked names no uninitialised object
 
 declared-ready : (t : ClassTable) (ty : Ty) → IsDeclared t ty → is_ready ty ≡ true
-declared-ready t (Fresh p c) h = absurd h
-declared-ready t _ h = refl
+declared-ready t x h = grind (arith)
 
 named-ready : (t : ClassTable) (ty : Ty) → IsNamedType t ty → is_ready ty ≡ true
-named-ready t (Fresh p c) h = absurd h
-named-ready t _ h = refl
+named-ready t x h = grind (arith)
 
 array-ready : (ty : Ty) → IsArray ty → is_ready ty ≡ true
 array-ready _ of_booleans = refl
@@ -68,12 +64,10 @@ array-ready _ of_ints = refl
 array-ready _ of_references = refl
 
 seen-ready : (t : ClassTable) (ty : Ty) → is_ready ty ≡ true → is_ready (seen t ty) ≡ true
-seen-ready t (Fresh p c) r = absurd (cc)
-seen-ready t _ r = refl
+seen-ready t x r = grind (arith)
 
 value-ready : (ty : Ty) → is_ready ty ≡ true → are_ready (value_wanted ty) ≡ true
-value-ready (Fresh p c) r = absurd (cc)
-value-ready _ r = refl
+value-ready x r = grind (arith)
 
 both-ready : (ds es : List Demand) → are_ready ds ≡ true → are_ready es ≡ true → are_ready (ds ++ es) ≡ true
 both-ready ds es a b = list_all-append ready_demand ds es ∙ ap (λ x. x && list_all ready_demand es) a ∙ b
@@ -109,62 +103,7 @@ module _ (w : Linked) where
         (receiver-ready h.rec (length h.rec.sig.args) c.method c.receiver c.choice h.chosen))
 
     pub demands-ready : (m : MethodRec) (place : ℕ) (op : Operation) → IsSound w m place op → are_ready (demands w op) ≡ true
-    demands-ready m place (ops.Constant c) h = refl
-    demands-ready m place (ops.Load sorts.Reference x) h = refl
-    demands-ready m place (ops.Load sorts.Short x) h = refl
-    demands-ready m place (ops.Load sorts.Int x) h = refl
-    demands-ready m place (ops.Store sorts.Reference x) h = refl
-    demands-ready m place (ops.Store sorts.Short x) h = refl
-    demands-ready m place (ops.Store sorts.Int x) h = refl
-    demands-ready m place (ops.Increment widths.Short x amount) h = refl
-    demands-ready m place (ops.Increment widths.Int x amount) h = refl
-    demands-ready m place (ops.Move moves.Pop) h = refl
-    demands-ready m place (ops.Move moves.PopTwo) h = refl
-    demands-ready m place (ops.Move moves.Duplicate) h = refl
-    demands-ready m place (ops.Move moves.DuplicateTwo) h = refl
-    demands-ready m place (ops.Move (moves.CopyUnder copied under)) h = refl
-    demands-ready m place (ops.Move (moves.Exchange top under)) h = refl
-    demands-ready m place (ops.Arithmetic (arithmetic.Binary o widths.Short)) h = refl
-    demands-ready m place (ops.Arithmetic (arithmetic.Binary o widths.Int)) h = refl
-    demands-ready m place (ops.Arithmetic (arithmetic.Negate widths.Short)) h = refl
-    demands-ready m place (ops.Arithmetic (arithmetic.Negate widths.Int)) h = refl
-    demands-ready m place (ops.Arithmetic arithmetic.ShortToByte) h = refl
-    demands-ready m place (ops.Arithmetic arithmetic.ShortToInt) h = refl
-    demands-ready m place (ops.Arithmetic arithmetic.IntToByte) h = refl
-    demands-ready m place (ops.Arithmetic arithmetic.IntToShort) h = refl
-    demands-ready m place (ops.Arithmetic arithmetic.CompareInts) h = refl
-    demands-ready m place (ops.ArrayRead kinds.Ref) h = refl
-    demands-ready m place (ops.ArrayRead kinds.Byte) h = refl
-    demands-ready m place (ops.ArrayRead kinds.Short) h = refl
-    demands-ready m place (ops.ArrayRead kinds.Int) h = refl
-    demands-ready m place (ops.ArrayWrite kinds.Ref) h = refl
-    demands-ready m place (ops.ArrayWrite kinds.Byte) h = refl
-    demands-ready m place (ops.ArrayWrite kinds.Short) h = refl
-    demands-ready m place (ops.ArrayWrite kinds.Int) h = refl
-    demands-ready m place ops.ArrayLength h = refl
-    demands-ready m place (ops.Branch branches.Always) h = refl
-    demands-ready m place (ops.Branch (branches.Zero o)) h = refl
-    demands-ready m place (ops.Branch (branches.Null e)) h = refl
-    demands-ready m place (ops.Branch (branches.References e)) h = refl
-    demands-ready m place (ops.Branch (branches.Shorts o)) h = refl
-    demands-ready m place (ops.Switch widths.Short) h = refl
-    demands-ready m place (ops.Switch widths.Int) h = refl
-    demands-ready m place (ops.StaticRead field) h = refl
-    demands-ready m place (ops.StaticWrite field) h = value-ready field.ty (declared-ready w.classes field.ty h.ty)
-    demands-ready m place (ops.FieldRead field holders.Stack) h = refl
-    demands-ready m place (ops.FieldRead field holders.This) h = refl
-    demands-ready m place (ops.FieldWrite field holders.Stack) h =
-        both-ready (value_wanted field.ty) (Cell (value_size field.ty) (Value (Class field.class)) ∷ [])
-        (value-ready field.ty (declared-ready w.classes field.ty h.ty)) refl
-    demands-ready m place (ops.FieldWrite field holders.This) h =
-        both-ready (value_wanted field.ty) (Held 0 (Class field.class) ∷ []) (value-ready field.ty (declared-ready w.classes field.ty h.ty)) refl
-    demands-ready m place (ops.Call c) h = call-ready c h
-    demands-ready m place (ops.New p c) h = refl
-    demands-ready m place (ops.NewArray ty) h = refl
-    demands-ready m place ops.Throw h = refl
-    demands-ready m place (ops.TypeTest test ty) h = refl
-    demands-ready m place (ops.Return None) h = refl
-    demands-ready m place (ops.Return (Some ty)) h = value-ready ty (declared-ready w.classes ty h.1.declared)
+    demands-ready m place x h = grind (arith, value-ready, declared-ready, both-ready, call-ready)
 
 -- ---- what is done, with renamed places
 
@@ -175,37 +114,27 @@ operation_renamed f op = op
 
 module _ (f : ℕ → ℕ) where
   given-stays : (ty : Ty) → is_ready ty ≡ true → given_renamed f (value_given ty) ≡ value_given ty
-  given-stays (Fresh p c) r = absurd (cc)
-  given-stays _ r = refl
+  given-stays x r = grind (arith)
 
   null-alike : (ty : Ty) → or_null (renamed f ty) ≡ renamed f (or_null ty)
-  null-alike (Fresh p c) = refl
-  null-alike _ = refl
+  null-alike x = grind (arith)
 
   element-alike : (ty : Ty) → element (renamed f ty) ≡ renamed f (element ty)
-  element-alike (Fresh p c) = refl
-  element-alike _ = refl
+  element-alike x = grind (arith)
 
   cell-alike : (xs : List Ty) (n : ℕ) → cell (map (renamed f) xs) n ≡ renamed f (cell xs n)
   cell-alike xs n = get_or-map (renamed f) xs n Top
 
   ready-with-alike : (taken : ℕ) (cells : Cells) (ty : Ty) (want : Want) → given_renamed f cells ≡ cells
       → ready_with taken cells (renamed f ty) want ≡ change_renamed f (ready_with taken cells ty want)
-  ready-with-alike taken cells (Fresh p c) (Receiver d) e = ap (λ x. MakeReady taken (f p) d x) (sym e)
-  ready-with-alike taken cells (Fresh p c) _ e = ap (λ x. Replace taken x) (sym e)
-  ready-with-alike taken cells _ _ e = ap (λ x. Replace taken x) (sym e)
+  ready-with-alike taken cells x x2 e = grind (arith)
 
   call-alike : (args : List Ty) (result : Option Ty) (receiver : Option Want) (g : Frame) → given_renamed f (result_given result) ≡ result_given result
       → call_effect args result receiver (frame_renamed f g) ≡ effect_renamed f (call_effect args result receiver g)
-  call-alike args result None g e = ap (λ x. record { change = Replace (length args) x; store = record { register = 0; cells = given.Nothing } }) (sym e)
-  call-alike args result (Some want) g e =
-      ap (λ x. record { change = x; store = record { register = 0; cells = given.Nothing } })
-      (ap (λ ty. ready_with (length args + 1) (result_given result) ty want) (cell-alike g.stack (length args))
-      ∙ ready-with-alike (length args + 1) (result_given result) (cell g.stack (length args)) want e)
+  call-alike args result x g e = grind (arith, length, cell-alike, ready-with-alike)
 
   result-stays : (t : ClassTable) (result : Option Ty) → IfSome result (IsDeclared t) → given_renamed f (result_given result) ≡ result_given result
-  result-stays t None h = refl
-  result-stays t (Some ty) h = given-stays ty (declared-ready t ty h)
+  result-stays t x h = grind (arith, given-stays, declared-ready)
 
   module _ (w : Linked) (is : IsWorld w) where
     effect-alike : (m : MethodRec) (place : ℕ) (op : Operation) (g : Frame) → IsSound w m place op
@@ -214,13 +143,10 @@ module _ (f : ℕ → ℕ) where
     effect-alike m place (ops.Constant constants.Null) g h = refl
     effect-alike m place (ops.Constant (constants.Short n)) g h = refl
     effect-alike m place (ops.Constant (constants.Int n)) g h = refl
-    effect-alike m place (ops.Load sorts.Reference x) g h =
-        ap (λ ty. record { change = Replace 0 (given.One ty); store = record { register = 0; cells = given.Nothing } })
-        (ap or_null (cell-alike g.regs x) ∙ null-alike (reg g.regs x))
+    effect-alike m place (ops.Load sorts.Reference x) g h = grind (arith, cell-alike, null-alike)
     effect-alike m place (ops.Load sorts.Short x) g h = refl
     effect-alike m place (ops.Load sorts.Int x) g h = refl
-    effect-alike m place (ops.Store sorts.Reference x) g h =
-        ap (λ ty. record { change = Replace 1 given.Nothing; store = record { register = x; cells = given.One ty } }) (cell-alike g.stack 0)
+    effect-alike m place (ops.Store sorts.Reference x) g h = grind (arith, cell-alike)
     effect-alike m place (ops.Store sorts.Short x) g h = refl
     effect-alike m place (ops.Store sorts.Int x) g h = refl
     effect-alike m place (ops.Increment widths.Short x amount) g h = refl
@@ -240,9 +166,7 @@ module _ (f : ℕ → ℕ) where
     effect-alike m place (ops.Arithmetic arithmetic.IntToByte) g h = refl
     effect-alike m place (ops.Arithmetic arithmetic.IntToShort) g h = refl
     effect-alike m place (ops.Arithmetic arithmetic.CompareInts) g h = refl
-    effect-alike m place (ops.ArrayRead kinds.Ref) g h =
-        ap (λ ty. record { change = Replace 2 (given.One ty); store = record { register = 0; cells = given.Nothing } })
-        (ap element (cell-alike g.stack 1) ∙ element-alike (cell g.stack 1))
+    effect-alike m place (ops.ArrayRead kinds.Ref) g h = grind (arith, cell-alike, element-alike)
     effect-alike m place (ops.ArrayRead kinds.Byte) g h = refl
     effect-alike m place (ops.ArrayRead kinds.Short) g h = refl
     effect-alike m place (ops.ArrayRead kinds.Int) g h = refl
@@ -258,61 +182,38 @@ module _ (f : ℕ → ℕ) where
     effect-alike m place (ops.Branch (branches.Shorts o)) g h = refl
     effect-alike m place (ops.Switch widths.Short) g h = refl
     effect-alike m place (ops.Switch widths.Int) g h = refl
-    effect-alike m place (ops.StaticRead field) g h =
-        ap (λ x. record { change = Replace 0 x; store = record { register = 0; cells = given.Nothing } })
-        (sym (given-stays field.ty (declared-ready w.classes field.ty h.ty)))
+    effect-alike m place (ops.StaticRead field) g h = grind (arith, given-stays, declared-ready)
     effect-alike m place (ops.StaticWrite field) g h = refl
-    effect-alike m place (ops.FieldRead field holders.Stack) g h =
-        ap (λ x. record { change = Replace 1 x; store = record { register = 0; cells = given.Nothing } })
-        (sym (given-stays field.ty (declared-ready w.classes field.ty h.ty)))
-    effect-alike m place (ops.FieldRead field holders.This) g h =
-        ap (λ x. record { change = Replace 0 x; store = record { register = 0; cells = given.Nothing } })
-        (sym (given-stays field.ty (declared-ready w.classes field.ty h.ty)))
+    effect-alike m place (ops.FieldRead field holders.Stack) g h = grind (arith, given-stays, declared-ready)
+    effect-alike m place (ops.FieldRead field holders.This) g h = grind (arith, given-stays, declared-ready)
     effect-alike m place (ops.FieldWrite field holders.Stack) g h = refl
     effect-alike m place (ops.FieldWrite field holders.This) g h = refl
-    effect-alike m place (ops.Call c) g h =
-        subst
-        (λ o. call_effect (args_at o) (result_at o) c.receiver (frame_renamed f g) ≡ effect_renamed f
-        (call_effect (args_at o) (result_at o) c.receiver g)) (sym h.is_method)
-        (call-alike h.rec.sig.args h.rec.sig.result c.receiver g (result-stays w.classes h.rec.sig.result (method_of w is c.method h.rec h.is_method).result))
+    effect-alike m place (ops.Call c) g h = grind (arith, call-alike, result-stays, method_of)
     effect-alike m place (ops.New p c) g h = refl
-    effect-alike m place (ops.NewArray ty) g h =
-        ap (λ x. record { change = Replace 1 (given.One x); store = record { register = 0; cells = given.Nothing } })
-        (sym (ready-stays f (seen w.classes ty) (seen-ready w.classes ty (array-ready ty h.0))))
+    effect-alike m place (ops.NewArray ty) g h = grind (arith, ready-stays, seen-ready, array-ready)
     effect-alike m place ops.Throw g h = refl
-    effect-alike m place (ops.TypeTest tests.Cast ty) g h =
-        ap (λ x. record { change = Replace 1 (given.One x); store = record { register = 0; cells = given.Nothing } })
-        (sym (ready-stays f (seen w.classes ty) (seen-ready w.classes ty (named-ready w.classes ty h))))
+    effect-alike m place (ops.TypeTest tests.Cast ty) g h = grind (arith, ready-stays, seen-ready, named-ready)
     effect-alike m place (ops.TypeTest tests.InstanceOf ty) g h = refl
     effect-alike m place (ops.Return None) g h = refl
     effect-alike m place (ops.Return (Some ty)) g h = refl
 
     demands-alike : (op : Operation) → demands w (operation_renamed f op) ≡ demands w op
-    demands-alike (ops.New p c) = refl
-    demands-alike _ = refl
+    demands-alike x = grind (arith)
 
     falls-alike : (op : Operation) → falls_from (operation_renamed f op) ≡ falls_from op
-    falls-alike (ops.New p c) = refl
-    falls-alike _ = refl
+    falls-alike x = grind (arith)
 
     ends-alike : (op : Operation) → ends_at (operation_renamed f op) ≡ ends_at op
-    ends-alike (ops.New p c) = refl
-    ends-alike _ = refl
+    ends-alike x = grind (arith)
 
     wrote-alike : (x : ℕ) (cells : Cells) → wrote x (given_renamed f cells) ≡ wrote x cells
-    wrote-alike x given.Nothing = refl
-    wrote-alike x (given.One ty) = refl
-    wrote-alike x given.Int = refl
+    wrote-alike x x2 = grind (arith)
 
     -- ---- stores
 
     writes-renamed : (t : ClassTable) (x : ℕ) (ty : Ty) (before after : List Ty) → WritesRegister t Flow x ty before after
         → WritesRegister t Flow x (renamed f ty) (map (renamed f) before) (map (renamed f) after)
-    writes-renamed t x ty before after h = record {
-      value = renamed f h.value;
-      stored = ap (renamed f) h.stored;
-      after_is = ap (map (renamed f)) h.after_is ∙ map-set (renamed f) before x h.value;
-    }
+    writes-renamed t x ty before after h = grind (arith, map, map-set)
 
     stores-renamed : (t : ClassTable) (x : ℕ) (cells : Cells) (before after : List Ty) → WritesCells t Flow x cells before after
         → WritesCells t Flow x (given_renamed f cells) (map (renamed f) before) (map (renamed f) after)

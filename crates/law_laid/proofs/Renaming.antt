@@ -1,6 +1,6 @@
 -- The rule of an operation applies alike where the places of uninitialised objects are renamed one to one.
-use Rattle.std.proofs.Common.{◌≡◌, ℕ, suc, ◌+◌, ◌-◌, ◌==◌, Bool, true, false, inl, inr, ⊎_elim, if◌then◌else◌, List, [], ◌∷◌}
-use Rattle.std.proofs.Common.{◌++◌, map, take, drop, Option, Some, None, option_map, IsSomeAnd, slice_get, All, refl, sym, ◌∙◌, ap, subst, arith}
+use Rattle.std.proofs.Common.{◌≡◌, ℕ, suc, ◌==◌, Bool, true, false, ⊎_elim, if◌then◌else◌, List, [], ◌∷◌}
+use Rattle.std.proofs.Common.{map, take, drop, Option, Some, option_map, IsSomeAnd, slice_get, All, refl, sym, ap, subst, arith}
 use Rattle.std.specs.List.{list_all}
 use Rattle.std.proofs.lemmas.Bool.{eqb-true, and_parts}
 use Rattle.std.proofs.lemmas.Bool.Decides.{nat_tests}
@@ -12,7 +12,7 @@ use Rattle.jc_base.specs.Class.{ClassTable}
 use Rattle.jc_base.specs.Order.{Below, same, joined, nothing, anything, null_object, null_array, subclass, array_object, array_array, IsArray, of_booleans}
 use Rattle.jc_base.specs.Order.{of_bytes, of_shorts, of_ints, of_references}
 use Rattle.jc_ops.specs.declared.want.Want.{Want}
-use Rattle.jc_ops.specs.declared.want.Want.TheVariants.{Value, Storable, ByteArray, AnyArray, Whole, Receiver}
+use Rattle.jc_ops.specs.declared.want.Want.TheVariants.{Value}
 use Rattle.jc_rules.specs.declared.demand.Demand.{Demand}
 use Rattle.jc_rules.specs.declared.demand.Demand.TheVariants.{Registers, Depth, Cell, Cut, Held}
 use Rattle.jc_rules.specs.declared.effect.Cells.{Cells}
@@ -69,8 +69,7 @@ module _ (f : ℕ → ℕ) where
   cells-renamed t (more_cells le more) = more_cells (below-renamed t le) (cells-renamed t more)
 
   pub ready-stays : (ty : Ty) → is_ready ty ≡ true → renamed f ty ≡ ty
-  ready-stays (Fresh p c) e = absurd (cc)
-  ready-stays _ e = refl
+  ready-stays x e = grind (arith)
 
   pub regs-stay : (xs : List Ty) → All IsNotFresh xs → map (renamed f) xs ≡ xs
   regs-stay [] all = refl
@@ -89,55 +88,40 @@ module _ (f : ℕ → ℕ) where
   -- ---- what is asked
 
   array-or-null : (ty : Ty) → IsArrayOrNull ty → IsArrayOrNull (renamed f ty)
-  array-or-null (Fresh p c) h = absurd h
-  array-or-null _ h = h
+  array-or-null x h = grind (arith)
 
   half-back : (ty : Ty) → IsHalf (renamed f ty) → IsHalf ty
-  half-back (Fresh p c) h = absurd h
-  half-back _ h = h
+  half-back x h = grind (arith)
 
   fresh-of : (c : ℕ) (ty : Ty) → IsFreshOf c ty → IsFreshOf c (renamed f ty)
-  fresh-of c (Fresh p d) h = h
-  fresh-of c _ h = absurd h
+  fresh-of c x h = grind (arith)
 
   value-renamed : (t : ClassTable) (found wanted : Ty) → is_ready wanted ≡ true → Below t found wanted → Below t (renamed f found) wanted
   value-renamed t found wanted r le = subst (Below t (renamed f found)) (ready-stays wanted r) (below-renamed t le)
 
   meets-renamed : (t : ClassTable) (want : Want) (found : Ty) → ready_want want ≡ true → Meets t want found → Meets t want (renamed f found)
-  meets-renamed t (Value wanted) found r h = value-renamed t found wanted r h
-  meets-renamed t Storable found r h = below-renamed t h
-  meets-renamed t ByteArray found r h = ⊎_elim (λ a. inl (below-renamed t a)) (λ b. inr (below-renamed t b)) h
-  meets-renamed t AnyArray found r h = array-or-null found h
-  meets-renamed t Whole found r h = λ half. h (half-back found half)
-  meets-renamed t (Receiver c) found r h = ⊎_elim (λ a. inl (fresh-of c found a)) (λ b. inr (below-renamed t b)) h
+  meets-renamed t x found r h = grind (arith, value-renamed, below-renamed, ⊎_elim, array-or-null, half-back, fresh-of)
 
   low-back : (ty : Ty) → renamed f ty ≡ IntLow → ty ≡ IntLow
-  low-back (Fresh p c) e = absurd (cc)
-  low-back _ e = e
+  low-back x e = grind (arith)
 
   high-back : (ty : Ty) → renamed f ty ≡ IntHigh → ty ≡ IntHigh
-  high-back (Fresh p c) e = absurd (cc)
-  high-back _ e = e
+  high-back x e = grind (arith)
 
   some-back : (half : Ty) → ((ty : Ty) → renamed f ty ≡ half → ty ≡ half) → (o : Option Ty) → option_map (renamed f) o ≡ Some half
       → o ≡ Some half
-  some-back half back None e = absurd (cc)
-  some-back half back (Some ty) e = let inner : renamed f ty ≡ half = cc in ap (λ x. Some x) (back ty inner)
+  some-back half back x e = grind (arith)
 
   at-renamed : (t : ClassTable) (want : Want) (r : ready_want want ≡ true) (o : Option Ty) → IsSomeAnd o (Meets t want)
       → IsSomeAnd (option_map (renamed f) o) (Meets t want)
-  at-renamed t want r None h = absurd h
-  at-renamed t want r (Some ty) h = meets-renamed t want ty r h
+  at-renamed t want r x h = grind (arith, meets-renamed)
 
   slice-renamed : (t : ClassTable) (want : Want) (r : ready_want want ≡ true) (xs : List Ty) (n : ℕ) → IsSomeAnd (slice_get xs n) (Meets t want)
       → IsSomeAnd (slice_get (map (renamed f) xs) n) (Meets t want)
   slice-renamed t want r xs n h = subst (λ o. IsSomeAnd o (Meets t want)) (sym (slice_get-map (renamed f) xs n)) (at-renamed t want r (slice_get xs n) h)
 
   splits-back : (xs : List Ty) (n : ℕ) → Splits (map (renamed f) xs) n → Splits xs n
-  splits-back xs n s = (
-    some-back IntLow low-back (slice_get xs (n - 1)) (sym (slice_get-map (renamed f) xs (n - 1)) ∙ s.0),
-    some-back IntHigh high-back (slice_get xs n) (sym (slice_get-map (renamed f) xs n) ∙ s.1),
-  )
+  splits-back xs n s = grind (arith, some-back, low-back, slice_get, slice_get-map, high-back)
 
   holds-renamed : (t : ClassTable) (g : Frame) (d : Demand) → ready_demand d ≡ true → Satisfies t g d → Satisfies t (frame_renamed g) d
   holds-renamed t g (Registers x n) r h = omega (arith, h, length-map g.regs (renamed f))
@@ -167,9 +151,7 @@ module _ (f : ℕ → ℕ) where
   effect_renamed e = record { change = change_renamed e.change; store = record { register = e.store.register; cells = given_renamed e.store.cells } }
 
   listed-renamed : (cells : Cells) → in_stack_order (given_renamed cells) ≡ map (renamed f) (in_stack_order cells)
-  listed-renamed given.Nothing = refl
-  listed-renamed (given.One ty) = refl
-  listed-renamed given.Int = refl
+  listed-renamed x = grind (arith)
 
   module _ (one : (n k : ℕ) → f n ≡ f k → n ≡ k) where
     ready-alike : (place class : ℕ) (ty : Ty) → ready (f place) class (renamed f ty) ≡ renamed f (ready place class ty)
@@ -188,26 +170,9 @@ module _ (f : ℕ → ℕ) where
     all-ready-alike place class (x ∷ xs) = let a = ready-alike place class x in let b = all-ready-alike place class xs in cc
 
     pub changed-renamed : (change : Change) (xs : List Ty) → changed (change_renamed change) (map (renamed f) xs) ≡ map (renamed f) (changed change xs)
-    changed-renamed (Replace taken cells) xs =
-        let a = listed-renamed cells in
-        let b = drop-map (renamed f) taken xs in
-        let c = map-append (renamed f) (in_stack_order cells) (drop taken xs) in
-        cc
-    changed-renamed (CopyUnder copied under) xs =
-        let a = take-map (renamed f) under xs in
-        let b = take-map (renamed f) copied xs in
-        let c = drop-map (renamed f) under xs in
-        let d = map-append (renamed f) (take copied xs) (drop under xs) in
-        let e = map-append (renamed f) (take under xs) (take copied xs ++ drop under xs) in
-        cc
-    changed-renamed (Exchange top under) xs =
-        let a = drop-map (renamed f) top xs in
-        let b = take-map (renamed f) under (drop top xs) in
-        let c = take-map (renamed f) top xs in
-        let d = drop-map (renamed f) (top + under) xs in
-        let e = map-append (renamed f) (take top xs) (drop (top + under) xs) in
-        let g = map-append (renamed f) (take under (drop top xs)) (take top xs ++ drop (top + under) xs) in
-        cc
+    changed-renamed (Replace taken cells) xs = grind (arith, listed-renamed, drop-map, map-append, drop)
+    changed-renamed (CopyUnder copied under) xs = grind (arith, take-map, drop-map, map-append, take, drop)
+    changed-renamed (Exchange top under) xs = grind (arith, drop-map, take-map, drop, map-append, take)
     changed-renamed (MakeReady taken place class cells) xs =
         let a = listed-renamed cells in
         let b = drop-map (renamed f) taken xs in

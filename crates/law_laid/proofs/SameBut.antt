@@ -1,39 +1,32 @@
 -- What instructions mean, and what typings ask, is the same in worlds that differ in code alone.
-use Rattle.std.proofs.Common.{◌≡◌, ℕ, ◌+◌, ◌==◌, ◌&&◌, Bool, not, if◌then◌else◌, ℤ, List, [], ◌∷◌, ◌++◌, length, map}
-use Rattle.std.proofs.Common.{take, drop, get_or, Option, Some, None, option_map, Result, Ok, Err, slice_get, IsSomeAnd, refl, sym, ◌∙◌, ap, subst}
-use Rattle.std.specs.Prelude.{nat_lt}
+use Rattle.std.proofs.Common.{arith}
+use Rattle.std.proofs.Common.{◌≡◌, ℕ, Bool, not, ℤ, List, [], ◌∷◌, ◌++◌, length, map}
+use Rattle.std.proofs.Common.{take, drop, get_or, Option, Some, None, option_map, Result, slice_get, IsSomeAnd, refl, sym, ◌∙◌, ap, subst}
 use Rattle.std.proofs.Math.ListN.{get_or-map}
 use Rattle.std.specs.List.{list_all, filter, range_with_len}
 use Rattle.std.proofs.lemmas.Option.{slice_get-map}
 use Rattle.std.proofs.lemmas.List.{length-map}
 use Rattle.jc_base.specs.declared.ty.Ty.{Ty}
-use Rattle.jc_base.specs.declared.ty.Ty.TheVariants.{Class}
 use Rattle.jc_base.specs.declared.record.Member.{Member}
-use Rattle.jc_base.specs.declared.record.Member.TheVariants.{ClassOf, Virtual, Super, StaticCall}
 use Rattle.jc_base.specs.declared.record.MethodRec.{MethodRec}
-use Rattle.jc_base.specs.Class.{is_interface, chain, object}
-use Rattle.jc_base.specs.Dispatch.{entry_at, has_body, has_body_in, all_have_bodies, is_concrete, package_of, public_of, visible_in}
-use Rattle.jc_base.specs.Linked.{lacks_code}
+use Rattle.jc_base.specs.Dispatch.{has_body, has_body_in, all_have_bodies, is_concrete}
 use Rattle.jc_base.specs.World.{Linked, member_at}
 use Rattle.jc_decode.specs.declared.insn.Insn.{Insn}
 use Rattle.jc_decode.specs.declared.insn.Placed.{Placed}
 use Rattle.jc_ops.specs.declared.fault.RuleFault.{RuleFault}
-use Rattle.jc_ops.specs.declared.fault.RuleFault.TheVariants.{BadMember, NotConcrete}
 use Rattle.jc_ops.specs.declared.want.Want.{Want}
-use Rattle.jc_ops.specs.declared.want.Want.TheVariants.{Value}
 use Rattle.jc_ops.specs.declared.operation.Choice.{Choice}
 use Rattle.jc_ops.specs.declared.operation.Choice.TheVariants as choices
 use Rattle.jc_ops.specs.declared.operation.Operation.{Operation}
 use Rattle.jc_ops.specs.declared.operation.Operation.TheVariants as ops
 use Rattle.jc_ops.specs.Row.{table, row_at, unused, by_sort, by_width, by_kind, first_four, by_register, literals, binaries, orders_all, branching}
-use Rattle.jc_ops.specs.Resolve.{byte_of, short_of, taken_if, on, callee_if, entry_callee, virtual_callee, own_receiver, special_callee, static_callee}
-use Rattle.jc_ops.specs.Resolve.{is_described, passes_test, described, only, described_callee, interface_callee, new_object, resolved}
+use Rattle.jc_ops.specs.Resolve.{byte_of, short_of, on, callee_if, entry_callee, virtual_callee, special_callee, static_callee}
+use Rattle.jc_ops.specs.Resolve.{is_described, passes_test, described, described_callee, interface_callee, new_object, resolved}
 use Rattle.jc_control.specs.Method.{Method}
 use Rattle.jc_rules.specs.declared.effect.Mode.{Mode}
 use Rattle.jc_rules.specs.declared.rule.Outcome.{Outcome}
-use Rattle.jc_rules.specs.Demand.{Frame, SatisfiesAll}
-use Rattle.jc_rules.specs.Effect.{StoresInRegisters, raises_register, changed}
-use Rattle.jc_rules.specs.Rule.{call_demands, call_effect, args_at, result_at, demands, effect, wrote}
+use Rattle.jc_rules.specs.Demand.{Frame}
+use Rattle.jc_rules.specs.Rule.{args_at, result_at, demands, effect}
 use Rattle.jc_rules.specs.Apply.{OperationApplies, RuleApplies}
 use Rattle.jc_rules.specs.Flow.{FlowTyping, IsFollowed}
 use Rattle.card_typing.specs.Typing.{Subject, TypingIn, IsTypedIn, code_in_bytes}
@@ -62,10 +55,7 @@ some-alike a b e = cc
 
 asked-alike : {X : Type 0} (f : Option MethodRec → X) → f None ≡ f None → ((a : MethodRec) → f (Some a) ≡ f (Some (apart_from_code a)))
     → (o p : Option MethodRec) → Alike o p → f o ≡ f p
-asked-alike f n s None None e = refl
-asked-alike f n s None (Some b) e = absurd (cc)
-asked-alike f n s (Some a) None e = absurd (cc)
-asked-alike f n s (Some a) (Some b) e = s a ∙ ap (λ m. f (Some m)) (some-alike a b e) ∙ sym (s b)
+asked-alike f n s x x2 e = grind (arith, some-alike)
 
 callee-alike :
     (test : MethodRec → Bool) (receiver : MethodRec → Option Want) (pool n : ℕ) (choice : Choice)
@@ -74,10 +64,7 @@ callee-alike :
     → (o p : Option MethodRec)
     → Alike o p
     → callee_if test pool n o receiver choice ≡ callee_if test pool n p receiver choice
-callee-alike test receiver pool n choice t r o p e =
-    asked-alike (λ x. callee_if test pool n x receiver choice) refl
-    (λ a. ap (λ b. taken_if b pool (record { method = n; receiver = receiver a; choice = choice })) (t a)
-    ∙ ap (λ w. taken_if (test (apart_from_code a)) pool (record { method = n; receiver = w; choice = choice })) (r a)) o p e
+callee-alike test receiver pool n choice t r o p e = grind (arith, asked-alike)
 
 module _ (v : Linked) (infos : List (List ℕ)) (methods : List MethodRec) (indexes : List (Option (List ℕ)))
     (same : map apart_from_code v.methods ≡ map apart_from_code methods) where
@@ -93,29 +80,16 @@ module _ (v : Linked) (infos : List (List ℕ)) (methods : List MethodRec) (inde
   -- ---- operations
 
   entry-same : (pool c token : ℕ) (o : Option ℕ) → entry_callee v pool c token o ≡ entry_callee other pool c token o
-  entry-same pool c token None = refl
-  entry-same pool c token (Some n) =
-      callee-alike (λ m. not (c == object v.classes && m.is_abstract)) (λ m. Some (Value (Class c))) pool n (choices.Virtual c token) (λ a. refl)
-      (λ a. refl) (slice_get v.methods n) (slice_get methods n) (alike-at n)
+  entry-same pool c token x = grind (arith, callee-alike, not, slice_get, alike-at)
 
   virtual-same : (pool : ℕ) (o : Option Member) → virtual_callee v pool o ≡ virtual_callee other pool o
-  virtual-same pool (Some (Virtual c token)) = entry-same pool c token (entry_at v.classes c token)
-  virtual-same pool _ = refl
+  virtual-same pool x = grind (arith, entry-same)
 
   special-same : (pool : ℕ) (o : Option Member) → special_callee v pool o ≡ special_callee other pool o
-  special-same pool (Some (Super c n)) =
-      callee-alike (λ m. not (lacks_code v.classes m)) (λ m. Some (Value (Class c))) pool n choices.Special (λ a. refl) (λ a. refl)
-      (slice_get v.methods n) (slice_get methods n) (alike-at n)
-  special-same pool (Some (StaticCall n)) =
-      callee-alike (λ m. not m.is_static && not (lacks_code v.classes m)) (λ m. Some (own_receiver m)) pool n choices.Special (λ a. refl) (λ a. refl)
-      (slice_get v.methods n) (slice_get methods n) (alike-at n)
-  special-same pool _ = refl
+  special-same pool x = grind (arith, callee-alike, not, slice_get, alike-at)
 
   static-same : (pool : ℕ) (o : Option Member) → static_callee v pool o ≡ static_callee other pool o
-  static-same pool (Some (StaticCall n)) =
-      callee-alike (λ m. m.is_static && not m.is_init && not (lacks_code v.classes m)) (λ m. None) pool n choices.Static (λ a. refl) (λ a. refl)
-      (slice_get v.methods n) (slice_get methods n) (alike-at n)
-  static-same pool _ = refl
+  static-same pool x = grind (arith, callee-alike, not, slice_get, alike-at)
 
   described-same : (c token : ℕ) → described v.methods c token ≡ described methods c token
   unfolding described
@@ -126,17 +100,10 @@ module _ (v : Linked) (infos : List (List ℕ)) (methods : List MethodRec) (inde
       ∙ ap (λ k. filter (λ n. passes_test (is_described c token) (slice_get methods n)) (range_with_len 0 k)) same-count
 
   found-same : (pool nargs c token : ℕ) (o : Option ℕ) → described_callee v pool nargs c token o ≡ described_callee other pool nargs c token o
-  found-same pool nargs c token None = refl
-  found-same pool nargs c token (Some n) =
-      callee-alike (λ m. nargs == length m.sig.args + 1) (λ m. Some (Value (Class (object v.classes)))) pool n (choices.Interface c token nargs)
-      (λ a. refl) (λ a. refl) (slice_get v.methods n) (slice_get methods n) (alike-at n)
+  found-same pool nargs c token x = grind (arith, callee-alike, length, slice_get, alike-at)
 
   interface-same : (pool nargs token : ℕ) (o : Option Member) → interface_callee v pool nargs token o ≡ interface_callee other pool nargs token o
-  interface-same pool nargs token (Some (ClassOf c)) =
-      ap (λ r. if is_interface v.classes c then r else Err (BadMember pool))
-      (found-same pool nargs c token (only (described v.methods c token)) ∙ ap (λ ns. described_callee other pool nargs c token (only ns))
-      (described-same c token))
-  interface-same pool nargs token _ = refl
+  interface-same pool nargs token x = grind (arith, found-same, described-same)
 
   bodies-same : (ns : List ℕ) → all_have_bodies v.methods ns ≡ all_have_bodies methods ns
   bodies-same ns =
@@ -145,19 +112,10 @@ module _ (v : Linked) (infos : List (List ℕ)) (methods : List MethodRec) (inde
 
   concrete-same : (c : ℕ) → is_concrete v.classes v.methods c ≡ is_concrete v.classes methods c
   unfolding is_concrete
-  concrete-same c =
-      let t = v.classes in
-      let a = bodies-same (public_of t c) in
-      let b = list_all-alike (λ a. all_have_bodies v.methods (visible_in t (package_of t a) c))
-      (λ a. all_have_bodies methods (visible_in t (package_of t a) c)) (λ a. bodies-same (visible_in t (package_of t a) c)) (chain t c) in
-      ap
-      (λ x. nat_lt c (length t.records) &&
-      (not (is_interface t c) && (x && list_all (λ a. all_have_bodies v.methods (visible_in t (package_of t a) c)) (chain t c)))) a
-      ∙ ap (λ x. nat_lt c (length t.records) && (not (is_interface t c) && (all_have_bodies methods (public_of t c) && x))) b
+  concrete-same c = grind (arith, bodies-same, list_all-alike, length, not)
 
   new-same : (place pool : ℕ) (o : Option Member) → new_object v place pool o ≡ new_object other place pool o
-  new-same place pool (Some (ClassOf c)) = ap (λ b. if b then Ok (ops.New place c) else Err (NotConcrete c)) (concrete-same c)
-  new-same place pool _ = refl
+  new-same place pool x = grind (arith, concrete-same)
 
   module _ (m : MethodRec) (place : ℕ) (i : Insn) where
     abbrev member : ℤ → Option Member
@@ -188,13 +146,7 @@ module _ (v : Linked) (infos : List (List ℕ)) (methods : List MethodRec) (inde
     results-there = refl
 
     results-same : results_in v ≡ results_in other
-    results-same =
-        let a = virtual-same (short_of i.x) (member i.x) in
-        let b = special-same (short_of i.x) (member i.x) in
-        let c = static-same (short_of i.x) (member i.x) in
-        let d = interface-same (short_of i.y) (byte_of i.x) (byte_of i.z) (member i.y) in
-        let e = new-same place (short_of i.x) (member i.x) in
-        cc
+    results-same = grind (arith, virtual-same, special-same, static-same, interface-same, new-same)
 
     unused-same : resolved v m place i unused ≡ resolved other m place i unused
     unfolding unused
@@ -217,50 +169,23 @@ module _ (v : Linked) (infos : List (List ℕ)) (methods : List MethodRec) (inde
   result-same n = asked-alike result_at refl (λ a. refl) (slice_get v.methods n) (slice_get methods n) (alike-at n)
 
   demands-same : (op : Operation) → demands v op ≡ demands other op
-  demands-same (ops.Call c) = ap (λ args. call_demands args c.receiver) (args-same c.method)
-  demands-same _ = refl
+  demands-same x = grind (arith, args-same)
 
   effect-same : (op : Operation) (f : Frame) → effect v op f ≡ effect other op f
-  effect-same (ops.Call c) f =
-      ap (λ args. call_effect args (result_at (slice_get v.methods c.method)) c.receiver f) (args-same c.method)
-      ∙ ap (λ r. call_effect (args_at (slice_get methods c.method)) r c.receiver f) (result-same c.method)
-  effect-same _ f = refl
+  effect-same x f = grind (arith, slice_get, args-same, result-same)
 
   operation-kept : (limit : ℕ) (op : Operation) (mode : Mode) (f g : Frame) (o : Outcome) → OperationApplies v limit op mode f g o
       → OperationApplies other limit op mode f g o
-  operation-kept limit op mode f g o a =
-      let e = effect-same op f in
-      record {
-        asked = subst (SatisfiesAll v.classes f) (demands-same op) a.asked;
-        regs = subst (λ x. StoresInRegisters v.classes mode x.store f.regs g.regs) e a.regs;
-        stack = a.stack ∙ ap (λ x. changed x.change f.stack) e;
-        room = a.room;
-        falls = a.falls;
-        ends = a.ends;
-        depth = a.depth;
-        wrote_is = a.wrote_is ∙ ap (λ x. wrote x.store.register x.store.cells) e;
-        rose_is = a.rose_is ∙ ap (λ x. raises_register v.classes mode x.store f.regs) e;
-      }
+  operation-kept limit op mode f g o a = grind (arith, effect-same, demands-same)
 
   rule-kept : (m : MethodRec) (place : ℕ) (i : Insn) (mode : Mode) (f g : Frame) (o : Outcome) → RuleApplies v m place i mode f g o
       → RuleApplies other m place i mode f g o
-  rule-kept m place i mode f g o a = record {
-    operation = a.operation;
-    resolves = a.resolves ∙ resolved-same m place i;
-    does = operation-kept m.max_stack a.operation mode f g o a.does;
-  }
+  rule-kept m place i mode f g o a = grind (arith, resolved-same m place i, operation-kept m.max_stack a.operation mode f g o a.does)
 
   -- ---- typings
 
   typed-kept : (s : Subject) (regs : List Ty) (stacks : ℕ → List Ty) (i : Placed) → IsTypedIn v s regs stacks i → IsTypedIn other s regs stacks i
-  typed-kept s regs stacks i t = record {
-    after = t.after;
-    applies = (t.applies.0, rule-kept s.rec i.place i.insn _ _ t.after t.applies.0 t.applies.1);
-    stored = t.stored;
-    branch = t.branch;
-    goes_on = t.goes_on;
-    ends = t.ends;
-  }
+  typed-kept s regs stacks i t = grind (arith, rule-kept s.rec i.place i.insn _ _ t.after t.applies.0 t.applies.1)
 
   card-kept : (s : Subject) (regs : List Ty) (stacks : ℕ → List Ty) → TypingIn v s regs stacks → TypingIn other s regs stacks
   card-kept s regs stacks t = record {
@@ -278,32 +203,15 @@ module _ (v : Linked) (infos : List (List ℕ)) (methods : List MethodRec) (inde
   followed-kept : (m : Method) (frames : ℕ → Option Frame) (i : Placed) (o : Option Frame) → IsSomeAnd o (IsFollowed v m frames i)
       → IsSomeAnd o (IsFollowed other m frames i)
   followed-kept m frames i None h = absurd h
-  followed-kept m frames i (Some f) h = record {
-    after = h.after;
-    steps = (h.steps.0, rule-kept m.rec i.place i.insn _ f h.after h.steps.0 h.steps.1);
-    below = h.below;
-    ready = h.ready;
-  }
+  followed-kept m frames i (Some f) h = grind (arith, rule-kept m.rec i.place i.insn _ f h.after h.steps.0 h.steps.1)
 
   flow-kept : (m : Method) (unset : Ty) (frames : ℕ → Option Frame) → FlowTyping v m unset frames → FlowTyping other m unset frames
-  flow-kept m unset frames t = record {
-    formed = t.formed;
-    start = t.start;
-    fit = t.fit;
-    rules = λ i there r. followed-kept m frames i (frames i.place) (t.rules i there r);
-    stays = t.stays;
-    handlers = t.handlers;
-    leaders = t.leaders;
-  }
+  flow-kept m unset frames t = grind (arith, followed-kept)
 
 -- ---- two worlds
 
 whole : (v w : Linked) (s : IsSameBut v w) → other v w.infos w.methods w.indexes s.methods ≡ w
-whole v w s =
-    ap (λ x. record w { pools = x; classes = v.classes; statics = v.statics; arrays = v.arrays }) s.pools
-    ∙ ap (λ x. record w { classes = x; statics = v.statics; arrays = v.arrays }) s.classes
-    ∙ ap (λ x. record w { statics = x; arrays = v.arrays }) s.statics
-    ∙ ap (λ x. record w { arrays = x }) s.arrays
+whole v w s = grind (arith)
 
 -- of code of any form
 typings-are-kept : (v w : Linked) (s : Subject) (regs : List Ty) (stacks : ℕ → List Ty) → IsSameBut v w → TypingIn v s regs stacks
@@ -337,11 +245,7 @@ module _ (w : Linked) (m : MethodRec) (place : ℕ) (i : Insn) where
 
   apart-resolved : resolved w m place i (row_at i.op) ≡ resolved w (apart_from_code m) place i (row_at i.op)
   unfolding row_at
-  apart-resolved =
-      sym (get_or-map (λ row. resolved w m place i row) table i.op unused)
-      ∙ ap (λ rs. get_or rs i.op (resolved w m place i unused)) apart-table
-      ∙ ap (λ r. get_or (map (λ row. resolved w (apart_from_code m) place i row) table) i.op r) apart-unused
-      ∙ get_or-map (λ row. resolved w (apart_from_code m) place i row) table i.op unused
+  apart-resolved = grind (arith, get_or-map, get_or, apart-table, map, apart-unused)
 
 pub operations-are-kept : OperationsAreKept
 operations-are-kept v w m n place i r same alike e =
@@ -353,5 +257,4 @@ operations-are-kept v w m n place i r same alike e =
     ∙ sym (apart-resolved w n place i)
 
 pub demands-are-kept : DemandsAreKept
-demands-are-kept v w op same =
-    subst (λ u. demands v op ≡ demands u op) (whole v w same) (demands-same v w.infos w.methods w.indexes same.methods op)
+demands-are-kept v w op same = grind (arith, whole v w same, demands-same v w.infos w.methods w.indexes same.methods op)

@@ -40,11 +40,7 @@ preimage {X = X} f xs y c = by (slice_get xs c.0) refl (sym (slice_get-map f xs 
 module _ (f : ℕ → ℕ) (rises : (n : ℕ) → f n < f (suc n)) where
   pub rises-over : (a d : ℕ) → f a < f (a + suc d)
   rises-over a zero = subst (λ n. f a < f n) (omega arith) (rises a)
-  rises-over a (suc d) =
-      let before = rises-over a d in
-      let last = rises (a + suc d) in
-      let same : suc (a + suc d) ≡ a + suc (suc d) = omega arith in
-      subst (λ n. f a < f n) same (omega (arith, before, last))
+  rises-over a (suc d) = grind (arith, suc, rises-over a d)
 
   pub rises-from : (a b : ℕ) → a < b → f a < f b
   rises-from a b lt = subst (λ n. f a < f n) (omega (arith, lt)) (rises-over a (b - suc a))
@@ -63,11 +59,7 @@ number_of f q zero = zero
 number_of f q (suc k) = if f (suc k) == q then suc k else number_of f q k
 
 below-next : (f : ℕ → ℕ) (n k : ℕ) → n ≤ suc k → (f (suc k) == f n) ≡ false → (c : Bool) → nat_le n k ≡ c → n ≤ k
-below-next f n k le e true p = grind (arith, nat_tests, p)
-below-next f n k le e false p =
-    let same : n ≡ suc k = grind (arith, nat_tests, p, le) in
-    let at : f n ≡ f (suc k) = ap f same in
-    absurd (grind (arith, nat_tests, e, at))
+below-next f n k le e x p = grind (arith, nat_tests, suc)
 
 pub number-is : (f : ℕ → ℕ) → ((n k : ℕ) → f n ≡ f k → n ≡ k) → (n k : ℕ) → n ≤ k → number_of f (f n) k ≡ n
 number-is f one n zero le = omega (arith, le)
@@ -93,23 +85,8 @@ module _ (code : List ℕ) (place : ℕ → ℕ) where
   step-at n [] [] h k s e = absurd (omega (arith, slice_get_within [] k s e))
   step-at n [] (p ∷ ps) h k s e = absurd h
   step-at n (t ∷ ss) [] h k s e = absurd h
-  step-at n (t ∷ ss) (p ∷ ps) h zero s e =
-      let same : t ≡ s = cc in
-      let here : n ≡ n + 0 = omega arith in
-      let next : suc n ≡ n + 1 = omega arith in
-      record {
-        placed = p;
-        listed = refl;
-        begins = h.0 ∙ ap place here;
-        ends = h.1 ∙ ap place next;
-        is = subst (λ x. StandsForStep code place x p) same
-            h.2;
-      }
-  step-at n (t ∷ ss) (p ∷ ps) h (suc k) s e =
-      let x = step-at (suc n) ss ps h.3 k s e in
-      let here : suc n + k ≡ n + suc k = omega arith in
-      let next : suc n + suc k ≡ n + suc (suc k) = omega arith in
-      record { placed = x.placed; listed = x.listed; begins = x.begins ∙ ap place here; ends = x.ends ∙ ap place next; is = x.is }
+  step-at n (t ∷ ss) (p ∷ ps) h zero s e = grind (arith, suc)
+  step-at n (t ∷ ss) (p ∷ ps) h (suc k) s e = grind (arith, suc, step-at (suc n) ss ps h.3 k s e)
 
   pub same-count : (n : ℕ) (ss : List Step) (ps : List Placed) → AreSteps code place n ss ps → length ss ≡ length ps
   same-count n [] [] h = refl
@@ -121,7 +98,4 @@ module _ (code : List ℕ) (place : ℕ → ℕ) where
   end-is n [] [] h = ap place (omega arith)
   end-is n [] (p ∷ ps) h = absurd h
   end-is n (s ∷ ss) [] h = absurd h
-  end-is n (s ∷ ss) (p ∷ ps) h =
-      let next : place n + p.insn.len ≡ place (suc n) = ap (λ x. x + p.insn.len) (sym h.0) ∙ h.1 in
-      let last : suc n + length ss ≡ n + suc (length ss) = omega arith in
-      ap (λ x. end_from x ps) next ∙ end-is (suc n) ss ps h.3 ∙ ap place last
+  end-is n (s ∷ ss) (p ∷ ps) h = grind (arith, suc, length, end-is (suc n) ss ps h.3)
