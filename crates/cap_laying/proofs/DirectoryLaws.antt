@@ -1,5 +1,5 @@
 -- The info that is written stands for its items.
-use Rattle.std.proofs.Common.{◌≡◌, ◌<◌, ◌+◌, ◌%◌, ℕ, List, [], ◌∷◌, ◌++◌, length, Option, Some, None, Bool, true, false, refl}
+use Rattle.std.proofs.Common.{◌≡◌, ◌<◌, ◌+◌, ℕ, List, [], ◌∷◌, ◌++◌, length, Option, Some, None, Bool, true, false, refl}
 use Rattle.std.proofs.Common.{sym, ap, subst, ◌∙◌, arith, append_assoc, length-append}
 use Rattle.std.specs.Prelude.{IsTrue, if◌then◌else◌}
 use Rattle.std.specs.List.{flat_map}
@@ -20,15 +20,10 @@ use Rattle.cap_laying.specs.WrittenDirectory.{AreSmall, AreCustoms, MayStand}
 
 writes_last : {X Y : Type 0} (total at : ℕ) (g : Grammar X) (f : X → Y) (out : List ℕ) (x : X) → SpellsInPlace total g at out x
     → SpellsInPlace total (g >>= λ x. give (f x)) at out (f x)
-writes_last total at g f out x w =
-    subst (λ bytes. SpellsInPlace total (g >>= λ x. give (f x)) at bytes (f x)) (append-nil out)
-    (writes_then total at g (λ x. give (f x)) out [] x (f x) w (writes_give total (at + length out) (f x)))
+writes_last total at g f out x w = grind (arith, append-nil out, length out, writes_then, writes_give)
 
 one_byte : (total at n : ℕ) (wrong : ℕ → Option FormKind) → n < 256 → wrong n ≡ None → SpellsInPlace total (number 1 wrong) at (n ∷ []) n
-one_byte total at n wrong h right =
-    let e : n % 256 ≡ n = omega arith in
-    let w : SpellsInPlace total (number 1 wrong) at ((n % 256) ∷ []) n = writes_number total 1 n at wrong h right in
-    subst (λ k. SpellsInPlace total (number 1 wrong) at (k ∷ []) n) e w
+one_byte total at n wrong h right = grind (arith, writes_number total 1 n at wrong h right)
 
 passed : (test : ℕ → Bool) (n : ℕ) → IsTrue (test n) → that test n ≡ None
 passed test n h = by (test n) h

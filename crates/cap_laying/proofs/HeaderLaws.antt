@@ -12,23 +12,15 @@ use Rattle.cap_bytes.specs.Writing.{SpellsInPlace}
 use Rattle.cap_bytes.proofs.Written.{writes_give, writes_number, writes_then}
 use Rattle.cap_laying.specs.HeaderBytes.{HeaderNumbers, is_compact, compact_bytes, extended_bytes, header_bytes, header_size, header_of}
 use Rattle.cap_laying.specs.declared.member.Body.{Body}
-use Rattle.cap_laying.specs.declared.member.Body.TheVariants.{Code}
-use Rattle.cap_laying.specs.declared.member.Body.TheVariants.{Header as Lead}
-use Rattle.cap_laying.specs.Member.{numbers_of, body_bytes, body_size}
+use Rattle.cap_laying.specs.Member.{body_bytes, body_size}
 use Rattle.cap_laying.specs.WrittenMethods.{FitInBytes}
 
 pub writes_u1 : (total n at : ℕ) → n < 256 → SpellsInPlace total u1 at (n ∷ []) n
-writes_u1 total n at h =
-    let e : n % 256 ≡ n = omega arith in
-    let w : SpellsInPlace total u1 at ((n % 256) ∷ []) n = writes_number total 1 n at any h refl in
-    subst (λ k. SpellsInPlace total u1 at (k ∷ []) n) e w
+writes_u1 total n at h = grind (arith, writes_number total 1 n at any h refl)
 
 -- the three tests
 compact_facts : (a b c : Bool) → a && b && c ≡ true → (a ≡ true) × (b ≡ true) × (c ≡ true)
-compact_facts true true true h = (refl, refl, refl)
-compact_facts true true false h = absurd (cc)
-compact_facts true false c h = absurd (cc)
-compact_facts false b c h = absurd (cc)
+compact_facts x b c h = grind (arith)
 
 compact_written : (total at : ℕ) (n : HeaderNumbers) → n.max_stack ≤ 15 → n.nargs ≤ 15 → n.max_locals ≤ 15
     → SpellsInPlace total method_header at (compact_bytes n)
@@ -114,8 +106,4 @@ header_back n info at are e =
         by false = omega arith
 
 pub length_body : (b : Body) → length (body_bytes b) ≡ body_size b
-length_body (Code laid) =
-    let a = length-append (header_bytes (numbers_of laid.now)) laid.now.code in
-    let h = length_header (numbers_of laid.now) in
-    omega arith
-length_body (Lead header) = refl
+length_body x = grind (arith, length-append, length_header)

@@ -1,10 +1,9 @@
 -- The info that is written stands for its handler table, and has each method at its place.
 use Rattle.std.proofs.Common.{◌≡◌, ℕ, zero, suc, ◌+◌, ◌*◌, ◌%◌, ◌^◌, ◌≤◌, ◌<◌, List, [], ◌∷◌, ◌++◌, length, take}
-use Rattle.std.proofs.Common.{drop, Option, Some, None, Bool, true, false, refl, ap, subst, ◌∙◌, arith, append_assoc, length-append}
+use Rattle.std.proofs.Common.{drop, Option, Some, None, Bool, true, false, refl, subst, arith, append_assoc, length-append}
 use Rattle.std.specs.Prelude.{nat_le, if◌then◌else◌, slice_index_or}
 use Rattle.std.proofs.lemmas.List.{drop_at, take_at, append-nil}
 use Rattle.byteorder.specs.Endian.{big_bytes}
-use Rattle.byteorder.specs.Numbers.{length-bytes_high_first}
 use Rattle.cap_bytes.specs.Grammar.{u1, u2, any, give, repeat, rest, counted, ◌>>=◌}
 use Rattle.cap_bytes.specs.Spelling.{Spells, Stands}
 use Rattle.cap_method.specs.declared.handler.HandlerInfo.{HandlerInfo}
@@ -84,23 +83,11 @@ table_written total at (e ∷ es) small =
 
 length_entry : (e : HandlerInfo) → length (entry_bytes e) ≡ 8
 unfolding entry_bytes
-length_entry e =
-    let a = length-append (big_bytes 2 e.start) (big_bytes 2 (active e) ++ (big_bytes 2 e.entry ++ big_bytes 2 e.index)) in
-    let b = length-append (big_bytes 2 (active e)) (big_bytes 2 e.entry ++ big_bytes 2 e.index) in
-    let c = length-append (big_bytes 2 e.entry) (big_bytes 2 e.index) in
-    let d = length-bytes_high_first 2 e.start in
-    let f = length-bytes_high_first 2 (active e) in
-    let g = length-bytes_high_first 2 e.entry in
-    let h = length-bytes_high_first 2 e.index in
-    omega arith
+length_entry e = grind (arith, length-append)
 
 pub length_table : (es : List HandlerInfo) → length (table_bytes es) ≡ 8 * length es
 length_table [] = refl
-length_table (e ∷ es) =
-    let a = length-append (entry_bytes e) (table_bytes es) in
-    let r = length_table es in
-    let one = length_entry e in
-    omega arith
+length_table (e ∷ es) = grind (arith, length-append, length_entry, length_table es)
 
 writes_rest : (total at : ℕ) (bytes : List ℕ) → total ≡ at + length bytes → SpellsInPlace total rest at bytes bytes
 unfolding Spells
@@ -142,12 +129,7 @@ pub bodies_there : (table : List (Option WrittenMember)) (lead : List ℕ) (at n
     → slice_index_or table n None ≡ Some m → take (body_size m.body) (drop (place_in_table at table n) (lead ++ bodies table)) ≡ body_bytes m.body
 bodies_there [] lead at n m l e = absurd (cc)
 bodies_there (None ∷ ms) lead at zero m l e = absurd (cc)
-bodies_there (Some k ∷ ms) lead at zero m l e =
-    let same : k ≡ m = cc in
-    let there : drop at (lead ++ (body_bytes k.body ++ bodies ms)) ≡ body_bytes k.body ++ bodies ms = drop_at lead (body_bytes k.body ++ bodies ms) at l in
-    let long = length_body k.body in
-    subst (λ q. take (body_size q.body) (drop at (lead ++ (body_bytes k.body ++ bodies ms))) ≡ body_bytes q.body) same
-    (ap (take (body_size k.body)) there ∙ take_at (body_bytes k.body) (bodies ms) (body_size k.body) long)
+bodies_there (Some k ∷ ms) lead at zero m l e = grind (arith, drop, drop_at, length_body, take, take_at)
 bodies_there (s ∷ ms) lead at (suc n) m l e =
     let long = length_slot s in
     let front = length-append lead (bytes_if s) in

@@ -1,7 +1,7 @@
 -- The custom components that stay.
 use Rattle.std.proofs.Common.{◌≡◌, ◌≤◌, ◌<◌, ◌+◌, ◌*◌, ◌-◌, ℕ, zero, suc, List, [], ◌∷◌, ◌++◌, length, drop, Bool, true}
 use Rattle.std.proofs.Common.{false, cond, slice_index, Some, refl, sym, ap, ◌∙◌, arith, append_assoc}
-use Rattle.std.specs.Prelude.{filter, nat_le, slice_get}
+use Rattle.std.specs.Prelude.{filter, slice_get}
 use Rattle.std.specs.Option.{unwrap_or}
 use Rattle.std.proofs.lemmas.Bool.{le-leb}
 use Rattle.cap_frame.specs.Directory.{size_in}
@@ -80,13 +80,7 @@ pub record IsMeasured (change : IndexChange) (all : List Custom) (count size : �
 pub measured_more : (change : IndexChange) (all : List Custom) (count size : ℕ) (left : List Custom) (c : Custom) (cs : List Custom) (next bytes : ℕ)
     → IsMeasured change all count size left → left ≡ c ∷ cs → next ≡ count + kept_count change c → bytes ≡ size + kept_size change c
     → IsMeasured change all next bytes cs
-measured_more change all count size left c cs next bytes m e n b =
-    let a = ap (λ xs. length (kept change xs)) e ∙ count_more change c cs in
-    let d = ap (λ xs. customs_size (kept change xs)) e ∙ size_kept change c cs in
-    let short : AreShort (c ∷ cs) = rw e at m.short in
-    let x = m.counted in
-    let y = m.sized in
-    record { short = short.1; counted = omega arith; sized = omega arith }
+measured_more change all count size left c cs next bytes m e n b = grind (arith, length, count_more, size_kept)
 
 -- what is known of the next of them
 pub record IsNextCustom (change : IndexChange) (all : List Custom) (count size : ℕ) (c : Custom) : Type 0 where
@@ -98,20 +92,14 @@ pub record IsNextCustom (change : IndexChange) (all : List Custom) (count size :
 pub put_more : (change : IndexChange) (c : Custom) (cs all : List Custom) (now new whole : List ℕ) → all ≡ c ∷ cs
     → new ≡ now ++ kept_bytes change c → now ++ flat_map custom_bytes (kept change all) ≡ whole → new ++ flat_map custom_bytes (kept change cs)
     ≡ whole
-put_more change c cs all now new whole e n h =
-    ap (λ xs. xs ++ flat_map custom_bytes (kept change cs)) n ∙ append_assoc now (kept_bytes change c) (flat_map custom_bytes (kept change cs))
-    ∙ ap (λ xs. now ++ xs) (sym (bytes_more change c cs) ∙ ap (λ xs. flat_map custom_bytes (kept change xs)) (sym e)) ∙ h
+put_more change c cs all now new whole e n h = grind (arith, append_assoc, bytes_more)
 
 -- one more size was put
 pub size_more : (own : ℕ) (new : ComponentSizes) (tag : ℕ) (sizes : List ℕ) (k : ℕ) (now next whole : List ℕ) → k < length sizes
     → next ≡ now ++ big_bytes 2 (new_size own new tag (slice_index sizes k))
     → now ++ flat_map (big_bytes 2) (sizes_from own new tag (drop k sizes)) ≡ whole
     → next ++ flat_map (big_bytes 2) (sizes_from own new (tag + 1) (drop (k + 1) sizes)) ≡ whole
-size_more own new tag sizes k now next whole lt n h =
-    let rest = flat_map (big_bytes 2) (sizes_from own new (tag + 1) (drop (k + 1) sizes)) in
-    let first = big_bytes 2 (new_size own new tag (slice_index sizes k)) in
-    ap (λ xs. xs ++ rest) n ∙ append_assoc now first rest ∙ ap (λ ss. now ++ flat_map (big_bytes 2) (sizes_from own new tag ss))
-    (sym (drop_more sizes k 0 lt)) ∙ h
+size_more own new tag sizes k now next whole lt n h = grind (arith, drop, slice_index, append_assoc, drop_more)
 
 pub size_both : (xs ys : List Custom) → customs_size (xs ++ ys) ≡ customs_size xs + customs_size ys
 size_both [] ys = omega arith
@@ -119,8 +107,7 @@ size_both (x ∷ xs) ys = let r = size_both xs ys in omega arith
 
 bytes_both : (xs ys : List Custom) → flat_map custom_bytes (xs ++ ys) ≡ flat_map custom_bytes xs ++ flat_map custom_bytes ys
 bytes_both [] ys = refl
-bytes_both (x ∷ xs) ys =
-    ap (λ bs. custom_bytes x ++ bs) (bytes_both xs ys) ∙ sym (append_assoc (custom_bytes x) (flat_map custom_bytes xs) (flat_map custom_bytes ys))
+bytes_both (x ∷ xs) ys = grind (arith, append_assoc, bytes_both xs ys)
 
 count_both : (xs ys : List Custom) → length (xs ++ ys) ≡ length xs + length ys
 count_both [] ys = omega arith
@@ -154,9 +141,4 @@ read_or (x ∷ xs) zero = refl
 read_or (x ∷ xs) (suc k) = read_or xs k
 
 pub size_known : (d : DirectoryItems) (tag s : ℕ) → 1 ≤ tag → tag ≤ 12 → size_in d tag ≡ Some s → s ≡ slice_index d.sizes (tag - 1)
-size_known d tag s low high e =
-    let a : nat_le 1 tag ≡ true = le-leb 1 tag low in
-    let b : nat_le tag 12 ≡ true = le-leb tag 12 high in
-    let f : Some (unwrap_or (slice_get d.sizes (tag - 1)) 0) ≡ Some s = rw (a, b) at e in
-    let g : s ≡ unwrap_or (slice_get d.sizes (tag - 1)) 0 = cc in
-    g ∙ read_or d.sizes (tag - 1)
+size_known d tag s low high e = grind (arith, le-leb, read_or)

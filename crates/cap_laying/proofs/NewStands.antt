@@ -7,7 +7,6 @@ use Rattle.std.proofs.lemmas.Bool.{false≢true}
 use Rattle.std.proofs.lemmas.Bool.Decides.{nat_tests}
 use Rattle.byteorder.specs.Endian.{big_bytes}
 use Rattle.cap_bytes.specs.declared.format.Format.{Format}
-use Rattle.cap_bytes.specs.declared.format.Format.TheVariants.{V21, V22}
 use Rattle.cap_bytes.specs.Grammar.{is_aid_length}
 use Rattle.cap_frame.specs.DirectoryFormat.{Custom, DirectoryItems, is_new_tag, and_that_of, none, size_count}
 use Rattle.cap_laying.specs.declared.sizes.IndexChange.{IndexChange}
@@ -38,11 +37,7 @@ same_tag m n b e = rw e refl
 
 upto_same : (named : ℕ → Bool) (c : Custom) (n : ℕ) → 128 + n ≤ c.tag → named_upto (and_that_of named c) n ≡ named_upto named n
 upto_same named c zero h = refl
-upto_same named c (suc n) h =
-    let r = upto_same named c n (omega arith) in
-    let differ : (128 + n == c.tag) ≡ false = grind (arith, nat_tests) in
-    let first : and_that_of named c (128 + n) ≡ named (128 + n) = same_tag (128 + n) c.tag (named (128 + n)) differ in
-    ap (λ b. cond b 1 0 + named_upto (and_that_of named c) n) first ∙ ap (λ k. cond (named (128 + n)) 1 0 + k) r
+upto_same named c (suc n) h = grind (arith, nat_tests, same_tag, cond, upto_same named c n (omega arith))
 
 upto_more : (named : ℕ → Bool) (c : Custom) (n : ℕ) → named c.tag ≡ false → 128 ≤ c.tag → c.tag < 128 + n
     → named_upto (and_that_of named c) n ≡ 1 + named_upto named n
@@ -154,9 +149,7 @@ free_more (Written size) named c free h = by (c.tag == 128) refl h
         same_tag 128 c.tag (named 128) other ∙ free
 
 entry_fits : (change : IndexChange) (named : ℕ → Bool) → IsFit change → IsFree change named → AreCustoms named (index_entry change)
-entry_fits Kept named fit free = tt
-entry_fits Dropped named fit free = tt
-entry_fits (Written size) named fit free = (tag_new named 128 (omega arith) free, omega arith, fit, refl, tt)
+entry_fits x named fit free = grind (arith, tag_new)
 
 kept_fit : (change : IndexChange) (named others : ℕ → Bool) (cs : List Custom) → IsFit change → IsFree change named → IsWithin named others
     → AreCustoms others cs → AreCustoms named (kept change cs ++ index_entry change)
@@ -176,19 +169,13 @@ kept_fit change named others (c ∷ cs) fit free within are =
     by false e more rest = rest
 
 free_none : (change : IndexChange) → IsFree change none
-free_none Kept = tt
-free_none Dropped = tt
-free_none (Written size) = refl
+free_none x = grind (arith)
 
 entry_one : (change : IndexChange) → length (index_entry change) ≤ 1
-entry_one Kept = omega arith
-entry_one Dropped = omega arith
-entry_one (Written size) = omega arith
+entry_one x = grind (arith)
 
 entry_small : (change : IndexChange) → customs_size (index_entry change) ≤ 10
-entry_small Kept = omega arith
-entry_small Dropped = omega arith
-entry_small (Written size) = omega arith
+entry_small x = grind (arith)
 
 -- ---- the sizes
 
@@ -213,17 +200,10 @@ sizes_small own new tag [] o m r h = tt
 sizes_small own new tag (s ∷ ss) o m r h = (size_small own new tag s o m r h.0, sizes_small own new (tag + 1) ss o m r h.1)
 
 sizes_few : (format : Format) → size_count format ≤ 12
-sizes_few V21 = omega arith
-sizes_few V22 = omega arith
+sizes_few x = grind (arith)
 
 pub own_small : (format : Format) (new : ComponentSizes) (d : DirectoryItems) → MayStand format d → own_size new d ≤ 5000
-own_small format new d m =
-    let n = few_customs d.customs m.customs in
-    let s = small_kept new.index d.customs (customs_short none d.customs m.customs) in
-    let b = size_both (kept new.index d.customs) (index_entry new.index) in
-    let e = entry_small new.index in
-    let f = sizes_few format in
-    omega (arith, m.counted)
+own_small format new d m = grind (arith, few_customs, small_kept, customs_short, size_both, entry_small, sizes_few)
 
 pub new_may_stand : (format : Format) (new : ComponentSizes) (d : DirectoryItems) → MayStand format d → new.methods < 65536 → new.references < 65536
     → IsFit new.index → MayStand format (new_directory new d)
@@ -256,20 +236,7 @@ customs_long (c ∷ cs) = let r = customs_long cs in omega (arith, length-append
 
 pub directory_long : (d : DirectoryItems) → length (directory_bytes d) ≡ 2 * length d.sizes + 9 + customs_size d.customs
 unfolding directory_bytes
-directory_long d =
-    let s = flat_map (big_bytes 2) d.sizes in
-    let t = d.import_count ∷ d.applet_count ∷ [] in
-    let c = big_bytes 2 d.array_init_size in
-    let b = big_bytes 2 d.array_init_count in
-    let a = big_bytes 2 d.image_size in
-    let f = flat_map custom_bytes d.customs in
-    omega (
-      arith,
-      bytes_long d.sizes,
-      customs_long d.customs,
-      length-append (s ++ (a ++ (b ++ (c ++ t)))) (length d.customs ∷ f),
-      length-append s (a ++ (b ++ (c ++ t))),
-    )
+directory_long d = grind (arith, bytes_long, customs_long, length-append, length)
 
 pub new_long : (new : ComponentSizes) (d : DirectoryItems) → length (directory_bytes (new_directory new d)) ≡ own_size new d
 new_long new d = omega (arith, directory_long (new_directory new d), sizes_counted (own_size new d) new 1 d.sizes)

@@ -7,15 +7,13 @@ use Rattle.std.specs.Option.{option_to_list}
 use Rattle.cap_renewal.specs.declared.new_methods.NewMethod.{NewMethod}
 use Rattle.cap_renewal.specs.NewMethods.{at_offset, offset_or, to}
 use Rattle.cap_laying.specs.declared.member.Body.{Body}
-use Rattle.cap_laying.specs.declared.member.Body.TheVariants.{Code}
-use Rattle.cap_laying.specs.declared.member.Body.TheVariants.{Header as Lead}
 use Rattle.cap_laying.specs.declared.member.WrittenMember.{WrittenMember}
-use Rattle.cap_laying.specs.Member.{bodies, put_member, placed, by_offset, size_if, body_size, lead_size, handlers_of, methods_end_from, AreWithin}
+use Rattle.cap_laying.specs.Member.{bodies, put_member, placed, by_offset, size_if, body_size, handlers_of, methods_end_from, AreWithin}
 use Rattle.cap_laying.specs.NewPlaces.{new_method, news_from, AreSmallBodies}
 use Rattle.jc_decode.specs.declared.symbols.LaidHandler.{LaidHandler}
 use Rattle.cap_method.specs.declared.handler.HandlerInfo.{HandlerInfo}
 use Rattle.cap_laying.specs.HandlerTable.{entries_at, table_bytes}
-use Rattle.cap_laying.specs.Blocks.{block_entries, entries_of_blocks, put_by, put_firsts, firsts, had_none, blocks, IsPlacedBody, ArePlacedBodies}
+use Rattle.cap_laying.specs.Blocks.{entries_of_blocks, put_by, put_firsts, firsts, had_none, blocks, IsPlacedBody, ArePlacedBodies}
 use Rattle.cap_laying.specs.Blocks.{total_handlers}
 use Rattle.cap_laying.specs.MethodInfo.{method_info, place_in_table}
 use Rattle.cap_laying.specs.Members.{IsAlone, AreApart, HasHandlersInside, MayBeMember, AreMembers}
@@ -55,8 +53,7 @@ offset_all P size ms a = placed_all P (replicate size None) ms a (none_all P siz
 
 by_all : (P : WrittenMember → Type 0) (table : List (Option WrittenMember)) (m : WrittenMember) (o : Option ℕ) → P m → AllIf P table
     → AllIf P (put_by table m o)
-by_all P table m None p h = h
-by_all P table m (Some i) p h = set_all P table i m p h
+by_all x table m x2 p h = grind (arith, set_all)
 
 firsts_all : (P : WrittenMember → Type 0) (table : List (Option WrittenMember)) (ms : List WrittenMember) → All P ms → AllIf P table
     → AllIf P (put_firsts table ms)
@@ -146,13 +143,8 @@ is_placed : (indexes : List ℕ) (at : ℕ) (table : List (Option WrittenMember)
     → IsPlaced indexes at table o m
 is_placed indexes at [] o m e = absurd (cc)
 is_placed indexes at (None ∷ ms) zero m e = absurd (cc)
-is_placed indexes at (Some k ∷ ms) zero m e =
-    let same : k ≡ m = cc in
-    let grows = end_grows (at + body_size k.body) ms in
-    rw (← same) (record { new = refl; within = grows })
-is_placed indexes at (s ∷ ms) (suc o) m e =
-    let r = is_placed indexes (at + size_if s) ms o m e in
-    record { new = r.new; within = r.within }
+is_placed indexes at (Some k ∷ ms) zero m e = grind (arith, end_grows)
+is_placed indexes at (s ∷ ms) (suc o) m e = grind (arith, is_placed indexes (at + size_if s) ms o m e)
 
 offset_is : (o : ℕ) (n : Option NewMethod) (m : NewMethod) → n ≡ Some m → offset_or o n ≡ m.offset
 offset_is o n m e = rw e refl
@@ -160,9 +152,7 @@ offset_is o n m e = rw e refl
 pub to_place : (indexes : List ℕ) (at : ℕ) (table : List (Option WrittenMember)) (o : ℕ) (m : WrittenMember) → slot table o ≡ Some m
     → (to (news_from indexes at table) o ≡ place_in_table at table o) × (place_in_table at table o + body_size m.body ≤ methods_end_from at table)
 unfolding to
-to_place indexes at table o m e =
-    let p = is_placed indexes at table o m e in
-    (offset_is o (at_offset (news_from indexes at table) o) (new_method indexes (place_in_table at table o) m) p.new, p.within)
+to_place indexes at table o m e = grind (arith, is_placed indexes at table o m e, offset_is)
 
 pub is_new : (indexes : List ℕ) (at : ℕ) (table : List (Option WrittenMember)) (o : ℕ) (m : WrittenMember) → slot table o ≡ Some m
     → at_offset (news_from indexes at table) o ≡ Some (new_method indexes (place_in_table at table o) m)
@@ -170,8 +160,7 @@ is_new indexes at table o m e = (is_placed indexes at table o m e).new
 
 -- a method whose body is whole lies in the info
 placed_body : (at : ℕ) (b : Body) → HasHandlersInside b → at + body_size b ≤ 65535 → IsPlacedBody at b
-placed_body at (Code laid) whole h = (omega arith, whole)
-placed_body at (Lead header) whole h = tt
+placed_body at x whole h = grind (arith)
 
 all_placed : (indexes : List ℕ) (at size : ℕ) (table : List (Option WrittenMember)) (bs : List WrittenMember) → methods_end_from at table ≤ 65535
     → All (IsInSlot table) bs → All (MayBeMember size) bs → ArePlacedBodies (news_from indexes at table) bs
@@ -189,10 +178,7 @@ members_all size (m ∷ ms) h = (h.0, members_all size ms h.1)
 
 pub blocks_placed : (size room at : ℕ) (indexes : List ℕ) (ms : List WrittenMember) → AreMembers size ms → AreApart ms
     → methods_end_from at (by_offset size ms) ≤ 65535 → ArePlacedBodies (news_from indexes at (by_offset size ms)) (blocks room ms)
-blocks_placed size room at indexes ms are apart end =
-    all_placed indexes at size (by_offset size ms) (blocks room ms) end
-    (blocks_all (IsInSlot (by_offset size ms)) room ms (own_slots size ms are apart))
-    (blocks_all (MayBeMember size) room ms (members_all size ms are))
+blocks_placed size room at indexes ms are apart end = grind (arith, all_placed, blocks_all, own_slots, members_all)
 
 -- ---- what the steps ask for
 
@@ -261,13 +247,7 @@ total_both table (m ∷ ms) = by m.handlers_from (λ other. total_both other ms)
 -- the blocks have no more handlers than the methods
 pub total_blocks : (room : ℕ) (ms : List WrittenMember) → total_handlers (blocks room ms) ≤ total_handlers ms
 unfolding firsts
-total_blocks room ms =
-    let table = put_firsts (replicate room None) ms in
-    let a = total_append (flat_map option_to_list table) (filter had_none ms) in
-    let b = total_present table in
-    let c = total_both (replicate room None) ms in
-    let d = total_none room in
-    omega arith
+total_blocks room ms = grind (arith, replicate, total_append, total_present, total_both, total_none)
 
 pub length_entries : (start : ℕ) (hs : List LaidHandler) → length (entries_at start hs) ≡ length hs
 length_entries start [] = refl
@@ -276,11 +256,7 @@ length_entries start (h ∷ hs) = ap suc (length_entries start hs)
 -- the entries of the blocks are as many as their handlers
 pub length_table : (news : List (Option NewMethod)) (bs : List WrittenMember) → length (entries_of_blocks news bs) ≡ total_handlers bs
 length_table news [] = refl
-length_table news (b ∷ bs) =
-    let a = length-append (block_entries news b) (entries_of_blocks news bs) in
-    let e = length_entries (to news b.offset + lead_size b.body) (handlers_of b.body) in
-    let r = length_table news bs in
-    omega arith
+length_table news (b ∷ bs) = grind (arith, length-append, length_entries, length_table news bs)
 
 -- the steps of writing an info
 pub info_steps : (total : ℕ) (first second third fourth : List ℕ) (entries : List HandlerInfo) (table : List (Option WrittenMember)) → first ≡ []

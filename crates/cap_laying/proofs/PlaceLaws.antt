@@ -29,8 +29,5 @@ pub end_passes : (at : ℕ) (table : List (Option WrittenMember)) (n : ℕ) (m :
     → at + body_size m.body ≤ methods_end_from at (drop n table)
 end_passes at [] n m e = absurd (cc)
 end_passes at (None ∷ ms) zero m e = absurd (cc)
-end_passes at (Some k ∷ ms) zero m e =
-    let same : k ≡ m = cc in
-    let grows = end_grows (at + body_size k.body) ms in
-    rw (← same) grows
+end_passes at (Some k ∷ ms) zero m e = grind (arith, end_grows)
 end_passes at (s ∷ ms) (suc n) m e = end_passes at ms n m e

@@ -1,13 +1,13 @@
 -- What is known of the items of a Directory that was read.
-use Rattle.std.proofs.Common.{◌≡◌, ◌<◌, ℕ, zero, suc, Bool, true, false, cond, List, length, drop, Some, None, refl, sym, ap}
-use Rattle.std.proofs.Common.{subst, arith}
+use Rattle.std.proofs.Common.{◌≡◌, ◌<◌, ℕ, zero, suc, Bool, true, false, cond, List, length, drop, Some, None, refl, ap}
+use Rattle.std.proofs.Common.{arith}
 use Rattle.std.specs.Prelude.{IsTrue}
 use Rattle.std.proofs.lemmas.List.{length-take, length-drop}
 use Rattle.cap_bytes.specs.declared.fault.FormKind.TheVariants.{BadValue}
 use Rattle.cap_bytes.specs.declared.format.Format.{Format}
 use Rattle.cap_bytes.specs.Grammar.{that, u2, is_aid_length, each, repeat, table}
 use Rattle.cap_bytes.specs.Spelling.{Spells, Stands}
-use Rattle.cap_frame.specs.DirectoryFormat.{Custom, DirectoryItems, ImageSizes, custom_info, is_new_tag, and_that_of, none, size_count, directory_info}
+use Rattle.cap_frame.specs.DirectoryFormat.{Custom, DirectoryItems, custom_info, is_new_tag, and_that_of, directory_info}
 use Rattle.cap_bytes.specs.Bytes.{AreBytes}
 use Rattle.cap_renewal.proofs.Numbers.{number_small}
 use Rattle.cap_laying.specs.WrittenDirectory.{AreSmall, AreCustoms, MayStand}
@@ -47,18 +47,7 @@ record IsReadCustom (named : ℕ → Bool) (c : Custom) : Type 0 where
 custom_read : (bytes : List ℕ) → AreBytes bytes → (named : ℕ → Bool) (at : ℕ) (c : Custom) (after : ℕ)
     → Spells (custom_info named) bytes at c after → IsReadCustom named c
 unfolding Spells
-custom_read bytes are named at c after h =
-    let s = h.3 in
-    let t = s.3 in
-    let a = t.2 in
-    let p = a.3 in
-    let long : length t.0 ≡ a.0 = omega (arith, ap length p.1, p.0, length-take a.0 (drop a.1 bytes), length-drop a.1 bytes) in
-    rw t.3.0 (record {
-      new = passed_is (is_new_tag named) h.0 h.2.1;
-      tag = op-fits bytes at h.0 are h.2.0;
-      size = number_small h.1 bytes s.0 are s.2.0;
-      aid = subst (λ n. IsTrue (is_aid_length n)) (sym long) (passed_is is_aid_length a.0 a.2.1);
-    })
+custom_read bytes are named at c after h = grind (arith, length, length-take, drop, length-drop, passed_is, op-fits, number_small)
 
 customs_read : (bytes : List ℕ) → AreBytes bytes → (n : ℕ) (named : ℕ → Bool) (at : ℕ) (cs : List Custom) (after : ℕ)
     → Spells (each n custom_info and_that_of named) bytes at cs after → AreReadCustoms named n cs
@@ -73,28 +62,4 @@ customs_read bytes are (suc n) named at cs after h =
 pub read_may_stand : (format : Format) (bytes : List ℕ) (d : DirectoryItems) → AreBytes bytes → Stands (directory_info format) bytes d
     → MayStand format d
 unfolding Stands Spells table
-read_may_stand format bytes d are s =
-    let h = s.1 in
-    let i = h.3 in
-    let j = i.3 in
-    let k = j.3 in
-    let c = k.3 in
-    let a = i.2 in
-    let b = a.3 in
-    let e = b.3 in
-    let image : i.0 ≡ record { image_size = a.0; array_init_count = b.0; array_init_size = e.0 } = e.3.0 in
-    let q = c.2 in
-    let sizes = sizes_read bytes are (size_count format) 0 h.0 h.1 h.2 in
-    let customs = customs_read bytes are q.0 none q.1 c.0 c.1 q.3 in
-    let few : length c.0 < 256 = omega (arith, customs.counted, op-fits bytes k.1 q.0 are q.2.0) in
-    rw c.3.3.0 (record {
-      counted = sizes.counted;
-      sizes = sizes.small;
-      image_size = subst (λ (x : ImageSizes). x.image_size < 65536) (sym image) (number_small h.1 bytes a.0 are a.2.0);
-      array_init_count = subst (λ (x : ImageSizes). x.array_init_count < 65536) (sym image) (number_small a.1 bytes b.0 are b.2.0);
-      array_init_size = subst (λ (x : ImageSizes). x.array_init_size < 65536) (sym image) (number_small b.1 bytes e.0 are e.2.0);
-      import_count = op-fits bytes i.1 j.0 are j.2.0;
-      applet_count = op-fits bytes j.1 k.0 are k.2.0;
-      few = few;
-      customs = customs.customs;
-    })
+read_may_stand format bytes d are s = grind (arith, sizes_read, customs_read, length, op-fits, number_small)

@@ -1,7 +1,6 @@
 -- Places told one after the other.
-use Rattle.std.proofs.Common.{◌≡◌, ◌≤◌, ◌+◌, ◌-◌, ◌/◌, ◌%◌, ◌*◌, ◌<◌, ℕ, zero, suc, List, [], ◌∷◌, ◌++◌, false}
+use Rattle.std.proofs.Common.{◌≡◌, ◌≤◌, ◌+◌, ◌-◌, ◌/◌, ◌%◌, ◌*◌, ◌<◌, ℕ, zero, suc, List, [], ◌∷◌, ◌++◌}
 use Rattle.std.proofs.Common.{replicate, take, drop, refl, sym, ap, ◌∙◌, arith, append_assoc, length, length-append, take-append-drop}
-use Rattle.std.specs.Prelude.{nat_eq}
 use Rattle.std.proofs.lemmas.List.{append-nil, length-replicate}
 use Rattle.std.proofs.Math.Seq.{take-append_seam}
 use Rattle.cap_laying.specs.declared.told.ToldPlaces.{ToldPlaces}
@@ -13,9 +12,7 @@ tells_none told = record { bytes = sym (append-nil told.bytes.items); last = ref
 
 pub distances_both : (last : ℕ) (ps qs : List ℕ) → distances last (ps ++ qs) ≡ distances last ps ++ distances (last_of last ps) qs
 distances_both last [] qs = refl
-distances_both last (p ∷ ps) qs =
-    ap (λ xs. distance_bytes (p - last) ++ xs) (distances_both p ps qs)
-    ∙ sym (append_assoc (distance_bytes (p - last)) (distances p ps) (distances (last_of p ps) qs))
+distances_both last (p ∷ ps) qs = grind (arith, append_assoc, distances_both p ps qs)
 
 pub last_both : (last : ℕ) (ps qs : List ℕ) → last_of last (ps ++ qs) ≡ last_of (last_of last ps) qs
 last_both last [] qs = refl
@@ -24,10 +21,7 @@ last_both last (p ∷ ps) qs = last_both p ps qs
 -- the first of some places are told, and the rest is still to be
 pub told_more : (told new : ToldPlaces) (xs ys zs whole : List ℕ) → zs ≡ xs ++ ys → AppendsDistances told xs new
     → told.bytes.items ++ distances told.last zs ≡ whole → new.bytes.items ++ distances new.last ys ≡ whole
-told_more told new xs ys zs whole e t h =
-    ap (λ bs. bs ++ distances new.last ys) t.bytes ∙ append_assoc told.bytes.items (distances told.last xs) (distances new.last ys)
-    ∙ ap (λ l. told.bytes.items ++ (distances told.last xs ++ distances l ys)) t.last
-    ∙ ap (λ bs. told.bytes.items ++ bs) (sym (distances_both told.last xs ys) ∙ ap (distances told.last) (sym e)) ∙ h
+told_more told new xs ys zs whole e t h = grind (arith, append_assoc, distances_both)
 
 pub last_more : (told new : ToldPlaces) (xs ys zs : List ℕ) (last : ℕ) → zs ≡ xs ++ ys → AppendsDistances told xs new
     → last_of told.last zs ≡ last → last_of new.last ys ≡ last
@@ -36,29 +30,19 @@ last_more told new xs ys zs last e t h = ap (λ l. last_of l ys) t.last ∙ sym 
 -- all are told
 pub told_all : (told initial : ToldPlaces) (zs all : List ℕ) → zs ≡ [] → told.bytes.items ++ distances told.last zs
     ≡ initial.bytes.items ++ distances initial.last all → last_of told.last zs ≡ last_of initial.last all → AppendsDistances initial all told
-told_all told initial zs all e b l = record {
-  bytes = sym (append-nil told.bytes.items) ∙ ap (λ qs. told.bytes.items ++ distances told.last qs) (sym e) ∙ b;
-  last = ap (last_of told.last) (sym e) ∙ l;
-}
+told_all told initial zs all e b l = grind (arith, append-nil)
 
 -- a distance of 255 and more is a byte of 255, and what is left
 pub distance_more : (d : ℕ) → 255 ≤ d → distance_bytes d ≡ 255 ∷ distance_bytes (d - 255)
-distance_more d h =
-    let q : d / 255 ≡ suc ((d - 255) / 255) = omega arith in
-    let r : d % 255 ≡ (d - 255) % 255 = omega arith in
-    rw (q, r) refl
+distance_more d h = grind (arith, suc)
 
 pub distance_last : (d : ℕ) → d < 255 → distance_bytes d ≡ d ∷ []
-distance_last d h =
-    let q : d / 255 ≡ 0 = omega arith in
-    let r : d % 255 ≡ d = omega arith in
-    rw (q, r) refl
+distance_last d h = grind (arith)
 
 -- one more byte of the loop over a distance
 pub put_more : (d : ℕ) (out new whole : List ℕ) → 255 ≤ d → new ≡ out ++ 255 ∷ [] → out ++ distance_bytes d ≡ whole
     → new ++ distance_bytes (d - 255) ≡ whole
-put_more d out new whole h e so_far =
-    rw e (append_assoc out (255 ∷ []) (distance_bytes (d - 255)) ∙ ap (λ xs. out ++ xs) (sym (distance_more d h)) ∙ so_far)
+put_more d out new whole h e so_far = grind (arith, append_assoc, distance_more)
 
 pub put_last : (d : ℕ) (out new whole : List ℕ) → d < 255 → new ≡ out ++ d ∷ [] → out ++ distance_bytes d ≡ whole → new ≡ whole
 put_last d out new whole h e so_far = e ∙ ap (λ xs. out ++ xs) (sym (distance_last d h)) ∙ so_far
@@ -78,27 +62,15 @@ begun_then a b c h k = begun_more a b c (drop (length b) c) h (sym (take-append-
 
 whole_back : (n last r : ℕ) (bs : List ℕ) → r < 255 → places_in last (replicate n 255 ++ (r ∷ bs)) ≡ (last + n * 255 + r) ∷ places_in
     (last + n * 255 + r) bs
-whole_back zero last r bs h =
-    let e : nat_eq r 255 ≡ false = grind arith in
-    let z : last + 0 * 255 + r ≡ last + r = omega arith in
-    rw (e, z) refl
-whole_back (suc n) last r bs h =
-    let z : last + suc n * 255 + r ≡ last + 255 + n * 255 + r = omega arith in
-    rw z (whole_back n (last + 255) r bs h)
+whole_back zero last r bs h = grind (arith)
+whole_back (suc n) last r bs h = grind (arith, suc, whole_back n (last + 255) r bs h)
 
 distance_back : (d last : ℕ) (bs : List ℕ) → places_in last (distance_bytes d ++ bs) ≡ (last + d) ∷ places_in (last + d) bs
-distance_back d last bs =
-    let r : d % 255 < 255 = omega arith in
-    let e : last + d / 255 * 255 + d % 255 ≡ last + d = omega arith in
-    ap (places_in last) (append_assoc (replicate (d / 255) 255) ((d % 255) ∷ []) bs) ∙ whole_back (d / 255) last (d % 255) bs r
-    ∙ ap (λ p. p ∷ places_in p bs) e
+distance_back d last bs = grind (arith, append_assoc, replicate, whole_back)
 
 pub read_back : (last : ℕ) (ps : List ℕ) → Rise last ps → places_in last (distances last ps) ≡ ps
 read_back last [] h = refl
-read_back last (p ∷ ps) h =
-    let l = h.0 in
-    let e : last + (p - last) ≡ p = omega arith in
-    distance_back (p - last) last (distances p ps) ∙ ap (λ q. q ∷ places_in q (distances p ps)) e ∙ ap (λ qs. p ∷ qs) (read_back p ps h.1)
+read_back last (p ∷ ps) h = grind (arith, distance_back, read_back p ps h.1)
 
 -- ---- how many bytes are told
 
@@ -106,12 +78,4 @@ length_distance : (d : ℕ) → length (distance_bytes d) ≡ d / 255 + 1
 length_distance d = length-append (replicate (d / 255) 255) ((d % 255) ∷ []) ∙ ap (λ n. n + 1) (length-replicate (d / 255) 255)
 
 pub few_more : (old new : ToldPlaces) (place : ℕ) → IsFew old → old.last < place → AppendsDistances old (place ∷ []) new → IsFew new
-few_more old new place few lt t =
-    let a : length new.bytes.items ≡ length old.bytes.items + length (distance_bytes (place - old.last) ++ []) = ap length t.bytes
-    ∙ length-append old.bytes.items (distance_bytes (place - old.last) ++ []) in
-    let b : distance_bytes (place - old.last) ++ [] ≡ distance_bytes (place - old.last) = append-nil (distance_bytes (place - old.last)) in
-    let c = length_distance (place - old.last) in
-    let d : length (distance_bytes (place - old.last) ++ []) ≡ (place - old.last) / 255 + 1 = ap length b ∙ c in
-    let l : new.last ≡ place = t.last in
-    let f = few.few in
-    record { few = omega arith }
+few_more old new place few lt t = grind (arith, length, length-append, append-nil, length_distance)

@@ -1,4 +1,4 @@
-ghost use Rattle.std.specs.Prelude.{◌≡◌, ◌≤◌, ◌<◌, ◌+◌, ◌++◌, List, length, OnOk};
+ghost use Rattle.std.specs.Prelude.{◌≡◌, ◌≤◌, ◌<◌, ◌+◌, ◌++◌, length, OnOk};
 ghost use Rattle.cap_laying.specs.HandlerTable.{AreInside, IsInside, entries_at, handler_entry, entry_bytes, is_in, stops, table_bytes};
 ghost use Rattle.cap_laying.specs.MethodInfo.{AreSmallEntries, IsSmallEntry};
 

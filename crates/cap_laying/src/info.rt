@@ -3,7 +3,6 @@ ghost use Rattle.cap_bytes.specs.Spelling.{Stands};
 ghost use Rattle.cap_laying.specs.NewDirectory.{new_directory, own_size};
 ghost use Rattle.cap_frame.specs.Directory.{directory_items};
 ghost use Rattle.cap_frame.specs.DirectoryFormat.{directory_info, size_count};
-ghost use Rattle.cap_bytes.specs.Bytes.{AreBytes};
 
 use crate::sizes::ComponentSizes;
 use crate::writing::put_directory;

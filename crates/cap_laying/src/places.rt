@@ -1,5 +1,5 @@
-ghost use Rattle.std.specs.Prelude.{◌≡◌, ◌≤◌, ◌<◌, ◌+◌, IfOk, Some, None, MatchOption, length, slice_index};
-ghost use Rattle.cap_laying.specs.Member.{body_size, code_size, methods_end_from, handlers_of};
+ghost use Rattle.std.specs.Prelude.{◌≡◌, ◌≤◌, ◌<◌, ◌+◌, IfOk, Some, None, MatchOption, slice_index};
+ghost use Rattle.cap_laying.specs.Member.{body_size, methods_end_from};
 ghost use Rattle.cap_laying.specs.NewPlaces.{AreSmallBodies, IsSmallBody, new_method, news_from};
 
 use crate::headers::header_size;
