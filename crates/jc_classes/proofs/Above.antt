@@ -1,7 +1,6 @@
 -- What stands above a class or an interface is a class or an interface, and whether something does is decided.
 use Rattle.std.proofs.Common.{◌≡◌, ℕ, ◌<◌, Bool, true, false, List, [], length, Option, Some, None, refl, subst, arith}
-use Rattle.std.specs.Prelude.{All, Contains, IfSome, slice_get}
-use Rattle.std.specs.Option.{option_to_list}
+use Rattle.std.specs.Prelude.{All, Contains, slice_get}
 use Rattle.std.proofs.lemmas.List.Elements.{All-contains, All-map, All-nil}
 use Rattle.std.proofs.lemmas.Option.{slice_get_within}
 use Rattle.jc_base.proofs.Lists.{All-slice_get}
@@ -15,23 +14,14 @@ use Rattle.jc_base.proofs.Tests.{same_truth}
 
 -- ---- what has something above it, and what stands there
 
-superclass-from : (cs : List NamedClass) (a b : ℕ) (o : Option NamedClass) → slice_get cs a ≡ o → Contains (superclass_in o) b → a < length cs
-superclass-from cs a b u e h = grind (arith, slice_get_within)
-
-extended-from : (cs : List NamedClass) (a b : ℕ) (o : Option NamedClass) → slice_get cs a ≡ o → Contains (extended_in o) b → a < length cs
-extended-from cs a b u e h = grind (arith, slice_get_within)
-
 pub above-from : (cs : List NamedClass) (interfaces : Bool) (a b : ℕ) → Contains (above cs interfaces a) b → a < length cs
 unfolding superclass extended
-above-from cs true a b h = extended-from cs a b (slice_get cs a) refl h
-above-from cs false a b h = superclass-from cs a b (slice_get cs a) refl h
-
-parent-inside : (cs : List NamedClass) (o : Option ℕ) → IfSome o (λ p. p < length cs) → All (λ p. p < length cs) (option_to_list o)
-parent-inside cs y h = grind (arith)
+above-from cs true a b h = grind (arith, slice_get_within)
+above-from cs false a b h = grind (arith, slice_get_within)
 
 superclass-inside : (cs : List NamedClass) (r : NamedClass) (i : Bool) → r.interface ≡ i → HasKnownLine cs r
     → All (λ p. p < length cs) (superclass_in (Some r))
-superclass-inside cs r z e is = grind (arith, parent-inside)
+superclass-inside cs r z e is = grind (arith)
 
 extended-inside : (cs : List NamedClass) (r : NamedClass) (i : Bool) → r.interface ≡ i → HasKnownLine cs r
     → All (λ p. p < length cs) (extended_in (Some r))

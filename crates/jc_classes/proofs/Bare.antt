@@ -8,7 +8,7 @@ use Rattle.std.proofs.lemmas.Option.{slice_get-map}
 use Rattle.std.proofs.lemmas.List.{length-map}
 use Rattle.jc_base.specs.declared.record.ClassRec.{ClassRec}
 use Rattle.jc_base.specs.Class.{ClassTable, list_of, is_interface_record}
-use Rattle.jc_base.specs.Class.{parent_in_record, is_interface as interface_in_table, IsClass as IsTableClass}
+use Rattle.jc_base.specs.Class.{is_interface as interface_in_table, IsClass as IsTableClass}
 use Rattle.jc_base.specs.Class.{parent_of as parent_in_table, chain_over as chain_over_table, chain as chain_in_table, AreClasses}
 use Rattle.jc_base.specs.Order.{is_on_chain as on_chain_in_table}
 use Rattle.jc_base.proofs.Chains.{chain_over-front as front_over_table, chain_alone as alone_over_table, chain_above as above_over_table}
@@ -16,7 +16,7 @@ use Rattle.jc_base.proofs.Chains.{next_on_chain as next_in_table}
 use Rattle.jc_base.proofs.Climbs.{chain-length as length_in_table, parent_of-class as class_of_parent, on_chain-here as here_in_table}
 use Rattle.jc_classes.specs.declared.lineage_type.Line.{Line}
 use Rattle.jc_classes.specs.Outline.{LineTable, IsClass, AreLines, is_interface_line, is_interface}
-use Rattle.jc_classes.specs.Outline.{parent_in_line, parent_of, chain_over, chain}
+use Rattle.jc_classes.specs.Outline.{parent_of, chain_over, chain}
 use Rattle.jc_classes.specs.Outline.{is_on_chain}
 
 -- a line as the record of a class without cells, interfaces and dispatch lists
@@ -39,9 +39,6 @@ interface_by : (o : Option Line) → is_interface_record (option_map record_of o
 interface_by None = refl
 interface_by (Some l) = refl
 
-parent_by : (o : Option Line) → parent_in_record (option_map record_of o) ≡ parent_in_line o
-parent_by x = grind (arith)
-
 list_of-same : (f g : ℕ → List ℕ) (o : Option ℕ) → ((p : ℕ) → f p ≡ g p) → list_of f o ≡ list_of g o
 list_of-same f g z h = grind (arith)
 
@@ -55,7 +52,7 @@ module _ (t : LineTable) where
 
   pub bare-parent : (c : ℕ) → parent_in_table (bare t) c ≡ parent_of t c
   unfolding parent_in_table parent_of
-  bare-parent c = ap parent_in_record (slice_get-map record_of t.lines c) ∙ parent_by (slice_get t.lines c)
+  bare-parent c = grind (arith, slice_get-map)
 
   bare-over : (n c : ℕ) → chain_over_table (bare t) n c ≡ chain_over t n c
   unfolding chain_over_table chain_over

@@ -1,13 +1,13 @@
 -- A table with the superclasses of lines has their chains.
 use Rattle.std.proofs.Common.{◌≡◌, ℕ, zero, suc, ◌+◌, ◌<◌, get_or, take, List, [], ◌∷◌, ◌++◌, length, Option, Some, refl, sym}
 use Rattle.std.proofs.Common.{ap, ◌∙◌, arith}
-use Rattle.std.specs.Prelude.{slice_get, slice_index, option_map, ◌==◌}
+use Rattle.std.specs.Prelude.{slice_get, option_map, ◌==◌}
 use Rattle.std.specs.List.{list_any}
 use Rattle.std.proofs.lemmas.Option.{slice_get-map, get_or_from_slice_get}
 use Rattle.std.proofs.lemmas.List.{length-map, take_more}
 use Rattle.jc_base.specs.declared.record.ClassRec.{ClassRec}
 use Rattle.jc_base.specs.Class.{ClassTable, IsClass, AreClasses, chain, chain_over}
-use Rattle.jc_base.specs.Class.{list_of, object, parent_of, parent_in_record, is_interface}
+use Rattle.jc_base.specs.Class.{list_of, parent_of, parent_in_record, is_interface}
 use Rattle.jc_base.specs.Class.{is_interface_record}
 use Rattle.jc_base.specs.Order.{is_on_chain}
 use Rattle.jc_base.specs.Dispatch.{package_of, of_record}
@@ -15,7 +15,7 @@ use Rattle.jc_resolve.specs.declared.named.NamedClass.{NamedClass}
 use Rattle.jc_classes.specs.declared.layout.ClassLayout.{ClassLayout}
 use Rattle.jc_classes.specs.Outline.{LineTable, AreLines, IsClass as IsLineClass, chain as line_chain}
 use Rattle.jc_classes.specs.Outline.{chain_over as line_chain_over, is_on_chain as on_line_chain}
-use Rattle.jc_classes.specs.Outline.{object as line_object, parent_of as line_parent}
+use Rattle.jc_classes.specs.Outline.{parent_of as line_parent}
 use Rattle.jc_classes.specs.Outline.{parent_in_line, is_interface as line_interface, is_interface_line}
 use Rattle.jc_classes.specs.Outline.{package_of as line_package, package_in_line, line_of}
 use Rattle.jc_classes.specs.Outline.{outline}
@@ -51,14 +51,8 @@ on_chain-alike t u alike d c = ap (list_any (λ x. x == d)) (chain-alike t u ali
 pub class-alike : (t : LineTable) (u : ClassTable) → AreAlike t u → (c : ℕ) → IsLineClass t c → IsClass u c
 class-alike t u alike c is = record { number = rw alike.count is.number; class = alike.interfaces c ∙ is.class }
 
-class-back : (t : LineTable) (u : ClassTable) → AreAlike t u → (c : ℕ) → IsClass u c → IsLineClass t c
-class-back t u alike c is = record { number = rw alike.count at is.number; class = sym (alike.interfaces c) ∙ is.class }
-
-pub object-alike : (t : LineTable) (u : ClassTable) → AreAlike t u → object u ≡ line_object t
-object-alike t u alike = ap (λ (roles : List ℕ). slice_index roles 0) alike.roles_are
-
 pub classes-alike : (t : LineTable) (u : ClassTable) → AreAlike t u → AreLines t → AreClasses u
-classes-alike t u alike are = grind (arith, object-alike, class-alike, class-back, get_or, chain-alike)
+classes-alike t u alike are = grind (arith, class-alike, get_or, chain-alike)
 
 -- ---- the table that is built
 

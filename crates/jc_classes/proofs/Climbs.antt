@@ -1,17 +1,12 @@
 -- The chain of a class as it is climbed.
-use Rattle.std.proofs.Common.{◌≡◌, ℕ, true, append_assoc, List, [], ◌∷◌, ◌++◌, Option, Some, None, refl, ◌∙◌, arith}
-use Rattle.std.specs.Prelude.{slice_get}
-use Rattle.std.proofs.Common.{sym, ap}
+use Rattle.std.proofs.Common.{◌≡◌, ℕ, append_assoc, List, [], ◌∷◌, ◌++◌, Option, Some, None, ◌∙◌, arith}
 use Rattle.jc_base.specs.Class.{list_of}
 use Rattle.jc_classes.specs.Outline.{LineTable, AreLines, chain, parent_of}
 use Rattle.jc_classes.proofs.Bare.{next_on_chain, parent_of-class, chain-alone, chain-front}
 
-chain_by : (t : LineTable) (c : ℕ) (above : Option ℕ) → AreLines t → parent_of t c ≡ above → chain t c ≡ c ∷ list_of (chain t) above
-chain_by t c z are e = grind (arith, chain-alone, next_on_chain, parent_of-class)
-
 -- a chain is its class and the chain of the superclass
 pub chain_step : (t : LineTable) (c : ℕ) → AreLines t → chain t c ≡ c ∷ list_of (chain t) (parent_of t c)
-chain_step t c are = chain_by t c (parent_of t c) are refl
+chain_step t c are = grind (arith, chain-alone, next_on_chain, parent_of-class)
 
 pub head_same : (x y : ℕ) (xs ys : List ℕ) → x ∷ xs ≡ y ∷ ys → x ≡ y
 head_same x y xs ys e = cc

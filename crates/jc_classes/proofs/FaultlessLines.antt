@@ -6,7 +6,7 @@ use Rattle.std.proofs.lemmas.Bool.{false≢true, eq-eqb, eqb-true}
 use Rattle.std.proofs.lemmas.List.Elements.{All-nil, All-weaker}
 use Rattle.jc_base.specs.declared.record.Iface.{Iface}
 use Rattle.jc_resolve.specs.declared.fault.LinkFault.{LinkFault}
-use Rattle.jc_resolve.specs.declared.fault.LinkFault.TheVariants.{SuperIsInterface, Cycle, NoRole, NoSuper, NotInterface}
+use Rattle.jc_resolve.specs.declared.fault.LinkFault.TheVariants.{SuperIsInterface, Cycle, NoSuper, NotInterface}
 use Rattle.jc_resolve.specs.declared.named.NamedClass.{NamedClass}
 use Rattle.jc_resolve.specs.Named.{is_interface}
 use Rattle.first_fault.specs.First.{AllEmpty}
@@ -39,9 +39,6 @@ none-all f h (x ∷ xs) e = grind (arith, faultless_first, none-all f h xs (faul
 refused-not : (b : Bool) (f : LinkFault) → (cond b (Some f) None) ≡ None → b ≡ false
 refused-not x f e = grind (arith)
 
-refused-unless : (b : Bool) (f : LinkFault) → (cond b None (Some f)) ≡ None → b ≡ true
-refused-unless x f e = grind (arith)
-
 -- ---- each condition
 
 -- nothing is at fault
@@ -63,7 +60,7 @@ cycle-none cs c r e = refused-not (is_above cs r.interface c c) (Cycle c) e
 
 role-none : (cs : List NamedClass) (first throwable k c : ℕ) → role_fault cs first throwable (k, c) ≡ None → fits_role cs first throwable k c ≡ true
 unfolding role_fault
-role-none cs first throwable k c e = refused-unless (fits_role cs first throwable k c) (NoRole k) e
+role-none cs first throwable k c e = grind (arith)
 
 not_some : (o : Option ℕ) → is_some o ≡ false → o ≡ None
 not_some x e = grind (arith, false≢true)

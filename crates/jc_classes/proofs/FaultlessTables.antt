@@ -1,7 +1,7 @@
 -- What holds of dispatch lists where no condition names a fault.
 use Rattle.std.proofs.Common.{◌≡◌, ℕ, zero, suc, ◌+◌, ◌<◌, Bool, true, List, [], ◌∷◌, length, map, flat_map, Option, Some, None}
 use Rattle.std.proofs.Common.{refl, ap, ◌∙◌, arith}
-use Rattle.std.specs.Prelude.{All, filter_map, slice_get, option_and_then}
+use Rattle.std.specs.Prelude.{All, filter_map, slice_get}
 use Rattle.std.specs.List.{range_with_len}
 use Rattle.std.specs.Option.{option_flatten}
 use Rattle.std.proofs.lemmas.Bool.{false≢true}
@@ -10,7 +10,7 @@ use Rattle.first_fault.proofs.LeastFaults.{faultless_first}
 use Rattle.jc_base.specs.declared.record.Iface.{Iface}
 use Rattle.jc_base.specs.declared.record.MethodRec.{MethodRec}
 use Rattle.jc_classes.specs.Outline.{LineTable}
-use Rattle.jc_base.specs.Dispatch.{signature_of, signature_at}
+use Rattle.jc_base.specs.Dispatch.{signature_at}
 use Rattle.jc_resolve.specs.declared.named.NamedClass.{NamedClass}
 use Rattle.jc_resolve.proofs.Faultless.{both_faultless, flat_faultless}
 use Rattle.jc_classes.specs.Layout.{public_entries, visible_entries}
@@ -90,13 +90,10 @@ listed_all P t c methods each [] stand = All-nil P
 listed_all P t c methods each (None ∷ es) stand = absurd (false≢true stand.0)
 listed_all P t c methods each (Some m ∷ es) stand = All-cons P m (methods_listed es) (each m stand.0) (listed_all P t c methods each es stand.1)
 
-signature_by : (methods : List MethodRec) (o : Option ℕ) → option_and_then (signature_of methods) o ≡ entry_signature methods o
-signature_by methods y = grind (arith)
-
 -- the signature at a token of a list whose entries are all there
 pub signature_listed : (methods : List MethodRec) (entries : List (Option ℕ)) (token : ℕ) → IsListed entries
     → signature_at methods (methods_listed entries) token ≡ entry_signature methods (option_flatten (slice_get entries token))
-signature_listed methods entries token l = grind (arith, signature_by)
+signature_listed methods entries token l = grind (arith)
 
 -- ---- entries that replace others
 

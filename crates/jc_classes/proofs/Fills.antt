@@ -3,7 +3,7 @@ use Rattle.std.proofs.Common.{◌≡◌, ℕ, zero, suc, ◌+◌, ◌≤◌, ◌
 use Rattle.std.proofs.Common.{append_assoc, append-nil, replicate, Option, Some, None, refl, sym, ap, ◌∙◌, arith}
 use Rattle.std.specs.List.{range_with_len}
 use Rattle.std.proofs.lemmas.List.{length-replicate}
-use Rattle.std.specs.Prelude.{All, filter_map, IfSome, IsSome, slice_get}
+use Rattle.std.specs.Prelude.{All, filter_map, IfSome, slice_get}
 use Rattle.std.specs.Option.{option_to_list, option_map, option_flatten, option_and_then}
 use Rattle.std.proofs.lemmas.Bool.{cases_lt, false≢true, cases_eq}
 use Rattle.std.proofs.lemmas.List.Sums.{sum_by-le}
@@ -43,19 +43,6 @@ slots_kept t classes slots c l are h is = grind (arith, cases_eq, filled-here, f
 
 -- ---- the superclass's slot
 
-made_is : (t : LineTable) (classes : List NamedClass) (p : ℕ) (o : Option ClassLayout) → IsSome o → IfSome o (λ l. l ≡ class_layout t classes p)
-    → o ≡ Some (class_layout t classes p)
-made_is t classes p u is e = grind (arith, false≢true)
-
--- a slot that is not empty holds the layout of its class
-pub filled_from : (t : LineTable) (classes : List NamedClass) (slots : List (Option ClassLayout)) (above : Option ℕ) → AreLayouts t classes slots
-    → IfSome above (λ p. IsSome (slot_at slots p)) → IfSome above (IsFilled t classes slots)
-filled_from t classes slots u are made = grind (arith, made_is)
-
-pub above_filled : (t : LineTable) (classes : List NamedClass) (slots : List (Option ClassLayout)) (above : Option ℕ)
-    → IfSome above (IsFilled t classes slots) → option_and_then (slot_at slots) above ≡ option_map (class_layout t classes) above
-above_filled t classes slots u made = grind (arith)
-
 -- ---- how many cells an instance can have
 
 own_few_by : (o : Option NamedClass) → IfSome o IsSized → length (of_class [] (λ k. k.own) o) ≤ 131070
@@ -69,14 +56,11 @@ own_few : (classes : List NamedClass) (c : ℕ) → All IsSized classes → leng
 unfolding own_of
 own_few classes c all = own_few_by (slice_get classes c) (sized_at classes c (slice_get classes c) refl all)
 
-all_few : (classes : List NamedClass) (cs : List ℕ) → All IsSized classes → All (λ a. length (own_of classes a) ≤ 131070) cs
-all_few classes cs all = λ k d h. own_few classes (get_or cs k d) all
-
 pub cells_few : (t : LineTable) (classes : List NamedClass) (c : ℕ) → All IsSized classes → length t.lines ≤ 4096
     → instance_cells t classes c ≤ 536993790
 unfolding instance_cells
 cells_few t classes c all few =
-    let sum = sum_by-le (λ a. length (own_of classes a)) 131070 (chain t c) (all_few classes (chain t c) all) in
+    let sum = sum_by-le (λ a. length (own_of classes a)) 131070 (chain t c) (grind (arith, own_few, get_or)) in
     let long = chain-length t c in
     omega (arith, sum, long)
 
@@ -89,7 +73,7 @@ above_few t classes z all few = grind (arith, cells_few)
 
 pub up_is : (t : LineTable) (classes : List NamedClass) (slots : List (Option ClassLayout)) (above : Option ℕ) (up : Option ClassLayout)
     → up ≡ option_and_then (slot_at slots) above → IfSome above (IsFilled t classes slots) → up ≡ option_map (class_layout t classes) above
-up_is t classes slots above up e made = e ∙ above_filled t classes slots above made
+up_is t classes slots above up e made = grind (arith)
 
 pub up_few : (t : LineTable) (classes : List NamedClass) (slots : List (Option ClassLayout)) (above : Option ℕ) (up : Option ClassLayout)
     → up ≡ option_and_then (slot_at slots) above → IfSome above (IsFilled t classes slots) → HaveSuperclasses t classes
@@ -143,11 +127,6 @@ pub down_step : (t : LineTable) (path rest : List ℕ) (x : ℕ) (above : Option
     → path ++ list_of (chain t) above ≡ chain t c → chain t x ≡ x ∷ list_of (chain t) above
 down_step t path rest x above c are e whole = chain_from t are rest c x (list_of (chain t) above) (taken t path rest x above c e whole)
 
-pub down_whole : (t : LineTable) (path rest : List ℕ) (x : ℕ) (above : Option ℕ) (c : ℕ) → AreLines t → path ≡ rest ++ (x ∷ [])
-    → path ++ list_of (chain t) above ≡ chain t c → rest ++ list_of (chain t) (Some x) ≡ chain t c
-down_whole t path rest x above c are e whole =
-    ap (λ (xs : List ℕ). rest ++ xs) (down_step t path rest x above c are e whole) ∙ taken t path rest x above c e whole
-
 pub down_known : (t : LineTable) (classes : List NamedClass) (path rest : List ℕ) (x : ℕ) (above : Option ℕ) (c : ℕ) → AreLines t
     → HaveSuperclasses t classes → c < length classes → path ≡ rest ++ (x ∷ []) → path ++ list_of (chain t) above ≡ chain t c
     → x < length classes
@@ -166,18 +145,14 @@ pub record IsDescent (t : LineTable) (classes : List NamedClass) (first : List (
   pub filled : IfSome above (IsFilled t classes slots)
   pub known : IfSome above (λ p. p < length classes)
 
-above_counted : (t : LineTable) (classes : List NamedClass) (above : Option ℕ) → HaveSuperclasses t classes → IfSome above (λ p. p < length t.lines)
-    → IfSome above (λ p. p < length classes)
-above_counted t classes z known h = grind (arith)
-
 pub descent_first : (t : LineTable) (classes : List NamedClass) (slots : List (Option ClassLayout)) (c : ℕ) (path : List ℕ) (above : Option ℕ)
     → HaveSuperclasses t classes → AreLayouts t classes slots → IsClimb t slots c path above → IsDescent t classes slots slots c path above
-descent_first t classes slots c path above known are climb = grind (arith, filled_from, above_counted)
+descent_first t classes slots c path above known are climb = grind (arith, false≢true)
 
 pub descent_next : (t : LineTable) (classes : List NamedClass) (first slots next : List (Option ClassLayout)) (c : ℕ) (path rest : List ℕ) (x : ℕ)
     (above : Option ℕ) → AreLines t → HaveSuperclasses t classes → c < length classes → path ≡ rest ++ (x ∷ [])
     → IsDescent t classes first slots c path above → IsMade t classes slots next x → IsDescent t classes first next c rest (Some x)
-descent_next t classes first slots next c path rest x above are known low e d made = grind (arith, down_whole, down_known)
+descent_next t classes first slots next c path rest x above are known low e d made = grind (arith, down_known, down_step, taken)
 
 pub descent_last : (t : LineTable) (classes : List NamedClass) (first slots : List (Option ClassLayout)) (c : ℕ) (path : List ℕ) (above : Option ℕ)
     → path ≡ [] → IsDescent t classes first slots c path above → IsMade t classes first slots c

@@ -20,7 +20,7 @@ use Rattle.jc_resolve.specs.Fault.{link_place}
 use Rattle.first_fault.specs.Least.{least_from, least_of, lesser}
 use Rattle.jc_classes.specs.KnownLines.{HaveSuperclasses}
 use Rattle.jc_classes.specs.declared.layout.ClassLayout.{ClassLayout}
-use Rattle.jc_classes.specs.Entries.{reach, reach_from, reach_of}
+use Rattle.jc_classes.specs.Entries.{reach, reach_of}
 use Rattle.jc_classes.specs.Layout.{of_class, public_table, visible_table, public_entries}
 use Rattle.jc_classes.specs.Layout.{visible_entries, instance_cells, class_layout, layouts}
 use Rattle.jc_classes.specs.Slots.{HasShortLists}
@@ -58,13 +58,10 @@ range_more n =
     ∙ map-range_with_len_more (λ (k : ℕ). k) 0 n n (omega arith)
     ∙ ap (λ (ks : List ℕ). ks ++ (n ∷ [])) (map-id (range_with_len 0 n))
 
-flat_range : {X : Type 0} (f : ℕ → List X) (n : ℕ) → flat_map f (range_with_len 0 (n + 1)) ≡ flat_map f (range_with_len 0 n) ++ f n
-flat_range f n = grind (arith, flat_map, range_more, flat_map-append, append-nil)
-
 pub least_next : {X : Type 0} (fault : X → Option LinkFault) (f : ℕ → List X) (n : ℕ) (least : Option LinkFault)
     → least ≡ least_of link_place fault (flat_map f (range_with_len 0 n))
     → least_from link_place least fault (f n) ≡ least_of link_place fault (flat_map f (range_with_len 0 (n + 1)))
-least_next fault f n least e = grind (arith, fold-append, flat_map, flat_range)
+least_next fault f n least e = grind (arith, fold-append, flat_map, range_more, flat_map-append, append-nil)
 
 pub least_both : {X : Type 0} (fault : X → Option LinkFault) (xs ys : List X) (least : Option LinkFault)
     → least_from link_place (least_from link_place least fault xs) fault ys ≡ least_from link_place least fault (xs ++ ys)
@@ -72,19 +69,13 @@ least_both fault xs ys least = sym (fold-append _ least xs ys)
 
 -- ---- how long dispatch lists are
 
-reach_few_by : (base : ℕ) (entries : List (Option ℕ)) → base ≤ 255 → length entries ≤ 255 → reach_from base entries ≤ 510
-reach_few_by base y h k = grind (arith)
-
 reach_few : (table : DispatchTable) → IsByteTable table → reach table ≤ 510
 unfolding reach
-reach_few table h = reach_few_by table.base table.entries h.base h.count
-
-empty_table : IsByteTable no_table
-empty_table = record { base = omega arith; count = omega arith }
+reach_few table h = grind (arith)
 
 table_few_by : (f : NamedClass → DispatchTable) → ((k : NamedClass) → IsSized k → IsByteTable (f k)) → (o : Option NamedClass)
     → IfSome o IsSized → IsByteTable (of_class no_table f o)
-table_few_by f each z h = grind (arith, empty_table)
+table_few_by f each z h = grind (arith)
 
 public_few : (classes : List NamedClass) (c : ℕ) → All IsSized classes → reach (public_table classes c) ≤ 510
 unfolding public_table
@@ -141,10 +132,6 @@ pub ruleset above_in_all = (above_at, layouts_count)
 
 -- ---- class numbers one by one
 
-pub least_one : (fault : ℕ → Option LinkFault) (n : ℕ) (least : Option LinkFault) → least ≡ least_of link_place fault (range_with_len 0 n)
-    → lesser link_place least (fault n) ≡ least_of link_place fault (range_with_len 0 (n + 1))
-least_one fault n least e = grind (arith, fold-append, range_more)
-
 long_by : (c cells : ℕ) (t : LineTable) (classes : List NamedClass) (b : Bool) → nat_lt 32767 cells ≡ b → cells ≡ instance_cells t classes c
     → (if b then Some (InstanceLong c cells) else None) ≡ long_fault t classes c
 unfolding long_fault
@@ -160,9 +147,7 @@ pub long_next : (t : LineTable) (classes : List NamedClass) (all : List ClassLay
     → fault ≡ (if nat_lt 32767 d.cells then Some (InstanceLong c d.cells) else None) → least ≡ least_of link_place (long_fault t classes)
     (range_with_len 0 c)
     → lesser link_place least fault ≡ least_of link_place (long_fault t classes) (range_with_len 0 (c + 1))
-long_next t classes all c d least fault e h at is before =
-    ap (lesser link_place least) (is ∙ long_by c d.cells t classes (nat_lt 32767 d.cells) refl (cells_are t classes all c d e h at))
-    ∙ least_one (long_fault t classes) c least before
+long_next t classes all c d least fault e h at is before = grind (arith, long_by, cells_are, fold-append, range_more)
 
 pub ruleset long_folds = (long_next, layouts_count)
 

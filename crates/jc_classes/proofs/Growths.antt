@@ -20,7 +20,7 @@ use Rattle.jc_resolve.specs.Named.{IsSized}
 use Rattle.jc_resolve.proofs.Faultless.{both_faultless}
 use Rattle.jc_classes.specs.declared.layout.ClassLayout.{ClassLayout}
 use Rattle.jc_classes.specs.Entries.{reach, overlaid}
-use Rattle.jc_classes.specs.Growth.{own_by, is_own, AddsOwn, GrowsLists}
+use Rattle.jc_classes.specs.Growth.{is_own, AddsOwn, GrowsLists}
 use Rattle.jc_classes.specs.Layout.{above_or_nothing, at_home, class_layout, public_entries, visible_entries}
 use Rattle.jc_classes.specs.Signatures.{entry_method}
 use Rattle.jc_classes.specs.TableConditions.{entries_from, entries_in, hole_fault, may_stand, layout_above, visible_above}
@@ -67,15 +67,9 @@ adds_all methods c first to table inherited list e is past before = record {
 
 -- ---- entries that may stand in a list
 
-own_stands : (t : LineTable) (c : ℕ) (o : Option MethodRec) → own_by c o ≡ true → may_stand t c o ≡ true
-own_stands t c z e = grind (arith, false≢true, not, eqb-true, and_parts, on_chain-here)
-
 on_above : (t : LineTable) (d c p : ℕ) → chain t c ≡ c ∷ chain t p → is_on_chain t d p ≡ true → is_on_chain t d c ≡ true
 unfolding is_on_chain
 on_above t d c p step on = ap (list_any (λ x. x == d)) step ∙ ap (λ (b : Bool). (c == d) || b) on ∙ or-true (c == d)
-
-above_stands : (t : LineTable) (c p : ℕ) (o : Option MethodRec) → chain t c ≡ c ∷ chain t p → may_stand t p o ≡ true → may_stand t c o ≡ true
-above_stands t c p u step e = grind (arith, false≢true, not, on_above, and_parts)
 
 -- each entry of a list, by its token
 pub record Stand (t : LineTable) (c : ℕ) (methods : List MethodRec) (list : List (Option ℕ)) : Type 0 where
@@ -90,14 +84,14 @@ stand_at t c methods (e ∷ es) (suc k) all h = stand_at t c methods es k all.1 
 -- those of a class by those of its superclass
 grown_stand : (t : LineTable) (c : ℕ) (methods : List MethodRec) (inherited list : List (Option ℕ)) → Stand t c methods inherited
     → AddsOwn methods c inherited list → Stand t c methods list
-grown_stand t c methods inherited list up adds = grind (arith, own_stands, get_or)
+grown_stand t c methods inherited list up adds = grind (arith, get_or, false≢true, not, eqb-true, and_parts, on_chain-here)
 
 none_stand : (t : LineTable) (c : ℕ) (methods : List MethodRec) → Stand t c methods []
 none_stand t c methods = record { each = λ k h. absurd (omega arith) }
 
 seen_stand : (t : LineTable) (c p : ℕ) (methods : List MethodRec) (token : ℕ) (list : List (Option ℕ)) → chain t c ≡ c ∷ chain t p
     → filter_map (hole_fault t methods) (entries_from p token list) ≡ [] → Stand t c methods list
-seen_stand t c p methods token list step none = grind (arith, above_stands, get_or, stand_at, all_stand)
+seen_stand t c p methods token list step none = grind (arith, get_or, stand_at, all_stand, false≢true, not, on_above, and_parts)
 
 -- ---- the lists of the superclass
 

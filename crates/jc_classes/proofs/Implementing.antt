@@ -15,12 +15,8 @@ use Rattle.jc_resolve.specs.Fault.{link_place}
 use Rattle.first_fault.specs.Least.{least_from, lesser}
 use Rattle.jc_classes.specs.Layout.{public_entries}
 use Rattle.jc_classes.specs.TableConditions.{Implementation, serves, serves_all, interface_type_fault, implemented_by, implementations_in}
-use Rattle.jc_classes.specs.Groups.{AreGroups, methods_of}
+use Rattle.jc_classes.specs.Groups.{AreGroups}
 use Rattle.jc_classes.proofs.Grouping.{all_of_class}
-
-group_is : (n : ℕ) (methods : List MethodRec) (groups : List (List MethodRec)) (d : ℕ) (g : List MethodRec) → AreGroups n methods groups
-    → d < length groups → g ≡ get_or groups d g → g ≡ methods_of methods d
-group_is n methods groups d g are h at = grind (arith, slice_get-get_or)
 
 fault_by : (methods : List MethodRec) (x : Implementation) (b : Bool) → b ≡ serves_all methods x.public x.iface
     → (if b then None else Some (InterfaceType x.class x.iface.class)) ≡ interface_type_fault methods x
@@ -30,8 +26,7 @@ fault_by methods x b e = ap (λ (c : Bool). if c then None else Some (InterfaceT
 tested : (n : ℕ) (methods : List MethodRec) (groups : List (List MethodRec)) (x : Implementation) (g : List MethodRec) (b : Bool)
     → AreGroups n methods groups → x.iface.class < length groups → g ≡ get_or groups x.iface.class g
     → b ≡ list_all (serves methods x.public x.iface) g → b ≡ serves_all methods x.public x.iface
-tested n methods groups x g b are h at is =
-    grind (arith, group_is n methods groups x.iface.class g are h at, all_of_class (serves methods x.public x.iface) methods x.iface.class)
+tested n methods groups x g b are h at is = grind (arith, all_of_class, slice_get-get_or)
 
 -- an interface whose methods are all served, and one of which some method is not
 pub fault_none : (n : ℕ) (methods : List MethodRec) (groups : List (List MethodRec)) (x : Implementation) (g : List MethodRec)

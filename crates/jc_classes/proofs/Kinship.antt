@@ -1,5 +1,5 @@
 -- The chain of a class is the class and its ancestors, and no class is one of its ancestors.
-use Rattle.std.proofs.Common.{◌≡◌, ℕ, zero, suc, ◌<◌, ◌⊎◌, inl, inr, ◌↔◌, Bool, true, false, List, [], ◌∷◌, length, Option, Some}
+use Rattle.std.proofs.Common.{◌≡◌, ℕ, zero, suc, ◌<◌, ◌⊎◌, inl, inr, ◌↔◌, Bool, true, List, [], ◌∷◌, length, Option, Some}
 use Rattle.std.proofs.Common.{None, refl, sym, subst, ◌∙◌, arith}
 use Rattle.std.specs.Prelude.{IsTrue, Contains, slice_get}
 use Rattle.std.proofs.lemmas.Bool.{false≢true}
@@ -7,7 +7,7 @@ use Rattle.jc_base.specs.Order.{is_on_chain as on_chain_in_table}
 use Rattle.jc_base.proofs.Climbs.{climb, on_alone, on_next, on_chain-parent, on_chain-trans}
 use Rattle.jc_resolve.specs.declared.named.NamedClass.{NamedClass}
 use Rattle.jc_base.specs.Leads.{Leads, at_once, further}
-use Rattle.jc_classes.specs.Ancestor.{superclass, superclass_in, extended, extended_in, IsAncestor, above}
+use Rattle.jc_classes.specs.Ancestor.{superclass, extended, IsAncestor, above}
 use Rattle.jc_classes.specs.Outline.{AreLines, is_on_chain, parent_of, outline}
 use Rattle.jc_classes.proofs.Bare.{bare, bare-parent, bare-on_chain, bare-classes, on_chain-here}
 use Rattle.jc_classes.proofs.Above.{above-from, is_above-complete}
@@ -58,17 +58,11 @@ past (x ∷ xs) (suc i) h e = past xs i (omega arith) e
 first-step : {next : ℕ → List ℕ} {a b : ℕ} → Leads next a b → (x : ℕ) × Contains (next a) x
 first-step x = grind (arith)
 
-extends-kind : (r : NamedClass) (b : Bool) (x : ℕ) → r.interface ≡ b → Contains (extended_in (Some r)) x → true ≡ b
-extends-kind r y x i h = grind (arith)
-
-super-kind : (r : NamedClass) (b : Bool) (x : ℕ) → r.interface ≡ b → Contains (superclass_in (Some r)) x → false ≡ b
-super-kind r y x i h = grind (arith)
-
 -- what has something above it among interfaces is one, and among classes is none
 above-kind : (cs : List NamedClass) (interfaces : Bool) (c x : ℕ) (r : NamedClass) → slice_get cs c ≡ Some r → Contains (above cs interfaces c) x
     → interfaces ≡ r.interface
 unfolding superclass extended
-above-kind cs y c x r at h = grind (arith, extends-kind, super-kind)
+above-kind cs y c x r at h = grind (arith)
 
 acyclic-by : (cs : List NamedClass) (first : ℕ) (roles : List ℕ) → NoFault cs first roles → (interfaces : Bool) (c x : ℕ) (o : Option NamedClass)
     → slice_get cs c ≡ o → Contains (above cs interfaces c) x

@@ -4,7 +4,6 @@ use Rattle.std.proofs.Common.{Result, refl, sym, ap, subst, ◌∙◌, arith, in
 use Rattle.std.specs.Prelude.{◌==◌, ◌||◌, not, All, IfOk, IfSome, IsSomeAnd, MatchBool, slice_get, option_map, option_and_then, ◌&&◌}
 use Rattle.std.specs.Prelude.{if◌then◌else◌}
 use Rattle.std.specs.List.{list_all}
-use Rattle.std.specs.Option.{option_flatten}
 use Rattle.std.proofs.lemmas.Bool.{false≢true, and_parts, eq-eqb, not-true}
 use Rattle.std.proofs.lemmas.List.Elements.{All-nil, All-cons, All-weaker}
 use Rattle.std.proofs.lemmas.List.FromFn.{length-map-range_with_len}
@@ -37,7 +36,6 @@ use Rattle.jc_classes.specs.KnownLines.{HaveSuperclasses}
 use Rattle.jc_classes.specs.declared.layout.ClassLayout.{ClassLayout}
 use Rattle.jc_classes.specs.Entries.{overlaid}
 use Rattle.jc_classes.specs.Layout.{class_layout, public_entries, visible_entries, instance_cells, above_or_nothing, at_home}
-use Rattle.jc_classes.specs.Signatures.{entry_signature}
 use Rattle.jc_classes.specs.TableConditions.{may_stand, layout_above, visible_above, implemented_by, serves}
 use Rattle.jc_classes.specs.TableConditions.{holes, overrides, unserved, long_instances}
 use Rattle.jc_classes.specs.TableConditions.{conditions}
@@ -183,15 +181,10 @@ all_from_tests p (x ∷ xs) e =
     let both = and_parts (p x) (list_all p xs) e in
     All-cons (λ x. p x ≡ true) x xs both.0 (all_from_tests p xs both.1)
 
-served_at : (methods : List MethodRec) (entries : List (Option ℕ)) (o : Option ℕ) → IsListed entries
-    → option_and_then (signature_at methods (methods_listed entries)) o ≡ option_and_then
-    (λ token. entry_signature methods (option_flatten (slice_get entries token))) o
-served_at methods entries z l = grind (arith, signature_listed)
-
 serves_by : (methods : List MethodRec) (entries : List (Option ℕ)) (i : Iface) (m : MethodRec) → IsListed entries
     → (not (m.class == i.class) || serves methods entries i m) ≡ true → m.class ≡ i.class
     → option_and_then (signature_at methods (methods_listed entries)) (slice_get i.tokens m.token) ≡ Some m.sig
-serves_by methods entries i m l test e = grind (arith, eq-eqb, served_at, same_signature-equal)
+serves_by methods entries i m l test e = grind (arith, eq-eqb, same_signature-equal, signature_listed)
 
 implemented_linked : (t : LineTable) (u : ClassTable) (classes : List NamedClass) (methods : List MethodRec) (entries : List (Option ℕ)) (is : List Iface)
     → AreAlike t u → HaveSuperclasses t classes → IsListed entries → All (λ (i : Iface). i.class < length classes) is
@@ -238,15 +231,11 @@ package_here : (t : LineTable) (classes : List NamedClass) (c : ℕ) (k : NamedC
 unfolding line_package
 package_here t classes c k o e = ap package_in_line (outline_at t classes c o ∙ ap (option_map line_of) e)
 
-extended_linked : (t : LineTable) (u : ClassTable) (classes : List NamedClass) (is : List Iface) → AreAlike t u → HaveSuperclasses t classes
-    → All (λ (i : Iface). i.class < length classes) is → All (λ (i : Iface). line_interface t i.class ≡ true) is → All (IsExtended u) is
-extended_linked t u classes is alike known numbers interfaces = grind (arith, get_or)
-
 implements_by : (t : LineTable) (u : ClassTable) (classes : List NamedClass) (methods : List MethodRec) (entries : List (Option ℕ)) (k : NamedClass)
     (b : Bool) → AreAlike t u → HaveSuperclasses t classes → IsListed entries → All (λ (i : Iface). i.class < length classes) k.interfaces
     → All (λ (i : Iface). line_interface t i.class ≡ true) k.interfaces → AllServed methods entries (if b then [] else k.interfaces)
     → MatchBool b (All (IsExtended u) k.interfaces) (All (IsImplemented u methods (methods_listed entries)) k.interfaces)
-implements_by t u classes methods entries k true alike known l numbers interfaces served = grind (arith, extended_linked)
+implements_by t u classes methods entries k true alike known l numbers interfaces served = grind (arith, get_or)
 implements_by t u classes methods entries k false alike known l numbers interfaces served =
     implemented_linked t u classes methods entries k.interfaces alike known l numbers interfaces served
 

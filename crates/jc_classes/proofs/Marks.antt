@@ -1,7 +1,7 @@
 -- Marks on the classes of a chain.
 use Rattle.std.proofs.Common.{◌≡◌, ℕ, ◌+◌, ◌<◌, set, get_or, Bool, true, false, List, ◌∷◌, length, map, Option, Some, None, refl, sym, ap}
 use Rattle.std.proofs.Common.{subst, ◌∙◌, arith}
-use Rattle.std.specs.Prelude.{◌==◌, ◌||◌, ◌≢◌, IfSome}
+use Rattle.std.specs.Prelude.{◌==◌, ◌||◌, IfSome}
 use Rattle.std.proofs.lemmas.Bool.{cases_lt, false≢true, eq-eqb, eqb-true}
 use Rattle.std.proofs.lemmas.List.{get_or-set_same, get_or-set_other, length-set}
 use Rattle.std.proofs.lemmas.List.FromFn.{fill_by_all, get_or-map-range_with_len, length-map-range_with_len}
@@ -76,12 +76,9 @@ left_less t a marks above next is step known are =
       known = known;
     }
 
-unmarked_by : (b : Bool) → (b ≡ true → false ≡ true) → b ≡ false
-unmarked_by x h = grind (arith, false≢true)
-
 pub left_none : (t : LineTable) (marks : List Bool) (above : Option ℕ) → above ≡ None → AreLeft t marks above → (k : ℕ) → k < length marks
     → get_or marks k false ≡ false
-left_none t marks above is are k lt = grind (arith, unmarked_by, get_or)
+left_none t marks above is are k lt = grind (arith, get_or, false≢true)
 
 pub ruleset unmarking = (left_first, left_less, left_none)
 

@@ -1,5 +1,5 @@
 -- What a table makes of an inherited list.
-use Rattle.std.proofs.Common.{◌≡◌, ℕ, ◌-◌, ◌≤◌, ◌<◌, max, Bool, ltb, List, [], ◌∷◌, length, map, Option, Some, None}
+use Rattle.std.proofs.Common.{◌≡◌, ℕ, ◌≤◌, ◌<◌, max, Bool, ltb, List, [], ◌∷◌, length, map, Some, None}
 use Rattle.std.proofs.Common.{refl, ap, ◌∙◌, arith}
 use Rattle.std.specs.Prelude.{slice_get}
 use Rattle.std.specs.Option.{option_or, option_flatten}
@@ -8,7 +8,7 @@ use Rattle.std.proofs.lemmas.Bool.{cases_lt, ltb-false}
 use Rattle.std.proofs.lemmas.Option.{slice_get-get_or, slice_get_past}
 use Rattle.std.proofs.lemmas.List.FromFn.{length-map-range_with_len, get_or-map-range_with_len}
 use Rattle.jc_resolve.specs.declared.named.DispatchTable.{DispatchTable}
-use Rattle.jc_classes.specs.Entries.{reach, reach_from, reach_of, named_by, method_named, dispatch_list, overlaid, overlaid_at}
+use Rattle.jc_classes.specs.Entries.{reach, reach_of, named_by, method_named, dispatch_list, overlaid, overlaid_at}
 
 pub map-same : {A B : Type 0} (f g : A → B) → ((x : A) → f x ≡ g x) → (xs : List A) → map f xs ≡ map g xs
 map-same f g h [] = refl
@@ -19,17 +19,9 @@ pub slice_get-range : {A : Type 0} (f : ℕ → A) (n k : ℕ) → k < n → sli
 slice_get-range f n k h =
     grind (arith, length-map-range_with_len f 0 n, get_or-map-range_with_len f 0 n k k (f k) h (omega arith), slice_get-get_or)
 
-pub slice_get-range_past : {A : Type 0} (f : ℕ → A) (n k : ℕ) → n ≤ k → slice_get (map f (range_with_len 0 n)) k ≡ None
-slice_get-range_past f n k h = slice_get_past (map f (range_with_len 0 n)) k (rw (length-map-range_with_len f 0 n) h)
-
--- a table names no method from its reach on
-past_from : (base token : ℕ) (entries : List (Option ℕ)) → base ≤ token → reach_from base entries ≤ token
-    → slice_get entries (token - base) ≡ None
-past_from base token z low h = grind (arith, slice_get_past)
-
 named_past_by : (table : DispatchTable) (token : ℕ) (b : Bool) → ltb token table.base ≡ b → reach table ≤ token → named_by table token ≡ None
 unfolding named_by reach
-named_past_by table token z e h = grind (arith, past_from, ltb-false)
+named_past_by table token z e h = grind (arith, ltb-false, slice_get_past)
 
 pub named_past : (table : DispatchTable) (token : ℕ) → reach table ≤ token → named_by table token ≡ None
 named_past table token h = named_past_by table token (ltb token table.base) refl h
@@ -44,7 +36,7 @@ method_past (table ∷ tables) token h =
 -- the method that a dispatch list has at a token
 pub entry_is : (tables : List DispatchTable) (token : ℕ) → option_flatten (slice_get (dispatch_list tables) token) ≡ method_named tables token
 unfolding dispatch_list
-entry_is tables token = grind (arith, cases_lt, slice_get-range, slice_get-range_past, method_past)
+entry_is tables token = grind (arith, cases_lt, slice_get-range, method_past, slice_get_past, map, length-map-range_with_len)
 
 pub length-entries : (tables : List DispatchTable) → length (dispatch_list tables) ≡ reach_of tables
 unfolding dispatch_list

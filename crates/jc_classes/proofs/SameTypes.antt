@@ -1,5 +1,5 @@
 -- Types and signatures that are the same.
-use Rattle.std.proofs.Common.{◌≡◌, ℕ, suc, ◌+◌, ◌<◌, Bool, true, false, List, [], ◌∷◌, length, drop, get_or, refl, sym, ap, subst}
+use Rattle.std.proofs.Common.{◌≡◌, ℕ, suc, ◌+◌, ◌<◌, Bool, true, false, List, [], ◌∷◌, length, drop, get_or, refl, ap, subst}
 use Rattle.std.proofs.Common.{◌∙◌, ◌≤◌, arith, drop-cons, add-one}
 use Rattle.std.proofs.lemmas.List.{drop_all}
 use Rattle.std.specs.Prelude.{◌&&◌, ◌↔◌, IsTrue, Option, Some, None}
@@ -18,18 +18,12 @@ same-lengths [] (y ∷ ys) e = absurd (false≢true e)
 same-lengths (x ∷ xs) [] e = absurd (false≢true e)
 same-lengths (x ∷ xs) (y ∷ ys) e = ap suc (same-lengths xs ys (and_parts (same_type x y) (same_types xs ys) e).1)
 
-lengths_differ : (xs ys : List Ty) → (length xs ≡ length ys → ⊥) → (b : Bool) → same_types xs ys ≡ b → false ≡ b
-lengths_differ xs ys ne u e = grind (arith, same-lengths)
-
 pub same_types-differ : (xs ys : List Ty) → (length xs ≡ length ys → ⊥) → false ≡ same_types xs ys
-same_types-differ xs ys ne = lengths_differ xs ys ne (same_types xs ys) refl
+same_types-differ xs ys ne = grind (arith, same-lengths)
 
 pub same_types-step : (xs ys : List Ty) (i : ℕ) (d e : Ty) → i < length xs → length xs ≡ length ys
     → same_types (drop i xs) (drop i ys) ≡ (same_type (get_or xs i d) (get_or ys i e) && same_types (drop (i + 1) xs) (drop (i + 1) ys))
 same_types-step xs ys i d e h same = grind (arith, add-one, drop-cons)
-
-pub same_types-end : (xs ys : List Ty) (i : ℕ) → length xs ≤ i → length xs ≡ length ys → same_types (drop i xs) (drop i ys) ≡ true
-same_types-end xs ys i h same = rw (drop_all i xs h, drop_all i ys (omega (arith, same))) refl
 
 -- the turn of the loop at types that are the same, and at types that differ
 pub same_types-next : (xs ys : List Ty) (i : ℕ) (d e : Ty) → i < length xs → length xs ≡ length ys → same_type (get_or xs i d) (get_or ys i e)
@@ -44,7 +38,7 @@ same_types-other xs ys i d e h same on before = grind (arith, same_types-step xs
 
 pub same_types-whole : (xs ys : List Ty) (i : ℕ) → length xs ≤ i → length xs ≡ length ys → same_types (drop i xs) (drop i ys)
     ≡ same_types xs ys → true ≡ same_types xs ys
-same_types-whole xs ys i h same before = sym (same_types-end xs ys i h same) ∙ before
+same_types-whole xs ys i h same before = grind (arith, drop_all)
 
 pub ruleset same_lists = (same_types-differ, same_types-next, same_types-other, same_types-whole)
 
@@ -69,9 +63,6 @@ same_result-equal None (Some b) e = absurd (false≢true e)
 same_result-equal (Some a) None e = absurd (false≢true e)
 same_result-equal (Some a) (Some b) e = ap Some (same_type-equal a b e)
 
-same_result-itself : (a : Option Ty) → same_result a a ≡ true
-same_result-itself x = grind (arith, same_type-itself)
-
 same_sig-equal : (a b : Sig) → same_sig a b ≡ true → a ≡ b
 unfolding same_sig
 same_sig-equal a b e =
@@ -85,7 +76,7 @@ same_sig-equal a b e =
 
 pub same_sig-itself : (a : Sig) → same_sig a a ≡ true
 unfolding same_sig
-same_sig-itself a = rw (same_types-itself a.args, same_result-itself a.result) refl
+same_sig-itself a = grind (arith, same_types-itself, same_type-itself)
 
 pub same_signature-equal : (a b : Option Sig) → same_signature a b ≡ true → a ≡ b
 same_signature-equal None None e = refl

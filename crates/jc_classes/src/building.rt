@@ -1,4 +1,4 @@
-ghost use Rattle.std.specs.Prelude.{◌≡◌, ◌≤◌, IfOk, Some, length};
+ghost use Rattle.std.specs.Prelude.{◌≡◌, ◌≤◌, IfOk, Some};
 ghost use Rattle.jc_classes.specs.Tables.{methods_listed, record_from};
 
 use crate::layout::{ClassLayout, DispatchEntries};

@@ -1,12 +1,10 @@
-ghost use Rattle.std.specs.Prelude.{ℕ, false, slice_index_or, ◌≡◌, ◌≤◌, ◌<◌, ◌+◌, ◌++◌, All, length, map, flat_map, option_map, IfSome, IsTrue, Some, None};
+ghost use Rattle.std.specs.Prelude.{ℕ, false, slice_index_or, ◌≡◌, ◌≤◌, ◌<◌, ◌+◌, ◌++◌, All, length, map, flat_map, IfSome, IsTrue, Some, None};
 ghost use Rattle.std.specs.List.{range_with_len};
-ghost use Rattle.jc_base.specs.Class.{list_of};
-ghost use Rattle.jc_classes.specs.Outline.{chain, is_on_chain};
+ghost use Rattle.jc_classes.specs.Outline.{is_on_chain};
 ghost use Rattle.jc_resolve.specs.Fault.{link_place};
 ghost use Rattle.first_fault.specs.Least.{least_of, least_from, refused};
 ghost use Rattle.jc_classes.specs.KnownLines.{HaveSuperclasses};
-ghost use Rattle.jc_classes.specs.Layout.{class_layout, layouts};
-ghost use Rattle.jc_classes.specs.Signatures.{entry_method};
+ghost use Rattle.jc_classes.specs.Layout.{layouts};
 ghost use Rattle.jc_classes.specs.Slots.{HasShortLists};
 ghost use Rattle.jc_classes.specs.Growth.{is_own, AddsOwn, GrowsLists};
 ghost use Rattle.jc_classes.specs.TableConditions.{may_stand, entries_from, entries_in, hole_fault, class_numbers};

@@ -1,11 +1,11 @@
-ghost use Rattle.std.specs.Prelude.{◌≡◌, ◌≤◌, ◌<◌, ◌+◌, ◌==◌, All, Some, length, map, flat_map};
+ghost use Rattle.std.specs.Prelude.{◌≡◌, ◌<◌, ◌+◌, All, Some, length, map, flat_map};
 ghost use Rattle.std.specs.List.{list_all};
 ghost use Rattle.jc_base.specs.declared.record.Iface.{Iface};
 ghost use Rattle.jc_resolve.specs.Fault.{link_place};
 ghost use Rattle.first_fault.specs.Least.{least_of, least_from, refused};
 ghost use Rattle.jc_classes.specs.KnownLines.{AreInRange, HaveSuperclasses};
 ghost use Rattle.jc_classes.specs.Layout.{layouts};
-ghost use Rattle.jc_classes.specs.TableConditions.{Implementation, serves, interface_type_fault, implemented_by, implementations_in, class_numbers};
+ghost use Rattle.jc_classes.specs.TableConditions.{serves, interface_type_fault, implemented_by, implementations_in, class_numbers};
 ghost use Rattle.jc_classes.specs.Groups.{AreGroups};
 
 use crate::Lineage;

@@ -1,6 +1,5 @@
-ghost use Rattle.std.specs.Prelude.{◌≡◌, ◌≤◌, ◌<◌, ◌^◌, length, max, map, IfOk, slice_get};
-ghost use Rattle.std.specs.Option.{option_or, option_flatten};
-ghost use Rattle.std.specs.List.{range_with_len};
+ghost use Rattle.std.specs.Prelude.{◌≡◌, ◌≤◌, ◌<◌, length, max, IfOk, slice_get};
+ghost use Rattle.std.specs.Option.{option_flatten};
 ghost use Rattle.jc_resolve.specs.Named.{IsByteTable};
 ghost use Rattle.jc_classes.specs.Entries.{reach, named_by, overlaid_at, overlaid};
 

@@ -3,7 +3,7 @@ ghost use Rattle.jc_resolve.specs.Fault.{link_place};
 ghost use Rattle.first_fault.specs.Least.{least_of, least_from, refused};
 ghost use Rattle.jc_classes.specs.KnownLines.{HaveSuperclasses};
 ghost use Rattle.jc_classes.specs.Layout.{layouts};
-ghost use Rattle.jc_classes.specs.TableConditions.{Replacement, override_fault, replacements_from, replacements_in, class_numbers};
+ghost use Rattle.jc_classes.specs.TableConditions.{override_fault, replacements_from, replacements_in, class_numbers};
 
 use crate::Lineage;
 use crate::layout::ClassLayout;

@@ -1,4 +1,4 @@
-ghost use Rattle.std.specs.Prelude.{◌≡◌, ◌<◌, ◌↔◌, All, IfSome, IsTrue, length, option_map, Some};
+ghost use Rattle.std.specs.Prelude.{◌≡◌, ◌<◌, ◌↔◌, IfSome, IsTrue, option_map, Some};
 ghost use Rattle.jc_classes.specs.Signatures.{same_types, same_result, same_sig, same_signature, entry_method, entry_signature};
 
 use jc_base::{MethodRec, Methods, Sig, Ty, same_type};

@@ -1,10 +1,10 @@
-ghost use Rattle.std.specs.Prelude.{◌≡◌, ◌≤◌, ◌<◌, ◌∷◌, ◌++◌, length, map, Some, None, [], if◌then◌else◌, All, replicate, filter_map, IfOk, IfSome, slice_get};
+ghost use Rattle.std.specs.Prelude.{◌≡◌, ◌≤◌, ◌<◌, ◌∷◌, length, Some, None, [], if◌then◌else◌, replicate, filter_map, IfOk, IfSome};
 ghost use Rattle.std.specs.Option.{option_map, option_and_then};
 ghost use Rattle.jc_base.specs.Class.{list_of};
-ghost use Rattle.jc_classes.specs.Outline.{chain, package_of, parent_of};
+ghost use Rattle.jc_classes.specs.Outline.{chain, package_of};
 ghost use Rattle.jc_resolve.specs.Named.{IsSized};
 ghost use Rattle.jc_classes.specs.KnownLines.{HaveSuperclasses};
-ghost use Rattle.jc_classes.specs.Layout.{class_layout, layouts, class_layout_from, above_or_nothing, at_home};
+ghost use Rattle.jc_classes.specs.Layout.{layouts, class_layout_from, above_or_nothing, at_home};
 ghost use Rattle.jc_classes.specs.Slots.{IsFilled, AreLayouts, IsMade, IsClimb, slot_at};
 
 use crate::Lineage;
