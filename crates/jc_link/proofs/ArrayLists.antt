@@ -1,5 +1,5 @@
 -- Initial arrays: package after package, and what holds of their words.
-use Rattle.std.proofs.Common.{◌≡◌, ℕ, zero, suc, ◌+◌, ◌/◌, ◌%◌, ◌≤◌, Bool, ◌&&◌, cond, eqb, leb, ltb, List, []}
+use Rattle.std.proofs.Common.{◌≡◌, ℕ, zero, suc, ◌+◌, ◌/◌, ◌%◌, ◌≤◌, Bool, eqb, leb, ltb, List, []}
 use Rattle.std.proofs.Common.{◌∷◌, ◌++◌, length, get_or, map, drop, Some, None, refl, sym, ap, ◌∙◌, subst, append_assoc, arith}
 use Rattle.std.proofs.Common.{length-take-le, length-drop}
 use Rattle.std.proofs.lemmas.Bool.{ltb-true, ltb-false, leb-true, eqb-true}
@@ -33,22 +33,16 @@ arrays_more xs ys all ps n p e h k = grind (arith, drop_here, one_package, appen
 
 -- ---- the words of an array have the type of its elements
 
-signed_by : (b : ℕ) (t : Bool) → ltb b 128 ≡ t → IsByteWord (cond t b (0xFF00 + b))
-signed_by b y e = grind (arith, ltb-true, ltb-false)
-
 pub signed_is : (b : ℕ) → IsByteWord (signed b)
-signed_is b = signed_by b (ltb b 128) refl
+signed_is b = grind (arith, ltb, ltb-true, ltb-false)
 
 pub words_length : (bytes : List ℕ) → length (words_of_bytes bytes) ≡ length bytes / 2
 words_length [] = refl
 words_length (high ∷ []) = refl
 words_length (high ∷ low ∷ bytes) = omega (arith, words_length bytes)
 
-primitive_by : (kind : ℕ) (a b : Bool) → leb 2 kind ≡ a → leb kind 5 ≡ b → that (λ n. a && b) kind ≡ None → IsPrimitive kind
-primitive_by kind y b e f h = grind (arith, leb-true)
-
 primitive : (kind : ℕ) → that is_primitive kind ≡ None → IsPrimitive kind
-primitive kind h = primitive_by kind (leb 2 kind) (leb kind 5) refl refl h
+primitive kind h = grind (arith, leb, leb-true)
 
 whole_by : (n : ℕ) (t : Bool) → eqb (n % 4) 0 ≡ t → that (λ m. t) n ≡ None → n % 4 ≡ 0
 whole_by n y e h = grind (arith, eqb-true)

@@ -1,5 +1,5 @@
 -- Static fields: package after package, and their slots.
-use Rattle.std.proofs.Common.{◌≡◌, ℕ, ◌+◌, List, [], ◌∷◌, ◌++◌, length, map, drop, Some, refl, sym, ap, subst, ◌∙◌, append_assoc}
+use Rattle.std.proofs.Common.{◌≡◌, ℕ, ◌+◌, List, [], ◌∷◌, ◌++◌, length, map, drop, Some, refl, sym, ap, subst, append_assoc}
 use Rattle.std.proofs.Common.{arith}
 use Rattle.std.specs.Prelude.{slice_get, sum_by}
 use Rattle.std.proofs.lemmas.List.Sums.{sum_by-cons, sum_by-append}
@@ -70,13 +70,9 @@ sites_cells : (home first : ℕ) (ps : List PackageRecord) → cells_in (sites_a
 sites_cells home first [] = refl
 sites_cells home first (p ∷ ps) = grind (arith, sum_by-append, cells_at_home, sites_cells (home + 1) (first + length p.statics.arrays) ps)
 
-pub static_records_cells : (told : ℕ → TypeItem → Ty) (ps : List PackageRecord) → sum_by (λ (f : StaticRec). width f.kind) (static_records told ps)
-    ≡ static_cells ps
-static_records_cells told ps = records_cells told 0 (sites ps) ∙ sites_cells 0 1 ps
-
 pub slots_of : (told : ℕ → TypeItem → Ty) (ps : List PackageRecord) (fields : List StaticRec) → fields ≡ static_records told ps → AreSlots 0 fields
 slots_of told ps fields e = subst (AreSlots 0) (sym e) (records_slots told 0 (sites ps))
 
 pub cells_of_records : (told : ℕ → TypeItem → Ty) (ps : List PackageRecord) (fields : List StaticRec) → fields ≡ static_records told ps
     → sum_by (λ (f : StaticRec). width f.kind) fields ≡ static_cells ps
-cells_of_records told ps fields e = ap (λ fs. sum_by (λ (f : StaticRec). width f.kind) fs) e ∙ static_records_cells told ps
+cells_of_records told ps fields e = grind (arith, records_cells, sites_cells)

@@ -1,23 +1,17 @@
 -- The field that a table tells is the one that stands there.
-use Rattle.std.proofs.Common.{◌≡◌, ℕ, Bool, true, cond, List, [], ◌∷◌, Option, Some, find, refl, ap, ap₂, ◌∙◌, option_map, arith}
+use Rattle.std.proofs.Common.{◌≡◌, ℕ, Bool, true, cond, List, [], ◌∷◌, Option, Some, find, refl, ap₂, option_map, arith}
 use Rattle.std.proofs.Common.{option_and_then, is_some}
-use Rattle.std.specs.Option.{option_flatten}
 use Rattle.jc_base.specs.declared.record.Member.{Member}
-use Rattle.jc_base.specs.Class.{ClassTable, chain}
+use Rattle.jc_base.specs.Class.{ClassTable}
 use Rattle.jc_base.proofs.Climbs.{chain-front}
 use Rattle.jc_link.specs.declared.sites.Spot.{Spot}
-use Rattle.jc_link.specs.Sites.{MemberSite, only, is_there, members_standing, kept_at, all_entered}
-use Rattle.jc_link.specs.Members.{token_of_class, holder_of, field_of, kept_holder, kept_field, as_of}
+use Rattle.jc_link.specs.Sites.{MemberSite, kept_at, all_entered}
+use Rattle.jc_link.specs.Members.{token_of_class, holder_of, field_of, kept_holder, kept_field}
 use Rattle.jc_link.proofs.SiteLaws.{only_kept, some_kept}
 
 found_same : (f g : ℕ → Bool) → ((x : ℕ) → f x ≡ g x) → (xs : List ℕ) → find f xs ≡ find g xs
 found_same f g e [] = refl
 found_same f g e (x ∷ xs) = ap₂ (λ b o. cond b (Some x) o) (e x) (found_same f g e xs)
-
-only_by : (sites : List MemberSite) (token : ℕ) (o : Option ℕ)
-    → option_and_then (λ h. option_flatten (kept_at (all_entered [] sites) (token_of_class h token))) o ≡ option_and_then
-    (λ h. only (members_standing sites (token_of_class h token))) o
-only_by sites token z = grind (arith, only_kept)
 
 -- the class itself is the nearest, if it has a field with the token
 pub holds_here : (entries : List (Spot × Option Member)) (t : ClassTable) (token at : ℕ) → is_some (kept_at entries (token_of_class at token)) ≡ true
@@ -26,7 +20,4 @@ holds_here entries t token at h = grind (arith, chain-front t at, find, is_some,
 
 pub field_kept : (sites : List MemberSite) (t : ClassTable) (token c : ℕ) → kept_field (all_entered [] sites) t token c ≡ field_of sites t token c
 unfolding field_of holder_of
-field_kept sites t token c =
-    ap (λ (o : Option ℕ). option_map (as_of c) (option_and_then (λ h. option_flatten (kept_at (all_entered [] sites) (token_of_class h token))) o))
-    (found_same _ _ (λ h. some_kept sites (token_of_class h token)) (chain t c))
-    ∙ ap (option_map (as_of c)) (only_by sites token (find (λ h. is_there (members_standing sites (token_of_class h token))) (chain t c)))
+field_kept sites t token c = grind (arith, option_map, option_and_then, found_same, some_kept, find, only_kept)

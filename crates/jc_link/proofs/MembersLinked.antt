@@ -5,8 +5,7 @@ use Rattle.std.proofs.lemmas.List.{length-map}
 use Rattle.cap_bytes.specs.declared.class_reference.ClassReference.{ClassReference}
 use Rattle.cap_pool.specs.PoolFormat.{Entry}
 use Rattle.cap_pool.specs.declared.pool_reference.PoolReference.{PoolReference}
-use Rattle.cap_pool.specs.declared.pool_reference.PoolReference.TheVariants.{Class, InstanceField, VirtualMethod}
-use Rattle.cap_pool.specs.declared.pool_reference.PoolReference.TheVariants.{SuperMethod, StaticField, StaticMethod}
+use Rattle.cap_pool.specs.declared.pool_reference.PoolReference.TheVariants.{InstanceField}
 use Rattle.cap_pool.specs.declared.pool_reference.StaticReference.{StaticReference}
 use Rattle.cap_pool.specs.PoolReference.{referred}
 use Rattle.cap_package.specs.PackageRecord.{PackageRecord}
@@ -50,15 +49,9 @@ abbrev HasByteToken : PoolReference → Type 0
 HasByteToken (InstanceField r token) = token < 256
 HasByteToken other = Unit {0}
 
-byte_by : (r : ClassReference) (f g : StaticReference) (token : ℕ) → token < 256 → (a b c d s : Bool)
-    → HasByteToken
-    (cond a (Class r)
-    (cond b (InstanceField r token) (cond c (VirtualMethod r token) (cond d (SuperMethod r token) (cond s (StaticField f) (StaticMethod g))))))
-byte_by r f g token lt w b c d s = grind (arith)
-
 byte-token : (e : Entry) → slice_index e.bytes 2 < 256 → HasByteToken (referred e)
 unfolding referred
-byte-token e lt = grind (arith, byte_by, slice_index, eqb)
+byte-token e lt = grind (arith, slice_index, eqb)
 
 module _ (ps : List PackageRecord) (object packages : ℕ) (t : ClassTable) (methods : List MethodRec) (statics : List StaticRec) (are : AreClasses t)
     (linked : AreLinkedClasses packages t methods)

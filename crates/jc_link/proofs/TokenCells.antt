@@ -8,23 +8,19 @@ use Rattle.std.proofs.lemmas.List.{append-nil, length-append}
 use Rattle.std.proofs.lemmas.List.Sums.{sum_by-cons}
 use Rattle.std.proofs.lemmas.List.Concat.{flat_map-append}
 use Rattle.jc_base.specs.declared.ty.Ty.{Ty}
-use Rattle.jc_base.specs.declared.ty.Kind.{Kind}
 use Rattle.jc_base.specs.Cell.{width}
 use Rattle.jc_resolve.specs.declared.own_field.OwnField.{OwnField}
-use Rattle.jc_resolve.specs.OwnFields.{cells_by_kind, cells_of_own, own_with_token, cells_over}
+use Rattle.jc_resolve.specs.OwnFields.{cells_of_own, own_with_token, cells_over}
 use Rattle.jc_link.specs.Fields.{cells_in_all, cells_before}
 use Rattle.jc_link.proofs.Rooms.{taken_before, counted}
 
 -- ---- how many cells there are
 
-kind_cells : (k : Kind) (ty : Ty) → length (cells_by_kind k ty) ≡ width k
-kind_cells x ty = grind (arith)
-
 taken : (fs : List OwnField) → length (flat_map cells_of_own fs) ≡ cells_in_all fs
 taken [] = refl
 taken (f ∷ fs) =
     length-append (cells_of_own f) (flat_map cells_of_own fs)
-    ∙ ap₂ ◌+◌ (kind_cells f.kind f.ty) (taken fs)
+    ∙ ap₂ ◌+◌ (grind (arith)) (taken fs)
     ∙ sym (sum_by-cons (λ (g : OwnField). width g.kind) f fs)
 
 one_more : (w n a : ℕ) → cond (nat_lt n (a + 1)) w 0 ≡ cond (nat_lt n a) w 0 + cond (n == a) w 0

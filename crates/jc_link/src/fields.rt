@@ -1,5 +1,4 @@
-ghost use Rattle.std.specs.Prelude.{◌≡◌, ◌+◌, ◌≤◌, ◌<◌, [], IfOk, IfSome, OnOk, length, slice_get, slice_index, Some};
-ghost use Rattle.cap_class.specs.ClassPart.{classes_left};
+ghost use Rattle.std.specs.Prelude.{◌≡◌, ◌+◌, ◌≤◌, ◌<◌, [], IfOk, OnOk, length, slice_get, slice_index, Some};
 ghost use Rattle.jc_base.specs.Class.{IsClass, object, parent_of};
 ghost use Rattle.jc_base.specs.Linked.{cells_above};
 ghost use Rattle.jc_resolve.specs.Counts.{class_total};

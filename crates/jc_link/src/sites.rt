@@ -1,4 +1,4 @@
-ghost use Rattle.std.specs.Prelude.{◌≡◌, [], OnOk, IfOk, map, is_some, slice_get};
+ghost use Rattle.std.specs.Prelude.{◌≡◌, [], OnOk, IfOk, map, is_some};
 ghost use Rattle.std.specs.Option.{option_flatten};
 ghost use Rattle.jc_link.specs.Sites.{kept_at, added_entry, all_entered};
 ghost use Rattle.jc_link.specs.Members.{static_site, static_sites};
