@@ -1,5 +1,5 @@
 -- The words of all frames, and what a write to those of the frame on top does.
-use Rattle.std.proofs.Common.{◌≡◌, ℕ, zero, suc, ◌+◌, ◌-◌, ◌*◌, ◌<◌, ◌≤◌, List, [], ◌∷◌, ◌++◌, length, take, drop, refl}
+use Rattle.std.proofs.Common.{◌≡◌, ℕ, zero, suc, ◌+◌, ◌-◌, ◌*◌, ◌<◌, ◌≤◌, List, ◌∷◌, ◌++◌, length, take, drop, refl}
 use Rattle.std.proofs.Common.{sym, ◌∙◌, ap, subst, arith, length-drop, length-take}
 use Rattle.std.proofs.lemmas.List.{take-take, take_at, drop_at, append_assoc, length-append, drop-take}
 use borrow.Rule.Slice.PartMut.{put_mid}
@@ -199,33 +199,57 @@ window_at lower ws more n l s =
 below_at : (lower ws more : List ℕ) (n : ℕ) → length lower ≡ 513 * n → take (513 * n) ((lower ++ ws) ++ more) ≡ lower
 below_at lower ws more n l = ap (take (513 * n)) (append_assoc lower ws more) ∙ take_at lower (ws ++ more) (513 * n) l
 
-module _ (methods : List MethodRec) (ram lower was caller callee above rest : List ℕ) (n : ℕ)
-    (whole : ram ≡ (lower ++ was) ++ above) (l : length lower ≡ 513 * n) (s : length was ≡ 513) (s₁ : length caller ≡ 513)
-    (s₂ : length callee ≡ 513)
+module _ (methods : List MethodRec) (ram below lower was above : List ℕ) (k : ℕ) (some : 0 < k)
+    (whole : ram ≡ below ++ above) (front : length below ≡ 513 * k) (parts : below ≡ lower ++ was) (l : length lower ≡ 513 * (k - 1))
   where
+    joined : ram ≡ (lower ++ was) ++ above
+    joined = whole ∙ ap (λ zs. zs ++ above) parts
+
+    pub top_length : length was ≡ 513
+    top_length = omega (arith, some, front, l, ap length parts, length-append lower was)
+
+    topmost : suc (k - 1) ≡ k
+    topmost = omega (arith, some)
+
+    top_window : window ram (k - 1) ≡ was
+    top_window = ap (λ zs. window zs (k - 1)) joined ∙ window_at lower was above (k - 1) l top_length
+
     -- the words of the caller as they were
-    pub called_top : frame_in methods was ≡ first_frame (frames_in methods ram (suc n))
-    called_top = ap (frame_in methods) (sym (ap (λ zs. window zs n) whole ∙ window_at lower was above n l s))
+    pub called_top : frame_in methods was ≡ first_frame (frames_in methods ram k)
+    called_top = ap (frame_in methods) (sym top_window) ∙ ap (λ i. first_frame (frames_in methods ram i)) topmost
 
-    pub called_fits_top : FitWindows methods ram (suc n) → FitsWindow methods was
-    called_fits_top fits = subst (FitsWindow methods) (ap (λ zs. window zs n) whole ∙ window_at lower was above n l s) fits.0
+    pub called_fits_top : FitWindows methods ram k → FitsWindow methods was
+    called_fits_top fits = subst (FitsWindow methods) top_window (subst (FitWindows methods ram) (sym topmost) fits).0
 
-    second : window ((lower ++ caller) ++ (callee ++ rest)) (suc n) ≡ callee
-    second =
-        let len : length (lower ++ caller) ≡ 513 * suc n = length-append lower caller ∙ (omega (arith, l, s₁)) in
-        ap (take 513) (drop_at (lower ++ caller) (callee ++ rest) (513 * suc n) len) ∙ take_at callee rest 513 s₂
+    module _ (caller callee rest : List ℕ) (s₁ : length caller ≡ 513) (s₂ : length callee ≡ 513) where
+      second : window ((lower ++ caller) ++ (callee ++ rest)) (suc (k - 1)) ≡ callee
+      second =
+          let len : length (lower ++ caller) ≡ 513 * suc (k - 1) = length-append lower caller ∙ (omega (arith, l, s₁)) in
+          ap (take 513) (drop_at (lower ++ caller) (callee ++ rest) (513 * suc (k - 1)) len) ∙ take_at callee rest 513 s₂
 
-    first : window ((lower ++ caller) ++ (callee ++ rest)) n ≡ caller
-    first = window_at lower caller (callee ++ rest) n l s₁
+      first : window ((lower ++ caller) ++ (callee ++ rest)) (k - 1) ≡ caller
+      first = window_at lower caller (callee ++ rest) (k - 1) l s₁
 
-    same_below : take (513 * n) ((lower ++ caller) ++ (callee ++ rest)) ≡ take (513 * n) ram
-    same_below = below_at lower caller (callee ++ rest) n l ∙ sym (ap (take (513 * n)) whole ∙ below_at lower was above n l)
+      same_below : take (513 * (k - 1)) ((lower ++ caller) ++ (callee ++ rest)) ≡ take (513 * (k - 1)) ram
+      same_below = below_at lower caller (callee ++ rest) (k - 1) l ∙ sym (ap (take (513 * (k - 1))) joined ∙ below_at lower was above (k - 1) l)
 
-    pub called_frames :
-        frames_in methods ((lower ++ caller) ++ (callee ++ rest)) (suc (suc n))
-        ≡ frame_in methods callee ∷ (frame_in methods caller ∷ frames_in methods ram n)
-    called_frames = grind (arith, second, first, frames_below, same_below)
+      called : frames_in methods ((lower ++ caller) ++ (callee ++ rest)) (suc (suc (k - 1)))
+          ≡ frame_in methods callee ∷ (frame_in methods caller ∷ frames_in methods ram (k - 1))
+      called = grind (arith, second, first, frames_below, same_below)
 
-    pub called_fits : FitsWindow methods callee → FitsWindow methods caller → FitWindows methods ram n
-        → FitWindows methods ((lower ++ caller) ++ (callee ++ rest)) (suc (suc n))
-    called_fits two one others = grind (arith, second, first, fits_below, same_below)
+      fit : FitsWindow methods callee → FitsWindow methods caller → FitWindows methods ram (k - 1)
+          → FitWindows methods ((lower ++ caller) ++ (callee ++ rest)) (suc (suc (k - 1)))
+      fit two one others = grind (arith, second, first, fits_below, same_below)
+
+      pub called_frames : frames_in methods ((lower ++ caller) ++ (callee ++ rest)) (k + 1)
+          ≡ frame_in methods callee ∷ (frame_in methods caller ∷ other_frames (frames_in methods ram k))
+      called_frames =
+          let next : k + 1 ≡ suc (suc (k - 1)) = omega (arith, some) in
+          ap (frames_in methods ((lower ++ caller) ++ (callee ++ rest))) next
+          ∙ (called ∙ ap (λ i. frame_in methods callee ∷ (frame_in methods caller ∷ other_frames (frames_in methods ram i))) topmost)
+
+      pub called_fits : FitsWindow methods callee → FitsWindow methods caller → FitWindows methods ram k
+          → FitWindows methods ((lower ++ caller) ++ (callee ++ rest)) (k + 1)
+      called_fits two one fits =
+          let next : suc (suc (k - 1)) ≡ k + 1 = omega (arith, some) in
+          subst (FitWindows methods ((lower ++ caller) ++ (callee ++ rest))) next (fit two one (subst (FitWindows methods ram) (sym topmost) fits).1)
