@@ -4,7 +4,6 @@ use Rattle.std.proofs.Common.{◌≡◌, ℕ, List, None, length, refl}
 use Rattle.std.proofs.lemmas.List.{length-map}
 use Rattle.jc_base.specs.World.{Linked}
 use Rattle.vm_store.specs.Cells.{tagged, words}
-use Rattle.vm_step.specs.declared.ending.Ending.TheVariants as endings
 use Rattle.vm_step.specs.Arguments.{Argument}
 use Rattle.vm_step.specs.Raising.{running}
 use Rattle.vm_step.specs.Run.{stands}

@@ -19,9 +19,6 @@ use Rattle.vm_defend.specs.Safe.{IsPlainEnding}
 use Rattle.vm_offend.specs.declared.machine.Machine.{Machine}
 use Rattle.vm_offend.specs.Held.{ending_of, AreWordsOf, Follows}
 
-abbrev held : Outcome ℕ → State ℕ
-held x = grind (arith)
-
 -- a run that has not ended
 pub going-on : (e : Option Ending) (s : State ℕ) (o : Outcome Cell) → e ≡ None → with_ending e s ≡ erased_outcome o → (t : State Cell)
     × (o ≡ running t) × (s ≡ erased t)

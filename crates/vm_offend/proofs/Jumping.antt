@@ -1,6 +1,6 @@
 -- A jump stays in the method on top.
 use Rattle.std.proofs.Common.{arith}
-use Rattle.std.proofs.Common.{◌≡◌, ℕ, ◌==◌, Bool, true, false, if◌then◌else◌, [], refl}
+use Rattle.std.proofs.Common.{◌≡◌, ℕ, ◌==◌, Bool, true, false, if◌then◌else◌, refl}
 use Rattle.std.specs.Prelude.{ℤ, Option, ⊤}
 use Rattle.jc_base.specs.declared.ty.Ty.{Ty}
 use Rattle.jc_base.specs.Cell.{width}
@@ -8,14 +8,11 @@ use Rattle.jc_base.specs.World.{Linked}
 use Rattle.jc_decode.specs.declared.insn.Insn.{Insn}
 use Rattle.jc_decode.specs.Listing.{target}
 use Rattle.jc_ops.specs.declared.operation.Arithmetic.{Arithmetic}
-use Rattle.jc_ops.specs.declared.operation.Arithmetic.TheVariants as arithmetic
 use Rattle.jc_ops.specs.declared.operation.Choice.{Choice}
-use Rattle.jc_ops.specs.declared.operation.Choice.TheVariants as choices
 use Rattle.jc_ops.specs.declared.operation.Callee.{Callee}
 use Rattle.jc_ops.specs.declared.operation.Operation.{Operation}
 use Rattle.jc_ops.specs.declared.operation.Operation.TheVariants as ops
 use Rattle.jc_ops.specs.declared.operation.TypeTest.{TypeTest}
-use Rattle.jc_ops.specs.declared.operation.TypeTest.TheVariants as tests
 use Rattle.vm_store.specs.declared.kind.ObjectKind.{ObjectKind}
 use Rattle.vm_store.specs.Cells.{Cells}
 use Rattle.vm_store.specs.State.{State, top}

@@ -7,7 +7,6 @@ use Rattle.vm_store.specs.declared.cell.Cell.{Cell}
 use Rattle.vm_store.specs.Cells.{word_of}
 use Rattle.vm_store.specs.State.{Frame, State, map_frame, erased}
 use Rattle.vm_step.specs.declared.ending.Ending.{Ending}
-use Rattle.vm_step.specs.declared.ending.Ending.TheVariants as endings
 use Rattle.vm_step.specs.Raising.{Outcome}
 use Rattle.vm_run.specs.Turn.{with_ending}
 use Rattle.law_erasure.specs.Erasure.{erased_outcome}

@@ -60,10 +60,6 @@ keeps-shape w s kept = subst (IsShaped w) (sym kept.words) (shaped-erased w kept
 pub knows-types : (w : Linked) → KnowsTypes words (AreTypedWords w) w
 knows-types w s kept = record { each = λ c. tt {0} }
 
--- the state of an outcome
-abbrev held : Outcome ℕ → State ℕ
-held x = grind (arith)
-
 module _ (w : Linked) (follow : TypedStepsFollow w) (safe : StepsAreSafe w) where
   stays-by : (z : State ℕ) (t : State Cell) (o : Outcome Cell) → running z ≡ erased_outcome o → (typings : Typings)
       → ((n : ℕ) → typings.unset n ≡ Bottom) → AreTypings w typings → IsTypedOutcome w typings o
