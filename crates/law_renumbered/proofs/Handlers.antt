@@ -35,10 +35,7 @@ module _ (v : Linked) (links : IsWorld v) (m target : Method) (is : IsMethodOf v
 
     handlers-there : target.rec.handlers ≡ map there m.rec.handlers
     unfolding there
-    handlers-there =
-        has.handlers
-        ∙ (ap (map (catching m.rec.handlers)) (laid_for ∙ map-map (laid_handler at_label) range_of m.rec.handlers)
-        ∙ map-map (catching m.rec.handlers) (λ h. laid_handler at_label (range_of h)) m.rec.handlers)
+    handlers-there = grind (arith, map, map-map)
 
     formed-of : (h : Handler) → Contains m.rec.handlers h → IsHandlerOf m.code h
     formed-of h c = All-contains (IsHandlerOf m.code) m.rec.handlers h formed.handlers c

@@ -1,5 +1,5 @@
 -- An instruction of the laid code is the method's with its register renumbered.
-use Rattle.std.proofs.Common.{◌≡◌, ℕ, ◌+◌, ◌<◌, ◌≤◌, map, refl, sym, ap, ◌∙◌, subst, arith}
+use Rattle.std.proofs.Common.{◌≡◌, ℕ, ◌+◌, ◌≤◌, map, sym, ap, ◌∙◌, subst, arith}
 use Rattle.std.specs.Prelude.{pos, IfSome, Ok}
 use Rattle.std.proofs.Math.Nat.{mod-eq_of_lt}
 use Rattle.jc_base.specs.Cell.{IsDeclared}
@@ -41,23 +41,12 @@ alike-new f reg (ops.New p class) alike = equal
 alike-new f reg _ alike = alike
 
 writes-same : (v : Linked) (a b : Operation) (x : ℕ) → footprint v a ≡ footprint v b → Writes v a x → Writes v b x
-writes-same v a b x e writes = record {
-  from = subst (λ (p : Footprint). p.register ≤ x) e writes.from;
-  before = subst (λ (p : Footprint). x < p.register + p.written) e writes.before;
-}
+writes-same v a b x e writes = grind (arith)
 
 -- ---- numbers that a byte tells
 
 told : (v : Linked) (reg : ℕ → ℕ) (op : Operation) → registers_asked (demands v (renumbered reg op)) ≤ 255 → renumbered (in_byte reg) op ≡ renumbered reg op
-told v reg (ops.Load sorts.Reference x) le = ap (λ n. ops.Load sorts.Reference n) (mod-eq_of_lt {n = reg x} {m = 256} (omega (arith, le)))
-told v reg (ops.Load sorts.Short x) le = ap (λ n. ops.Load sorts.Short n) (mod-eq_of_lt {n = reg x} {m = 256} (omega (arith, le)))
-told v reg (ops.Load sorts.Int x) le = ap (λ n. ops.Load sorts.Int n) (mod-eq_of_lt {n = reg x} {m = 256} (omega (arith, le)))
-told v reg (ops.Store sorts.Reference x) le = ap (λ n. ops.Store sorts.Reference n) (mod-eq_of_lt {n = reg x} {m = 256} (omega (arith, le)))
-told v reg (ops.Store sorts.Short x) le = ap (λ n. ops.Store sorts.Short n) (mod-eq_of_lt {n = reg x} {m = 256} (omega (arith, le)))
-told v reg (ops.Store sorts.Int x) le = ap (λ n. ops.Store sorts.Int n) (mod-eq_of_lt {n = reg x} {m = 256} (omega (arith, le)))
-told v reg (ops.Increment widths.Short x amount) le = ap (λ n. ops.Increment widths.Short n amount) (mod-eq_of_lt {n = reg x} {m = 256} (omega (arith, le)))
-told v reg (ops.Increment widths.Int x amount) le = ap (λ n. ops.Increment widths.Int n amount) (mod-eq_of_lt {n = reg x} {m = 256} (omega (arith, le)))
-told v reg _ le = refl
+told v reg x le = grind (arith, mod-eq_of_lt)
 
 -- ---- an instruction and the one that is laid for it
 

@@ -74,28 +74,23 @@ module _ (code : List ℕ) (reg : ℕ → ℕ) where
 
   skipped : (l : ℕ) (i : Placed) (rest : List Item) (b : Bool) → (i.place == l) ≡ b → i.place ≢ l
       → (if b then 0 else place_of l (item_of code reg i ∷ rest)) ≡ suc (place_of l rest)
-  skipped l i rest true e other = absurd (other (eqb-true i.place l e))
-  skipped l i rest false e other = one-behind l i rest
+  skipped l i rest x e other = grind (arith, eqb-true, one-behind)
 
   met : (l p n : ℕ) (b : Bool) → (p == l) ≡ b → p ≡ l → (if b then 0 else n) ≡ 0
-  met l p n true e same = refl
-  met l p n false e same = absurd (grind (arith, nat_tests, e, same))
+  met l p n x e same = grind (arith, nat_tests)
 
   -- the label of an instruction stands for the number of the instruction, where those before stand at lesser places
   pub number-at : (is : List Placed) (k : ℕ) (i : Placed) → slice_get is k ≡ Some i
       → ((j : ℕ) (y : Placed) → slice_get is j ≡ Some y → j < k → y.place < i.place) → place_of i.place (items_from code reg is) ≡ k
   number-at [] k i e rises = absurd (cc)
-  number-at (x ∷ xs) zero i e rises =
-      let same : x ≡ i = cc in
-      met i.place x.place (place_of i.place (item_of code reg x ∷ items_from code reg xs)) (x.place == i.place) refl (ap (λ (y : Placed). y.place) same)
+  number-at (x ∷ xs) zero i e rises = grind (arith, met)
   number-at (x ∷ xs) (suc k) i e rises =
       let first = rises 0 x refl (omega arith) in
       skipped i.place x (items_from code reg xs) (x.place == i.place) refl (λ same. omega (arith, first, same))
       ∙ ap suc (number-at xs k i e (λ j y there lt. rises (suc j) y there (omega (arith, lt))))
 
   either-way : (n : ℕ) (b : Bool) → (if b then n else n) ≡ n
-  either-way n true = refl
-  either-way n false = refl
+  either-way n x = grind (arith)
 
   -- the label of the end stands for the number of all instructions
   pub number-end : (is : List Placed) → ((y : Placed) → Contains is y → y.place < length code) → place_of (length code) (items_from code reg is) ≡ length is

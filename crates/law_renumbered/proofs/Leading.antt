@@ -1,7 +1,7 @@
 -- Where the instructions of the laid code lead, and the keys of their cases.
 use Rattle.std.proofs.Common.{◌≡◌, ℕ, suc, Bool, true, false, if◌then◌else◌, List, [], ◌∷◌, map, All}
-use Rattle.std.proofs.Common.{refl, sym, ap, ◌∙◌, subst, arith}
-use Rattle.std.specs.Prelude.{ℤ, pos, negsuc, ◌||◌, slice_index_or}
+use Rattle.std.proofs.Common.{refl, sym, ap, ◌∙◌, arith}
+use Rattle.std.specs.Prelude.{ℤ, pos, ◌||◌, slice_index_or}
 use Rattle.jc_decode.specs.declared.insn.Case.{Case}
 use Rattle.jc_decode.specs.declared.insn.Placed.{Placed}
 use Rattle.jc_decode.specs.Cases.{cases, is_switch}
@@ -39,8 +39,7 @@ module _ (code : List ℕ) (reg : ℕ → ℕ) (number : ℕ → ℕ) (place mov
   there t = pos (moved (place_number t))
 
   comes-there : (t : ℤ) → IsTargetPlace code t → pos (place (number (place_number t))) ≡ there t
-  comes-there (pos p) here = ap (λ n. pos n) (sym (come p here))
-  comes-there (negsuc n) here = absurd here
+  comes-there x here = grind (arith)
 
   all-come : (ts : List ℤ) → All (IsTargetPlace code) ts → map (λ n. pos (place n)) (map number (map place_number ts)) ≡ map there ts
   all-come [] all = refl
@@ -50,9 +49,7 @@ module _ (code : List ℕ) (reg : ℕ → ℕ) (number : ℕ → ℕ) (place mov
 
   one-comes : (ts : List ℤ) (t : ℤ) → ts ≡ t ∷ [] → All (IsTargetPlace code) ts
       → map (λ n. pos (place n)) (number (slice_index_or (map place_number ts) 0 0) ∷ []) ≡ map there ts
-  one-comes ts t is all =
-      subst (λ us. map (λ n. pos (place n)) (number (slice_index_or (map place_number us) 0 0) ∷ []) ≡ map there us) (sym is)
-      (ap (λ u. u ∷ []) (comes-there t (subst (All (IsTargetPlace code)) is all 0 t (omega arith))))
+  one-comes ts t is all = grind (arith, map, comes-there)
 
   -- the places of a step's targets are those to which the instruction's own come
   pub targets-come : (i : Placed) → All (IsTargetPlace code) (targets code i)

@@ -8,7 +8,7 @@ use Rattle.std.proofs.lemmas.List.{length-map}
 use Rattle.std.proofs.lemmas.Option.{slice_get-map, slice_get_within}
 use Rattle.jc_base.proofs.Lists.{slice_get-some}
 use Rattle.jc_decode.specs.declared.insn.Placed.{Placed}
-use Rattle.jc_decode.specs.Listing.{listing, listing_end, end_from}
+use Rattle.jc_decode.specs.Listing.{listing, listing_end}
 use Rattle.jc_decode.specs.Standing.{StandsForStep, AreSteps}
 use Rattle.jc_decode.specs.Symbols.{Step, place_of, steps}
 use Rattle.jc_decode.proofs.Elements.{Contains-slice_get, slice_get-Contains}
@@ -102,11 +102,7 @@ module _ (m : Method) (reg : ℕ → ℕ) (placed : InstructionsArePlaced) (form
 
     rise-over : (a d : ℕ) → a + suc d ≤ count → place a < place (a + suc d)
     rise-over a zero le = subst (λ n. place a < place n) (omega arith) (rise a (omega (arith, le)))
-    rise-over a (suc d) le =
-        let before = rise-over a d (omega (arith, le)) in
-        let last = rise (a + suc d) (omega (arith, le)) in
-        let same : suc (a + suc d) ≡ a + suc (suc d) = omega arith in
-        subst (λ n. place a < place n) same (omega (arith, before, last))
+    rise-over a (suc d) le = grind (arith, rise, suc, rise-over a d (omega (arith, le)))
 
     rise-from : (a b : ℕ) → a < b → b ≤ count → place a < place b
     rise-from a b lt le =
@@ -156,10 +152,7 @@ module _ (m : Method) (reg : ℕ → ℕ) (placed : InstructionsArePlaced) (form
 
     pub moved-one : (p q : ℕ) → moved p ≡ moved q → p ≡ q
     unfolding moved
-    moved-one =
-        spread-one (known m reg placed formed) at_number (length code)
-        (λ p k. rise-most (number p) (most p (known-is m reg placed formed p k)))
-        (λ p q k l e. known-one p q (known-is m reg placed formed p k) (known-is m reg placed formed q l) e)
+    moved-one = grind (arith, spread-one, length, rise-most, most, known-is, known-one)
 
     pub moved-rises : (p q : ℕ) → IsBoundary m.code p → IsBoundary m.code q → p < q → moved p < moved q
     moved-rises p q a b lt =
@@ -208,8 +201,7 @@ module _ (m : Method) (reg : ℕ → ℕ) (placed : InstructionsArePlaced) (form
         (x.other, Contains-slice_get (listing code) (number p) x.other x.found, x.at ∙ sym (moved-is p (inr here)))
 
     pub moved-boundary : (p : ℕ) → IsBoundary m.code p → IsBoundary code (moved p)
-    moved-boundary p (inl end) = inl (ap moved end ∙ moved-last)
-    moved-boundary p (inr here) = inr (moved-place p here)
+    moved-boundary p x = grind (arith, moved, moved-last, moved-place)
 
     -- the order of places is kept
     pub moved-le : (p q : ℕ) → IsBoundary m.code p → IsBoundary m.code q → nat_le (moved p) (moved q) ≡ nat_le p q
@@ -232,8 +224,4 @@ module _ (m : Method) (reg : ℕ → ℕ) (placed : InstructionsArePlaced) (form
 
     -- the laid code is listed to its end
     pub listed-whole : listing_end code ≡ length code
-    listed-whole =
-        let long = length-map insns step_there in
-        let whole : 0 + length (map step_there insns) ≡ count = omega (arith, long) in
-        ap (λ x. end_from x (listing code)) (sym begins)
-        ∙ (end-is code place 0 (map step_there insns) (listing code) made-laid ∙ (ap place whole ∙ end-there))
+    listed-whole = grind (arith, length-map, length, map, end-is, made-laid, end-there)

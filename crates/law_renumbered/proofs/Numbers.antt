@@ -1,5 +1,5 @@
 -- The numbers that a method's variables share serve it, and so do those of a method that keeps its registers.
-use Rattle.std.proofs.Common.{◌≡◌, ℕ, ◌+◌, ◌<◌, ◌≤◌, inl, inr, List, [], ◌∷◌, length, drop, map, refl, sym, ap, ◌∙◌, subst, arith}
+use Rattle.std.proofs.Common.{◌≡◌, ℕ, ◌+◌, ◌<◌, ◌≤◌, List, [], ◌∷◌, length, drop, map, refl, sym, ap, ◌∙◌, subst, arith}
 use Rattle.std.proofs.lemmas.Bool.{cases_lt}
 use Rattle.std.proofs.lemmas.List.{length-drop}
 use Rattle.jc_base.specs.declared.ty.Ty.{Ty}
@@ -51,16 +51,7 @@ module _ (v : Linked) (links : IsWorld v) (m : Method) (reg : ℕ → ℕ) (loca
     (shares : IsSharing v m given locals) (numbers : (x : ℕ) → x < register_total m → IsNumbered m.rec.nargs given x (reg x))
     (same : OperationsAreRenumbered v) (apart : RenumberedStayApart v) (begin : RenumberedBeginAlike v) where
   is-renumbering : IsRenumbering v m given reg
-  is-renumbering = record {
-    method = is;
-    regs = shares.regs;
-    stacks = shares.typed.stacks;
-    typed = shares.typed.typing;
-    variables = shares.variables;
-    are = shares.are;
-    allotted = shares.allotted;
-    numbered = numbers;
-  }
+  is-renumbering = grind (arith)
 
   shared-few : m.rec.nargs + locals ≤ 255
   shared-few =
@@ -84,10 +75,7 @@ module _ (v : Linked) (links : IsWorld v) (m : Method) (reg : ℕ → ℕ) (loca
 
 module _ (v : Linked) (links : IsWorld v) (m : Method) (reg : ℕ → ℕ) (is : IsMethodOf v m) (keeps : KeepsRegisters v m) (stay : (x : ℕ) → reg x ≡ x) where
   renumbered-stays : (op : Operation) → renumbered reg op ≡ op
-  renumbered-stays (ops.Load s x) = ap (λ n. ops.Load s n) (stay x)
-  renumbered-stays (ops.Store s x) = ap (λ n. ops.Store s n) (stay x)
-  renumbered-stays (ops.Increment width x amount) = ap (λ n. ops.Increment width n amount) (stay x)
-  renumbered-stays _ = refl
+  renumbered-stays x = grind (arith)
 
   numbers-stay : (xs : List ℕ) → xs ≡ map reg xs
   numbers-stay [] = refl
@@ -102,14 +90,7 @@ module _ (v : Linked) (links : IsWorld v) (m : Method) (reg : ℕ → ℕ) (is :
   }
 
   kept-begin : (target : Method) (x : ℕ) → HasRegisters m (register_total m) target → BeginsAlike m target reg x
-  kept-begin target x has = record {
-    argument = λ lt. stay x;
-    variable = λ le. (let e = stay x in omega (arith, le, e));
-    there = elim (cases_lt x (register_total m)) [
-      | inl lt ↦ (let e = stay x in let total = has.total in inl (lt, omega (arith, lt, e, total)))
-      | inr ge ↦ (let e = stay x in let total = has.total in inr (ge, omega (arith, ge, e, total)))
-    ];
-  }
+  kept-begin target x has = grind (arith, cases_lt)
 
   kept-serve : NumbersServe v m reg (register_total m)
   kept-serve = record {

@@ -129,10 +129,7 @@ module _ (m : Method) (reg : ℕ → ℕ) (placed : InstructionsArePlaced) (form
 
   pub number-rises : (p q : ℕ) → IsBoundary m.code p → IsBoundary m.code q → p < q → number p < number q
   number-rises p q (inl end) b lt = (let le = near q b in absurd (omega (arith, end, le, lt)))
-  number-rises p q (inr here) (inl end) lt =
-      let less = (of-place p here).inside in
-      let e : number q ≡ count = ap number end ∙ number-last in
-      omega (arith, less, e)
+  number-rises p q (inr here) (inl end) lt = grind (arith, of-place p here, number-last)
   number-rises p q (inr here) (inr there) lt = place-rises p q (of-place p here) (of-place q there) lt
 
   -- the place after an instruction has the next number

@@ -1,6 +1,6 @@
 -- An instruction whose register has another number has the operation with that number.
 use Rattle.std.proofs.Common.{◌≡◌, ℕ, ◌<◌, ◌%◌, ◌∙◌, Bool, true, false, if◌then◌else◌, List, [], ◌∷◌, ◌++◌, map, refl, sym, ap, arith}
-use Rattle.std.specs.Prelude.{ℤ, pos, Option, Some, Result, Ok, Err}
+use Rattle.std.specs.Prelude.{ℤ, Option, Some, Result, Ok, Err}
 use Rattle.std.specs.List.{range_with_len}
 use Rattle.std.proofs.lemmas.Bool.Decides.{nat_tests}
 use Rattle.jc_base.specs.declared.record.Member.{Member}
@@ -10,7 +10,7 @@ use Rattle.jc_base.specs.Dispatch.{is_concrete}
 use Rattle.jc_base.specs.World.{Linked}
 use Rattle.jc_decode.specs.declared.insn.Insn.{Insn}
 use Rattle.jc_decode.specs.Cases.{is_switch}
-use Rattle.jc_decode.specs.Forms.{with_operand, wide}
+use Rattle.jc_decode.specs.Forms.{wide}
 use Rattle.jc_decode.specs.Layout.{layout_of, opcode}
 use Rattle.jc_decode.specs.Listing.{falls, jumps, is_branch}
 use Rattle.jc_decode.specs.Symbols.{jump}
@@ -19,7 +19,7 @@ use Rattle.jc_ops.specs.declared.fault.RuleFault.TheVariants.{NotConcrete}
 use Rattle.jc_ops.specs.declared.operation.Operation.{Operation}
 use Rattle.jc_ops.specs.declared.operation.Operation.TheVariants as ops
 use Rattle.jc_ops.specs.Row.{table, row_at, unused, by_sort, by_width, by_kind, first_four, by_register, literals, binaries, orders_all, branching}
-use Rattle.jc_ops.specs.Resolve.{byte_of, resolved, on, new_object}
+use Rattle.jc_ops.specs.Resolve.{resolved, on, new_object}
 use Rattle.jc_ops.specs.declared.operation.Holder.TheVariants as holders
 use Rattle.jc_ops.specs.declared.operation.TypeTest.TheVariants as tests
 use Rattle.law_share.specs.Renumbered.{renumbered}
@@ -65,8 +65,7 @@ module _ (reg : ℕ → ℕ) (x y z : ℤ) (len : ℕ) where
     -- what names a member is no load, no store and no increment
     made-stays : {X : Type 0} (f : ℕ → ℕ) (make : X → Operation) → ((x : X) → renumbered f (make x) ≡ make x) → (r : Result X RuleFault)
         → renumbered_result f (on make r) ≡ on make r
-    made-stays f make same (Ok x) = ap (λ op. Ok op) (same x)
-    made-stays f make same (Err fault) = refl
+    made-stays f make same x = grind (arith)
 
     new-stays : (f : ℕ → ℕ) (pool : ℕ) (o : Option Member) → renumbered_result f (new_object w place pool o) ≡ new_object w place pool o
     new-stays f pool (Some (ClassOf c)) = by (is_concrete w.classes w.methods c)
@@ -90,9 +89,7 @@ module _ (reg : ℕ → ℕ) (x y z : ℤ) (len : ℕ) where
         → renumbered_result (in_byte reg) (on make a) ∷ renumbered_result (in_byte reg) (on make b)
         ∷ renumbered_result (in_byte reg) (on make c) ∷ renumbered_result (in_byte reg) (on make d) ∷ []
         ≡ on make a ∷ on make b ∷ on make c ∷ on make d ∷ []
-    four make same a b c d =
-        also (made-stays (in_byte reg) make same a) (also (made-stays (in_byte reg) make same b)
-        (also (made-stays (in_byte reg) make same c) (also (made-stays (in_byte reg) make same d) refl)))
+    four make same a b c d = grind (arith, also, made-stays)
 
     -- so many opcodes from this one on, but for those that name a register
     abbrev Stay : ℕ → ℕ → Type 0
@@ -132,8 +129,7 @@ module _ (reg : ℕ → ℕ) (x y z : ℤ) (len : ℕ) where
 
     stay-tests : Stay 146 4
     unfolding row_at table by_sort by_width by_kind first_four by_register literals binaries orders_all branching unused
-    stay-tests = also refl (also refl (also (made-stays (in_byte reg) (ops.TypeTest tests.Cast) (λ x. refl) _)
-        (also (made-stays (in_byte reg) (ops.TypeTest tests.InstanceOf) (λ x. refl) _) refl)))
+    stay-tests = grind (arith, also, made-stays)
 
     stay-wide : Stay 150 19
     unfolding row_at table by_sort by_width by_kind first_four by_register literals binaries orders_all branching unused
@@ -166,23 +162,15 @@ module _ (reg : ℕ → ℕ) (x y z : ℤ) (len : ℕ) where
         (behind stay-reads-wide (behind stay-reads-this (behind stay-writes-wide (behind stay-writes-this stay-unused)))))))))))))
 
     both-ways : (b : Bool) (r s g : Result Operation RuleFault) → r ≡ (if b then g else s) → (if b then s else g) ≡ s → r ≡ g
-    both-ways true r s g p q = p
-    both-ways false r s g p q = p ∙ sym q
+    both-ways x r s g p q = grind (arith)
 
 -- ---- instructions whose opcode is no byte
 
 neither : {X : Type 0} (a b c : Bool) (x y z i : X) → a ≡ false → b ≡ false → c ≡ false → (if a then x else if b then y else if c then z else i) ≡ i
-neither true b c x y z i p q r = absurd (cc)
-neither false true c x y z i p q r = absurd (cc)
-neither false false true x y z i p q r = absurd (cc)
-neither false false false x y z i p q r = refl
+neither x b c x2 y z i p q r = grind (arith)
 
 past-stated : (reg : ℕ → ℕ) (i : Insn) → 255 < i.op → stated reg i ≡ i
-past-stated reg i lt =
-    let b : is_branch i.op ≡ false = grind (arith, nat_tests, lt) in
-    let c : uses_register i.op ≡ false = grind (arith, nat_tests, lt) in
-    neither (is_switch i.op) (is_branch i.op) (uses_register i.op) i (jump (wide i.op))
-    (record (with_operand i) { x = pos (reg (byte_of (with_operand i).x)) }) i (past-switch i.op lt) b c
+past-stated reg i lt = grind (arith, nat_tests, neither, past-switch)
 
 -- ---- instructions
 

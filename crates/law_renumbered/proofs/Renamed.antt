@@ -1,6 +1,6 @@
 -- A method whose registers have other numbers is, where it is laid in another world, there the method with its registers renamed.
-use Rattle.std.proofs.Common.{◌≡◌, ℕ, ◌+◌, List, length, All, Contains, Some, inr, sym, ap, ◌∙◌, subst, arith}
-use Rattle.std.specs.Prelude.{ℤ, pos, negsuc, IfSome, slice_get}
+use Rattle.std.proofs.Common.{◌≡◌, ℕ, ◌+◌, length, All, Contains, Some, inr, sym, ap, ◌∙◌, subst, arith}
+use Rattle.std.specs.Prelude.{ℤ, pos, IfSome, slice_get}
 use Rattle.std.proofs.lemmas.List.Elements.{All-map, All-weaker}
 use Rattle.jc_base.specs.declared.record.Handler.{Handler}
 use Rattle.jc_base.specs.Cell.{IsDeclared}
@@ -41,9 +41,7 @@ module _ (v w : Linked) (links : IsWorld v) (sound : OperationsAreSound v) (plac
     (is_target : IsMethodOf w target) (numbered : target.number ≡ m.number) (has : HasLaid m.rec laid target)
   where
     laid-steps : AreSteps target.code place 0 (steps m.code (items_from m.code reg (listing m.code))) (listing target.code)
-    laid-steps =
-        subst (λ (code : List ℕ). AreSteps code place 0 (steps m.code (items_from m.code reg (listing m.code))) (listing code)) (sym has.code)
-        stand.instructions
+    laid-steps = grind (arith)
 
     ends : place (length (steps m.code (items_from m.code reg (listing m.code)))) ≡ length target.code
     ends = stand.ends ∙ ap length (sym has.code)
@@ -92,10 +90,7 @@ module _ (v w : Linked) (links : IsWorld v) (sound : OperationsAreSound v) (plac
     declared = (of_world v links m is).result
 
     total : register_total target ≡ m.rec.nargs + locals
-    total =
-        let args = has.nargs ∙ stand.nargs in
-        let others = has.max_locals ∙ stand.max_locals in
-        omega (arith, args, others)
+    total = grind (arith)
 
     matched : (i : Placed) (a : Operation) → Operates v m i a → IsMatched v w m target f reg i a
     matched i a o =
@@ -127,8 +122,7 @@ module _ (v w : Linked) (links : IsWorld v) (sound : OperationsAreSound v) (plac
     -- ---- the method
 
     target-there : (t : ℤ) → IsTargetPlace m.code t → IsTargetPlace target.code (pos (f (place_number t)))
-    target-there (pos p) here = keeps-order.place p here
-    target-there (negsuc n) here = absurd here
+    target-there x here = grind (arith, keeps-order)
 
     targets-formed : (j : Placed) → HasInstruction target.code j → All (IsTargetPlace target.code) (targets target.code j)
     targets-formed j c =
