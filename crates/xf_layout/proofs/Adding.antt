@@ -1,5 +1,5 @@
 -- What is appended for an item.
-use Rattle.std.proofs.Common.{◌≡◌, ◌≤◌, ℕ, true, false, cond, Ok, List, [], ◌∷◌, ◌++◌, length, refl, sym, ap, ◌∙◌, subst, arith}
+use Rattle.std.proofs.Common.{◌≡◌, ◌≤◌, ℕ, true, false, cond, Ok, List, [], ◌∷◌, ◌++◌, length, sym, ap, ◌∙◌, subst, arith}
 use Rattle.std.specs.Prelude.{pos, ◌-ℤ◌}
 use Rattle.std.proofs.lemmas.List.{append-nil}
 use Rattle.jc_decode.specs.declared.insn.Insn.{Insn}
@@ -39,14 +39,7 @@ pub jump-adds : (source : List ℕ) (place : ℕ → ℕ) (op l : ℕ) (j : Insn
     → new ≡ old ++ piece → ReadsBack xs at j piece → length piece ≡ length_of j → length_of j ≡ cond (is_wide f) 3 2
     → essence j ≡ essence (jump op) → is_branch j.op ≡ true → is_switch j.op ≡ false → j.x ≡ pos (place l) -ℤ pos (length old)
     → Adds source place (Branch op l) f old new
-jump-adds source place op l j (Jump m w) old new piece xs at form appended reads long wide alike branch only x = record {
-  piece = piece;
-  appended = appended;
-  long = long ∙ wide;
-  stands = jump-piece source place (length old) op l j xs at piece reads alike branch only x;
-}
-jump-adds source place op l j (Fixed n) old new piece xs at form appended reads long wide alike branch only x = absurd form
-jump-adds source place op l j (Mark m) old new piece xs at form appended reads long wide alike branch only x = absurd form
+jump-adds source place op l j x old new piece xs at form appended reads long wide alike branch only x2 = grind (arith, jump-piece, length)
 
 -- ---- a switch
 
@@ -78,17 +71,11 @@ switch-adds source place i from labels s old new bytes l ls split appended long 
 pub switch-form : (source : List ℕ) (place : ℕ → ℕ) (i : Insn) (from : ℕ) (labels : List ℕ) (f : Form) (old new : List ℕ)
     → IsForm (Switch i from labels) f
     → is_switch i.op ≡ true → AddsSwitch source place i from labels old new → Adds source place (Switch i from labels) f old new
-switch-form source place i from labels (Fixed n) old new form switch adds =
-    let long : length_of i ≡ i.len = rw switch refl in
-    record { piece = adds.piece; appended = adds.appended; long = adds.long ∙ sym long ∙ sym form; stands = adds.stands }
-switch-form source place i from labels (Jump l w) old new form switch adds = absurd form
-switch-form source place i from labels (Mark l) old new form switch adds = absurd form
+switch-form source place i from labels x old new form switch adds = grind (arith)
 
 -- a switch is as long as its form
 pub switch-few : (i : Insn) (from : ℕ) (labels : List ℕ) (f : Form) → IsForm (Switch i from labels) f → is_switch i.op ≡ true
     → form_bytes f ≤ 32767 → i.len ≤ 32767
-switch-few i from labels (Fixed n) form switch few = let long : length_of i ≡ i.len = rw switch refl in omega (arith, long, form, few)
-switch-few i from labels (Jump l w) form switch few = absurd form
-switch-few i from labels (Mark l) form switch few = absurd form
+switch-few i from labels x form switch few = grind (arith)
 
 -- ---- a label

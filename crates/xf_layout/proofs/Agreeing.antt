@@ -107,13 +107,10 @@ wide-moves : (op : ℕ) → is_wide_jump op ≡ true → is_register_move op ≡
 wide-moves op e = grind (arith, nat_tests, e)
 
 none-true : (b : Bool) → b ≡ false → b ≡ true → ⊥
-none-true true e f = absurd (cc)
-none-true false e f = absurd (cc)
+none-true x e f = grind (arith)
 
 right-false : (a b : Bool) → not (a || b) ≡ true → b ≡ false
-right-false true b e = absurd (cc)
-right-false false true e = absurd (cc)
-right-false false false e = refl
+right-false x b e = grind (arith)
 
 module _ (code : List ℕ) (to : ℕ → ℕ) where
   -- how long an instruction is that begins at one place and ends at the next

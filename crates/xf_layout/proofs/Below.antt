@@ -1,12 +1,11 @@
 -- Forms of the same items of which no jump is wider than in others: their code is no longer, and no jump leads further.
-use Rattle.std.proofs.Common.{◌≡◌, ◌≤◌, ◌+◌, ◌⊎◌, inl, inr, ℕ, zero, suc, Bool, true, false, Some, List, [], ◌∷◌, refl, sym, ap}
+use Rattle.std.proofs.Common.{◌≡◌, ◌≤◌, ◌+◌, ◌⊎◌, inl, inr, ℕ, zero, suc, Bool, true, false, Some, List, [], ◌∷◌, refl, ap}
 use Rattle.std.proofs.Common.{◌∙◌, arith, cond}
 use Rattle.std.specs.Prelude.{pos, ◌-ℤ◌, ◌==◌}
 use Rattle.std.specs.List.{AllZip}
 use Rattle.std.proofs.lemmas.Int.{ints}
 use Rattle.std.proofs.lemmas.Option.{same_Some}
 use Rattle.jc_decode.specs.declared.symbols.Item.{Item}
-use Rattle.jc_decode.specs.declared.symbols.Item.TheVariants.{Plain, Branch, Switch, Label}
 use Rattle.jc_decode.specs.Forms.{is_near}
 use Rattle.xf_layout.specs.declared.form.Form.{Form}
 use Rattle.xf_layout.specs.declared.form.Form.TheVariants.{Fixed, Jump, Mark}
@@ -24,23 +23,10 @@ abbrev pub AreBelow : List Form → List Form → Type 0
 AreBelow a b = AllZip IsBelow a b
 
 jump-below : (m n : ℕ) (w v : Bool) → n ≡ m → (w ≡ true → ◌≡◌ {A = Form} (Jump n v) (Jump m true)) → IsBelow (Jump m w) (Jump n v)
-jump-below m n true v same wide = (same, λ _. let e = wide refl in cc)
-jump-below m n false v same wide = (same, λ e. absurd (cc))
+jump-below m n x v same wide = grind (arith)
 
 form-below : (i : Item) (f g : Form) → IsForm i f → IsForm i g → ((l : ℕ) → f ≡ Jump l true → g ≡ Jump l true) → IsBelow f g
-form-below (Plain i) (Fixed n) (Fixed m) p q wide = q ∙ sym p
-form-below (Branch op l) (Jump m w) (Jump n v) p q wide = jump-below m n w v (q ∙ sym p) (λ e. wide m (ap (λ (b : Bool). Jump m b) e))
-form-below (Switch i at labels) (Fixed n) (Fixed m) p q wide = q ∙ sym p
-form-below (Label l) (Mark m) (Mark n) p q wide = q ∙ sym p
-form-below (Plain i) (Fixed n) (Jump m w) p q wide = absurd q
-form-below (Plain i) (Fixed n) (Mark m) p q wide = absurd q
-form-below (Branch op l) (Jump m w) (Fixed n) p q wide = absurd q
-form-below (Branch op l) (Jump m w) (Mark n) p q wide = absurd q
-form-below (Switch i at labels) (Fixed n) (Jump m w) p q wide = absurd q
-form-below (Switch i at labels) (Fixed n) (Mark m) p q wide = absurd q
-form-below (Label l) (Mark m) (Fixed n) p q wide = absurd q
-form-below (Label l) (Mark m) (Jump n w) p q wide = absurd q
-form-below _ _ _ p q wide = absurd p
+form-below x x2 x22 p q wide = grind (arith, jump-below)
 
 -- forms that are no wider than others of the same items are below them
 pub below-from : (items : List Item) (a b : List Form) → AreForms items a → AreForms items b → NoWider a b → AreBelow a b
@@ -68,13 +54,7 @@ no-wider (f ∷ fs) (g ∷ gs) below zero l e = first f g below.0 (same_Some f (
 no-wider (f ∷ fs) (g ∷ gs) below (suc k) l e = no-wider fs gs below.1 k l e
 
 bytes-below : (f g : Form) → IsBelow f g → form_bytes f ≤ form_bytes g
-bytes-below (Fixed n) (Fixed m) h = omega (arith, h)
-bytes-below (Jump l true) (Jump m true) h = omega arith
-bytes-below (Jump l true) (Jump m false) h = absurd (let e = h.1 refl in cc)
-bytes-below (Jump l false) (Jump m true) h = omega arith
-bytes-below (Jump l false) (Jump m false) h = omega arith
-bytes-below (Mark l) (Mark m) h = omega arith
-bytes-below _ _ h = absurd h
+bytes-below x x2 h = grind (arith)
 
 begins-below : (a b : List Form) → AreBelow a b → (k : ℕ) → begins a k ≤ begins b k
 begins-below [] b h k = omega arith
@@ -105,10 +85,7 @@ Direction a b k l = IsAhead a b k l ⊎ IsBack a b k l
 shifted : (fs gs : List Form) (k l m n : ℕ) → m ≤ n → Direction fs gs k l → (a b : List Form)
     → begins a (suc k) ≡ m + begins fs k → begins b (suc k) ≡ n + begins gs k
     → label_place a l ≡ m + label_place fs l → label_place b l ≡ n + label_place gs l → Direction a b (suc k) l
-shifted fs gs k l m n le (inl h) a b p q r s =
-    inl (record { one = omega (arith, h.one, p, r); other = omega (arith, h.other, q, s); far = omega (arith, h.far, p, q, r, s) })
-shifted fs gs k l m n le (inr h) a b p q r s =
-    inr (record { one = omega (arith, h.one, p, r); other = omega (arith, h.other, q, s); far = omega (arith, h.far, p, q, r, s) })
+shifted fs gs k l m n le x a b p q r s = grind (arith)
 
 mark-below : (m n l x y : ℕ) → n ≡ m → x ≤ y → cond (m == l) 0 x ≤ cond (n == l) 0 y
 mark-below m n l x y e h = rw e (by_test (m == l))
@@ -138,8 +115,7 @@ direction-at [] [] h zero l = inl (record { one = omega arith; other = omega ari
 direction-at [] [] h (suc k) l = inl (record { one = omega arith; other = omega arith; far = omega arith })
 direction-at [] (g ∷ gs) h k l = absurd h
 direction-at (f ∷ fs) [] h k l = absurd h
-direction-at (f ∷ fs) (g ∷ gs) h zero l =
-    inl (record { one = omega arith; other = omega arith; far = omega (arith, label-below (f ∷ fs) (g ∷ gs) h l) })
+direction-at (f ∷ fs) (g ∷ gs) h zero l = grind (arith, label-below)
 direction-at (f ∷ fs) (g ∷ gs) h (suc k) l = by_form f g h.0 (direction-at fs gs h.1 k l)
   where
     by_form : (f g : Form) → IsBelow f g → Direction fs gs k l → Direction (f ∷ fs) (g ∷ gs) (suc k) l

@@ -1,6 +1,6 @@
 -- The turns of widening, from the shortest form of each item to the least set of wide jumps with which every other one fits.
-use Rattle.std.proofs.Common.{◌≡◌, ◌<◌, ◌+◌, ℕ, true, false, Option, Some, None, List, [], ◌∷◌, length, refl, sym, ◌∙◌, arith, All}
-use Rattle.std.proofs.Common.{map, ap}
+use Rattle.std.proofs.Common.{◌≡◌, ◌<◌, ℕ, true, false, Option, Some, None, List, [], ◌∷◌, length, sym, ◌∙◌, arith, All}
+use Rattle.std.proofs.Common.{map}
 use Rattle.std.specs.Prelude.{slice_get, slice_index}
 use Rattle.std.specs.Option.{option_map}
 use Rattle.std.proofs.lemmas.Option.{slice_get-map}
@@ -18,10 +18,7 @@ use Rattle.xf_layout.proofs.Turns.{ArePlaced}
 use Rattle.xf_layout.proofs.Notes.{count-marks, noted-once, jump-once}
 
 form-shortest : (i : Item) → IsForm i (shortest i)
-form-shortest (Plain i) = refl
-form-shortest (Branch op l) = refl
-form-shortest (Switch i at labels) = refl
-form-shortest (Label l) = refl
+form-shortest x = grind (arith)
 
 pub forms-shortest : (items : List Item) → AreForms items (map shortest items)
 forms-shortest [] = tt
@@ -40,15 +37,12 @@ shortest-least items others k l e = by_item (slice_get items k) (sym (slice_get-
 -- where the labels are noted that are there once
 place-noted : (items : List Item) (fs : List Form) (ps : List ℕ) → AreForms items fs → FormsFit (length ps) fs
     → (l : ℕ) → IsOnce items l → slice_index (noted fs 0 ps) l ≡ label_place fs l
-place-noted items fs ps forms room l once =
-    let start : 0 + label_place fs l ≡ label_place fs l = omega arith in
-    noted-once fs 0 ps l room (count-marks l items fs forms ∙ once) ∙ start
+place-noted items fs ps forms room l once = grind (arith, noted-once fs 0 ps l room (count-marks l items fs forms ∙ once))
 
 -- the same of what a call noted
 pub places-after : (items : List Item) (fs gs : List Form) (ps new : List ℕ) → new ≡ noted gs 0 ps → gs ≡ fs → AreForms items fs
     → FormsFit (length ps) fs → (l : ℕ) → IsOnce items l → slice_index new l ≡ label_place fs l
-places-after items fs gs ps new is same forms room l once =
-    ap (λ (xs : List ℕ). slice_index xs l) (is ∙ ap (λ (hs : List Form). noted hs 0 ps) same) ∙ place-noted items fs ps forms room l once
+places-after items fs gs ps new is same forms room l once = grind (arith, place-noted)
 
 pub jumps-after : (source : List ℕ) (items : List Item) (fs gs : List Form) (ps new : List ℕ) → new ≡ noted gs 0 ps → gs ≡ fs
     → All (IsItem source items) items → AreForms items fs → FormsFit (length ps) fs → ArePlaced (slice_index new) fs
@@ -58,5 +52,4 @@ jumps-after source items fs gs ps new is same ok forms room =
 -- where the code is too long with as few wide jumps as there can be, it always is
 pub long-always : (items : List Item) (fs : List Form) → AreForms items fs
     → ((others : List Form) → AreForms items others → Fit others → NoWider fs others) → 32767 < length_of_forms fs → ReachesTooFar items
-long-always items fs forms least long others p fit =
-    omega (arith, long, end-below fs others (below-from items fs others forms p (least others p fit)))
+long-always items fs forms least long others p fit = grind (arith, end-below, below-from)

@@ -8,7 +8,6 @@ use Rattle.std.proofs.lemmas.List.{get_or-set_same, get_or-set_other, length-set
 use Rattle.std.proofs.lemmas.List.Elements.{All-head, All-tail, All-cons, All-weaker}
 use Rattle.std.proofs.lemmas.List.Sums.{sum_by-cons}
 use Rattle.jc_decode.specs.declared.symbols.Item.{Item}
-use Rattle.jc_decode.specs.declared.symbols.Item.TheVariants.{Plain, Branch, Switch, Label}
 use Rattle.jc_decode.specs.Symbols.{is_label, IsOnce, IsItem}
 use Rattle.xf_layout.specs.declared.form.Form.{Form}
 use Rattle.xf_layout.specs.declared.form.Form.TheVariants.{Fixed, Jump, Mark}
@@ -25,11 +24,7 @@ marks : ℕ → List Form → ℕ
 marks l fs = count_by (is_mark l) fs
 
 same-mark : (l : ℕ) (i : Item) (f : Form) → IsForm i f → is_mark l f ≡ is_label l i
-same-mark l (Plain i) (Fixed n) h = refl
-same-mark l (Branch op m) (Jump n w) h = refl
-same-mark l (Switch i at labels) (Fixed n) h = refl
-same-mark l (Label m) (Mark n) h = ap (λ (x : ℕ). x == l) h
-same-mark l _ _ h = absurd h
+same-mark l x x2 h = grind (arith)
 
 pub count-marks : (l : ℕ) (items : List Item) (fs : List Form) → AreForms items fs → count_by (is_mark l) fs ≡ count_by (is_label l) items
 count-marks l [] [] h = refl
@@ -49,14 +44,10 @@ one-more l f fs = sum_by-cons (λ (f : Form). cond (is_mark l f) 1 0) f fs
 
 -- a label that is not there keeps its place
 other-noted : (f : Form) (at : ℕ) (ps : List ℕ) (l : ℕ) → is_mark l f ≡ false → get_or (noted_one f at ps) l 0 ≡ get_or ps l 0
-other-noted (Fixed n) at ps l h = refl
-other-noted (Jump m w) at ps l h = refl
-other-noted (Mark m) at ps l h = get_or-set_other ps m l at 0 (λ same. eqb-false m l h (sym same))
+other-noted x at ps l h = grind (arith, get_or-set_other, eqb-false)
 
 length-noted : (f : Form) (at : ℕ) (ps : List ℕ) → length (noted_one f at ps) ≡ length ps
-length-noted (Fixed n) at ps = refl
-length-noted (Jump m w) at ps = refl
-length-noted (Mark m) at ps = length-set ps m at
+length-noted x at ps = grind (arith, length-set)
 
 rest-count : (l : ℕ) (f : Form) (fs : List Form) (b : Bool) → is_mark l f ≡ b → cond b 1 0 + count_by (is_mark l) fs ≡ count_by (is_mark l) (f ∷ fs)
 rest-count l f fs b e = ap (λ (x : Bool). cond x 1 0 + count_by (is_mark l) fs) (sym e) ∙ sym (one-more l f fs)
@@ -73,15 +64,11 @@ noted-none (f ∷ fs) at ps l h = by_test (is_mark l f) refl (noted-none fs (at 
 
 -- the form is this label
 marked-here : (f : Form) (l : ℕ) → is_mark l f ≡ true → f ≡ Mark l
-marked-here (Fixed n) l h = absurd (cc)
-marked-here (Jump m w) l h = absurd (cc)
-marked-here (Mark m) l h = ap (λ (x : ℕ). Mark x) (eqb-true m l h)
+marked-here x l h = grind (arith, eqb-true)
 
 -- another form moves the place of the label on
 pub place-after : (f : Form) (fs : List Form) (l : ℕ) → is_mark l f ≡ false → label_place (f ∷ fs) l ≡ form_bytes f + label_place fs l
-place-after (Fixed n) fs l h = refl
-place-after (Jump m w) fs l h = refl
-place-after (Mark m) fs l h = let e : 0 + label_place fs l ≡ label_place fs l = omega arith in rw h (sym e)
+place-after x fs l h = grind (arith)
 
 pub place-here : (fs : List Form) (l : ℕ) → label_place (Mark l ∷ fs) l ≡ 0
 place-here fs l = rw (eq-eqb l l refl) refl
@@ -110,9 +97,7 @@ noted-once (f ∷ fs) at ps l room h = by_test (is_mark l f) refl (noted-once fs
 -- ---- room
 
 room-widened : (room : ℕ) (place : ℕ → ℕ) (at : ℕ) (f : Form) → IsInRoom room f → IsInRoom room (widened_form place at f)
-room-widened room place at (Fixed n) h = h
-room-widened room place at (Jump l w) h = h
-room-widened room place at (Mark l) h = h
+room-widened room place at x h = grind (arith)
 
 pub rooms-widened : (room : ℕ) (place : ℕ → ℕ) (at : ℕ) (fs : List Form) → FormsFit room fs → FormsFit room (widened place at fs)
 rooms-widened room place at [] h = h
@@ -122,9 +107,7 @@ rooms-widened room place at (f ∷ fs) h =
     (rooms-widened room place (at + form_bytes f) fs (All-tail (IsInRoom room) f fs h))
 
 more-room : (n m : ℕ) → n ≤ m → (f : Form) → IsInRoom n f → IsInRoom m f
-more-room n m le (Fixed k) h = tt
-more-room n m le (Jump l w) h = tt
-more-room n m le (Mark l) h = omega (arith, h)
+more-room n m le x h = grind (arith)
 
 pub rooms-more : (n m : ℕ) → n ≤ m → (fs : List Form) → FormsFit n fs → FormsFit m fs
 rooms-more n m le fs h = All-weaker (IsInRoom n) (IsInRoom m) (more-room n m le) fs h
@@ -132,10 +115,7 @@ rooms-more n m le fs h = All-weaker (IsInRoom n) (IsInRoom m) (more-room n m le)
 -- ---- the labels of jumps are there once
 
 jump-in : (source : List ℕ) (all : List Item) (i : Item) (l : ℕ) (w : Bool) → IsItem source all i → IsForm i (Jump l w) → IsOnce all l
-jump-in source all (Plain i) l w item form = absurd form
-jump-in source all (Branch op m) l w item form = rw form item.1
-jump-in source all (Switch i at labels) l w item form = absurd form
-jump-in source all (Label m) l w item form = absurd form
+jump-in source all x l w item form = grind (arith)
 
 pub jump-once : (source : List ℕ) (all items : List Item) (fs : List Form) → All (IsItem source all) items → AreForms items fs
     → (k l : ℕ) (w : Bool) → slice_get fs k ≡ Some (Jump l w) → IsOnce all l

@@ -1,6 +1,6 @@
 -- The bytes of one item are it wherever they stand at a place.
-use Rattle.std.proofs.Common.{◌≡◌, ◌+◌, ℕ, Bool, true, false, cond, List, [], ◌∷◌, ◌++◌, length, refl, ap, ◌∙◌}
-use Rattle.std.proofs.Common.{subst, arith, map}
+use Rattle.std.proofs.Common.{◌≡◌, ℕ, Bool, true, false, cond, List, [], ◌∷◌, ◌++◌, length, refl, ap, ◌∙◌}
+use Rattle.std.proofs.Common.{arith, map}
 use Rattle.std.specs.Prelude.{ℤ, pos, ◌+ℤ◌, ◌-ℤ◌}
 use Rattle.std.proofs.lemmas.Int.{ints}
 use Rattle.std.proofs.lemmas.Bool.{or_parts, or_right}
@@ -39,23 +39,12 @@ targets-from code here i cs e = ap (λ (ds : List Case). leads_from here i ds) e
 read-back : (xs : List ℕ) (at : ℕ) (i : Insn) (bytes : List ℕ) → ReadsBack xs at i bytes → (same : Insn) → essence i ≡ essence same
     → (here : ℕ) (before after : List ℕ) → length before ≡ here
     → StandsHere (before ++ (bytes ++ after)) here same (length bytes) (leads_from here i (cases xs at i)) (map (λ c. c.key) (cases xs at i))
-read-back xs at i bytes reads same alike here before after start = subst
-    (λ (n : ℕ). StandsHere (before ++ (bytes ++ after)) n same (length bytes) (leads_from n i (cases xs at i)) (map (λ c. c.key) (cases xs at i)))
-    start
-    (record {
-      insn = sized bytes i;
-      there = reads.insn before after;
-      alike = essence-sized bytes i ∙ alike;
-      sized = refl;
-      led_to = targets-from (before ++ (bytes ++ after)) (length before) (sized bytes i) (cases xs at i) (reads.cases before after);
-      keyed = ap (map (λ (c : Case). c.key)) (reads.cases before after);
-    })
+read-back xs at i bytes reads same alike here before after start = grind (arith, length, map, essence-sized, targets-from)
 
 -- the same with equal targets and keys
 restated : (code : List ℕ) (here : ℕ) (same : Insn) (long : ℕ) (ds es ks ls : List ℤ) → ds ≡ es → ks ≡ ls
     → StandsHere code here same long ds ks → StandsHere code here same long es ls
-restated code here same long ds es ks ls d k s =
-    record { insn = s.insn; there = s.there; alike = s.alike; sized = s.sized; led_to = s.led_to ∙ d; keyed = s.keyed ∙ k }
+restated code here same long ds es ks ls d k s = grind (arith)
 
 -- an instruction that names no place
 pub plain-piece : (source : List ℕ) (place : ℕ → ℕ) (here : ℕ) (i short : Insn) (xs : List ℕ) (at : ℕ) (bytes : List ℕ)
@@ -89,9 +78,7 @@ leads-led : (place : ℕ → ℕ) (here : ℕ) (ls : List ℕ) (cs : List Case) 
 leads-led place here [] [] h = refl
 leads-led place here [] (c ∷ cs) h = absurd (omega (arith, h))
 leads-led place here (l ∷ ls) [] h = absurd (omega (arith, h))
-leads-led place here (l ∷ ls) (c ∷ cs) h =
-    ap (λ (d : ℤ). d ∷ map (λ c. target here c.offset) (led place here ls cs)) (there-and-back here (place l))
-    ∙ ap (λ (ds : List ℤ). pos (place l) ∷ ds) (leads-led place here ls cs (omega (arith, h)))
+leads-led place here (l ∷ ls) (c ∷ cs) h = grind (arith, map, there-and-back, leads-led place here ls cs (omega (arith, h)))
 
 keys-led : (place : ℕ → ℕ) (here : ℕ) (ls : List ℕ) (cs : List Case) → map (λ c. c.key) (led place here ls cs) ≡ map (λ c. c.key) cs
 keys-led place here [] cs = refl

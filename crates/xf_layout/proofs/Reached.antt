@@ -51,10 +51,7 @@ pub form-of : (items : List Item) (fs : List Form) → AreForms items fs → (k 
     → IsForm i f
 form-of [] fs h k i f e g = absurd (cc)
 form-of (x ∷ is) [] h k i f e g = absurd h
-form-of (x ∷ is) (y ∷ fs) h zero i f e g =
-    let a : x ≡ i = cc in
-    let b : y ≡ f = cc in
-    subst (λ (z : Form). IsForm i z) b (subst (λ (z : Item). IsForm z y) a h.0)
+form-of (x ∷ is) (y ∷ fs) h zero i f e g = grind (arith)
 form-of (x ∷ is) (y ∷ fs) h (suc k) i f e g = form-of is fs h.1 k i f e g
 
 pub form-few : (fs : List Form) (k : ℕ) (f : Form) → slice_get fs k ≡ Some f → form_bytes f ≤ length_of_forms fs

@@ -6,7 +6,6 @@ use Rattle.std.proofs.lemmas.Bool.{eq-eqb}
 use Rattle.std.proofs.lemmas.Int.{ints}
 use Rattle.std.proofs.lemmas.List.Elements.{All-set}
 use Rattle.jc_decode.specs.declared.symbols.Item.{Item}
-use Rattle.jc_decode.specs.declared.symbols.Item.TheVariants.{Plain, Branch, Switch, Label}
 use Rattle.jc_decode.specs.Forms.{is_near}
 use Rattle.jc_decode.specs.Symbols.{IsItem}
 use Rattle.xf_layout.specs.declared.form.Form.{Form}
@@ -44,10 +43,7 @@ mark-place (f ∷ fs) (suc m) l e once = by_test (is_mark l f) refl (mark-place 
     by_test true h later =
         let more : cond (is_mark l f) 1 0 ≡ 1 = ap {B = ℕ} (λ (b : Bool). cond b 1 0) h in
         absurd (omega (arith, rest, once, one-more l f fs, more))
-    by_test false h later =
-        let none : cond (is_mark l f) 1 0 ≡ 0 = ap {B = ℕ} (λ (b : Bool). cond b 1 0) h in
-        let once_more : count_by (is_mark l) fs ≡ 1 = omega (arith, once, one-more l f fs, none) in
-        omega (arith, place-after f fs l h, later once_more)
+    by_test false h later = grind (arith, cond, one-more, place-after)
 
 pub bytes_here : (fs : List Form) (n : ℕ) (f : Form) → slice_get fs n ≡ Some f → begins fs n + form_bytes f ≡ begins fs (n + 1)
 bytes_here fs n f e = sym (begins-more fs n f e)
@@ -58,11 +54,7 @@ begins-past (f ∷ fs) zero e = absurd (cc)
 begins-past (f ∷ fs) (suc n) e = ap (λ (k : ℕ). form_bytes f + k) (begins-past fs n e)
 
 pub bytes_past : (fs : List Form) (n : ℕ) → slice_get fs n ≡ None → begins fs n + 0 ≡ begins fs (n + 1)
-bytes_past fs n e =
-    let next : n + 1 ≡ suc n = omega arith in
-    let same = begins-past fs n e in
-    let to : begins fs (n + 1) ≡ begins fs (suc n) = ap (begins fs) next in
-    omega (arith, same, to)
+bytes_past fs n e = grind (arith, suc, begins-past)
 
 pub begins-rise : (fs : List Form) (k m : ℕ) → k ≤ m → begins fs k ≤ begins fs m
 begins-rise [] k m le = omega arith
@@ -80,8 +72,7 @@ far-back x y far near = grind (arith, ints)
 
 far-from : (fs : List Form) (k l : ℕ) (far : LeadsFar fs k l) → label_place fs l ≡ begins fs far.mark → (k ≤ far.mark) ⊎ (far.mark < k)
     → is_near (distance fs k l) ≡ true → ⊥
-far-from fs k l far at (inl le) near = far-ahead (label_place fs l) (begins fs k) (omega (arith, at, far.ahead le)) near
-far-from fs k l far at (inr lt) near = far-back (label_place fs l) (begins fs k) (omega (arith, at, far.back lt)) near
+far-from fs k l far at x near = grind (arith, far-ahead, far-back)
 
 side : (k m : ℕ) → (k ≤ m) ⊎ (m < k)
 side zero m = inl (omega arith)
@@ -113,10 +104,7 @@ below-set (f ∷ fs) (g ∷ gs) zero l h e d = let same : g ≡ Jump l true = cc
 below-set (f ∷ fs) (g ∷ gs) (suc k) l h e d = (h.0, below-set fs gs k l h.1 e d)
 
 form-wide : (i : Item) (l : ℕ) → IsForm i (Jump l false) → IsForm i (Jump l true)
-form-wide (Branch op m) l h = h
-form-wide (Plain i) l h = absurd h
-form-wide (Switch i at labels) l h = absurd h
-form-wide (Label m) l h = absurd h
+form-wide x l h = grind (arith)
 
 forms-set : (items : List Item) (fs : List Form) (k l : ℕ) → slice_get fs k ≡ Some (Jump l false) → AreForms items fs
     → AreForms items (slice_set fs k (Jump l true))

@@ -1,26 +1,20 @@
 -- Laid in any forms code is no longer than its plain size; items have one shortest choice of forms.
-use Rattle.std.proofs.Common.{◌≡◌, ◌≤◌, ℕ, Bool, true, false, List, [], ◌∷◌, refl, sym, ap, ◌∙◌, arith}
+use Rattle.std.proofs.Common.{◌≡◌, ◌≤◌, ℕ, Bool, true, List, [], ◌∷◌, refl, ap, ◌∙◌, arith}
 use Rattle.std.proofs.lemmas.List.Sums.{sum_by-cons}
 use Rattle.jc_decode.specs.declared.symbols.Item.{Item}
-use Rattle.jc_decode.specs.declared.symbols.Item.TheVariants.{Plain, Branch, Switch, Label}
 use Rattle.jc_decode.specs.Laws.{ShortIsNoLonger}
 use Rattle.jc_decode.specs.Symbols.{plain_bytes, plain_size}
 use Rattle.xf_layout.specs.declared.form.Form.{Form}
-use Rattle.xf_layout.specs.declared.form.Form.TheVariants.{Fixed, Jump, Mark}
+use Rattle.xf_layout.specs.declared.form.Form.TheVariants.{Jump}
 use Rattle.xf_layout.specs.Form.{IsForm, AreForms, form_bytes, length_of_forms}
 use Rattle.xf_layout.specs.Shortest.{IsShortest}
 use Rattle.xf_layout.proofs.Below.{IsBelow, AreBelow, below-from}
 
 jump-bytes : (l : ℕ) (wide : Bool) → form_bytes (Jump l wide) ≤ 3
-jump-bytes l true = omega arith
-jump-bytes l false = omega arith
+jump-bytes l x = grind (arith)
 
 form-no-longer : ShortIsNoLonger → (i : Item) (f : Form) → IsForm i f → form_bytes f ≤ plain_bytes i
-form-no-longer shorter (Plain i) (Fixed n) h = omega (arith, h, shorter i)
-form-no-longer shorter (Branch op l) (Jump m w) h = jump-bytes m w
-form-no-longer shorter (Switch i at labels) (Fixed n) h = omega (arith, h)
-form-no-longer shorter (Label l) (Mark m) h = omega arith
-form-no-longer shorter _ _ h = absurd h
+form-no-longer shorter x x2 h = grind (arith, jump-bytes)
 
 pub forms-no-longer : ShortIsNoLonger → (items : List Item) (fs : List Form) → AreForms items fs → length_of_forms fs ≤ plain_size items
 forms-no-longer shorter [] [] h = omega arith
@@ -29,16 +23,10 @@ forms-no-longer shorter (i ∷ is) (f ∷ fs) h =
 forms-no-longer shorter _ _ h = absurd h
 
 same-jump : (l m : ℕ) (w v : Bool) → m ≡ l → (w ≡ true → v ≡ true) → (v ≡ true → w ≡ true) → ◌≡◌ {A = Form} (Jump l w) (Jump m v)
-same-jump l m true true e p q = ap (λ (x : ℕ). Jump x true) (sym e)
-same-jump l m true false e p q = absurd (let b = p refl in cc)
-same-jump l m false true e p q = absurd (let b = q refl in cc)
-same-jump l m false false e p q = ap (λ (x : ℕ). Jump x false) (sym e)
+same-jump l m x x2 e p q = grind (arith)
 
 same-form : (f g : Form) → IsBelow f g → IsBelow g f → f ≡ g
-same-form (Fixed n) (Fixed m) p q = ap (λ (x : ℕ). Fixed x) q
-same-form (Jump l w) (Jump m v) p q = same-jump l m w v p.0 p.1 q.1
-same-form (Mark l) (Mark m) p q = ap (λ (x : ℕ). Mark x) q
-same-form _ _ p q = absurd p
+same-form x x2 p q = grind (arith, same-jump)
 
 same-forms : (a b : List Form) → AreBelow a b → AreBelow b a → a ≡ b
 same-forms [] [] p q = refl

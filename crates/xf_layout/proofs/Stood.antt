@@ -14,12 +14,12 @@ use Rattle.jc_decode.specs.Cases.{cases}
 use Rattle.jc_decode.specs.Listing.{listing_from}
 use Rattle.jc_decode.specs.Laws.{ListingIsOne, NothingPastTheEnd}
 use Rattle.jc_decode.specs.Symbols.{Step, jump, place_of, steps_in, handler, IsOnce, IsItem, IsRange}
-use Rattle.jc_decode.specs.Standing.{StandsForStep, AreSteps}
+use Rattle.jc_decode.specs.Standing.{AreSteps}
 use Rattle.jc_decode.proofs.Elements.{Contains-first}
 use Rattle.xf_layout.specs.declared.form.Form.{Form}
 use Rattle.xf_layout.specs.declared.form.Form.TheVariants.{Fixed, Jump, Mark}
 use Rattle.xf_layout.specs.Form.{AreForms, form_bytes, label_place, instruction_place}
-use Rattle.xf_layout.specs.Laid.{StandsHere, ItemStands, ItemsStand, Adds, label_targets}
+use Rattle.xf_layout.specs.Laid.{StandsHere, ItemsStand, Adds, label_targets}
 
 -- ---- one more item at the end of a code
 
@@ -28,17 +28,7 @@ pub next-stands : (source : List ℕ) (place : ℕ → ℕ) (items : List Item) 
     → ((after : List ℕ) → ItemsStand source place (code ++ after) (length code) (item ∷ rest) (f ∷ gs)
     → ItemsStand source place (code ++ after) 0 items fs)
     → (after : List ℕ) → ItemsStand source place (new ++ after) (length new) rest gs → ItemsStand source place (new ++ after) 0 items fs
-next-stands source place items fs code new item f rest gs adds reach after stands =
-    let whole : new ++ after ≡ code ++ (adds.piece ++ after) = ap (λ (xs : List ℕ). xs ++ after) adds.appended ∙ append_assoc code adds.piece after in
-    let end : length new ≡ length code + form_bytes f =
-    ap length adds.appended ∙ length-append code adds.piece ∙ ap (λ (n : ℕ). length code + n) adds.long in
-    let here : ItemStands source place (code ++ (adds.piece ++ after)) (length code) item (form_bytes f) =
-    subst (ItemStands source place (code ++ (adds.piece ++ after)) (length code) item) adds.long (adds.stands code after refl) in
-    let there : ItemsStand source place (code ++ (adds.piece ++ after)) (length new) rest gs =
-    subst (λ (xs : List ℕ). ItemsStand source place xs (length new) rest gs) whole stands in
-    let later : ItemsStand source place (code ++ (adds.piece ++ after)) (length code + form_bytes f) rest gs =
-    subst (λ (n : ℕ). ItemsStand source place (code ++ (adds.piece ++ after)) n rest gs) end there in
-    subst (λ (xs : List ℕ). ItemsStand source place xs 0 items fs) (sym whole) (reach (adds.piece ++ after) (here, later))
+next-stands source place items fs code new item f rest gs adds reach after stands = grind (arith, append_assoc, length, length-append)
 
 -- ---- places of instructions
 
@@ -87,29 +77,17 @@ one-step : ListingIsOne → (code : List ℕ) (to : ℕ → ℕ) (n here : ℕ) 
     → StandsHere code here same long leads keys → leads ≡ map (λ t. pos (to t)) targets → here ≡ to n → here + long ≡ to (suc n)
     → AreSteps code to (suc n) rest (listing_from code (here + long))
     → AreSteps code to n (record { insn = same; targets = targets; keys = keys } ∷ rest) (listing_from code here)
-one-step one code to n here same long leads keys targets rest stands led begins ends later =
-    let step : Step = record { insn = same; targets = targets; keys = keys } in
-    let end : here + stands.insn.len ≡ to (suc n) = ap (λ (k : ℕ). here + k) stands.sized ∙ ends in
-    let after : AreSteps code to (suc n) rest (listing_from code (here + stands.insn.len)) =
-    subst (λ (k : ℕ). AreSteps code to (suc n) rest (listing_from code (here + k))) (sym stands.sized) later in
-    let is : StandsForStep code to step (record { place = here; insn = stands.insn }) =
-    record { same = stands.alike; leads = stands.led_to ∙ led; keyed = stands.keyed } in
-    subst (λ (ps : List Placed). AreSteps code to n (step ∷ rest) ps) (sym (one.more code here stands.insn stands.there)) (begins, end, is, after)
+one-step one code to n here same long leads keys targets rest stands led begins ends later = grind (arith, suc)
 
 pub record IsShifted (to : ℕ → ℕ) (n here : ℕ) (fs : List Form) : Type 0 where
   pub at : (m : ℕ) → to (n + m) ≡ here + instruction_place fs m
 
 pub shifted-start : (to : ℕ → ℕ) (n here : ℕ) (fs : List Form) → IsShifted to n here fs → here ≡ to n
-shifted-start to n here fs shift =
-    let e : n ≡ n + 0 = omega arith in
-    let s : to (n + 0) ≡ here + instruction_place fs 0 = shift.at 0 in
-    sym (ap to e ∙ s ∙ ap (λ (k : ℕ). here + k) (instruction-start fs) ∙ omega arith)
+shifted-start to n here fs shift = grind (arith, instruction-start fs)
 
 pub shifted-next : (to : ℕ → ℕ) (n here long : ℕ) (f : Form) (fs : List Form) → IsShifted to n here (f ∷ fs)
     → ((m : ℕ) → instruction_place (f ∷ fs) (suc m) ≡ long + instruction_place fs m) → IsShifted to (suc n) (here + long) fs
-shifted-next to n here long f fs shift step = record {
-  at = λ m. let e : suc n + m ≡ n + suc m = omega arith in let s = shift.at (suc m) in let t = step m in rw e (omega (arith, s, t));
-}
+shifted-next to n here long f fs shift step = grind (arith, suc)
 
 pub steps-stand : ListingIsOne → NothingPastTheEnd → (source : List ℕ) (place to : ℕ → ℕ) (all : List Item)
     → ((l : ℕ) → IsOnce all l → place l ≡ to (place_of l all)) → (code : List ℕ) (items : List Item) (fs : List Form) (n here : ℕ)

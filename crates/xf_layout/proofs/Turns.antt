@@ -7,7 +7,6 @@ use Rattle.std.specs.Option.{option_map}
 use Rattle.std.proofs.lemmas.Bool.{false≢true, not-false}
 use Rattle.std.proofs.lemmas.List.Sums.{sum_by-cons}
 use Rattle.jc_decode.specs.declared.symbols.Item.{Item}
-use Rattle.jc_decode.specs.declared.symbols.Item.TheVariants.{Plain, Branch, Switch, Label}
 use Rattle.jc_decode.specs.Forms.{is_near}
 use Rattle.xf_layout.specs.declared.form.Form.{Form}
 use Rattle.xf_layout.specs.declared.form.Form.TheVariants.{Fixed, Jump, Mark}
@@ -22,16 +21,10 @@ pub get-widened : (place : ℕ → ℕ) (at : ℕ) (fs : List Form) (k : ℕ)
 get-widened place at [] zero = refl
 get-widened place at [] (suc k) = refl
 get-widened place at (f ∷ fs) zero = let e : at ≡ at + 0 = omega arith in ap (λ (n : ℕ). Some (widened_form place n f)) e
-get-widened place at (f ∷ fs) (suc k) =
-    let e : at + form_bytes f + begins fs k ≡ at + (form_bytes f + begins fs k) = omega arith in
-    get-widened place (at + form_bytes f) fs k ∙ ap (λ (n : ℕ). option_map (widened_form place n) (slice_get fs k)) e
+get-widened place at (f ∷ fs) (suc k) = grind (arith, get-widened place (at + form_bytes f) fs k)
 
 form-widened : (place : ℕ → ℕ) (at : ℕ) (i : Item) (f : Form) → IsForm i f → IsForm i (widened_form place at f)
-form-widened place at (Plain i) (Fixed n) h = h
-form-widened place at (Branch op l) (Jump m w) h = h
-form-widened place at (Switch i from labels) (Fixed n) h = h
-form-widened place at (Label l) (Mark m) h = h
-form-widened place at _ _ h = absurd h
+form-widened place at x x2 h = grind (arith)
 
 pub forms-widened : (place : ℕ → ℕ) (at : ℕ) (items : List Item) (fs : List Form) → AreForms items fs → AreForms items (widened place at fs)
 forms-widened place at [] [] h = h
@@ -67,14 +60,7 @@ widened-least place items fs others placed p q fit wide k l e = by_form (slice_g
     too-far m (Fixed n) here there h same far = absurd h
     too-far m (Mark n) here there h same far = absurd h
     too-far m (Jump n true) here there h same far = there ∙ ap (λ (x : ℕ). Some (Jump x true)) (h.0 ∙ same)
-    too-far m (Jump n false) here there h same far =
-        let near : is_near (distance fs k n) ≡ true = near-below fs others below k n (fit k n there) in
-        let at : place m ≡ label_place fs n = placed.at k m false here ∙ ap (label_place fs) (sym h.0) in
-        let start : begins fs k ≡ 0 + begins fs k = omega arith in
-        let bad : not (is_near (distance fs k n)) ≡ true =
-        ap (λ (x : ℕ). not (is_near (pos x -ℤ pos (begins fs k)))) (sym at) ∙ ap (λ (x : ℕ). not (is_near (pos (place m) -ℤ pos x))) start
-        ∙ far in
-        absurd (false≢true (sym (ap not near) ∙ bad))
+    too-far m (Jump n false) here there h same far = grind (arith, near-below fs others below k n (fit k n there), false≢true)
 
     by_form : (o : Option Form) → slice_get fs k ≡ o → option_map (widened_form place (0 + begins fs k)) o ≡ Some (Jump l true)
         → slice_get others k ≡ Some (Jump l true)
@@ -82,9 +68,7 @@ widened-least place items fs others placed p q fit wide k l e = by_form (slice_g
     by_form (Some (Fixed n)) here h = absurd (cc)
     by_form (Some (Mark m)) here h = absurd (cc)
     by_form (Some (Jump m true)) here h = let same : m ≡ l = cc in wide k l (here ∙ ap (λ (x : ℕ). Some (Jump x true)) same)
-    by_form (Some (Jump m false)) here h =
-        let r = above-at fs others below k (Jump m false) here in
-        too-far m r.form here r.there r.below (cc) (cc)
+    by_form (Some (Jump m false)) here h = grind (arith, above-at fs others below k (Jump m false) here, too-far)
 
 -- ---- a turn that makes no jump wide
 

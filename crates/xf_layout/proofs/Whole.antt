@@ -1,5 +1,5 @@
 -- Laid code as a whole.
-use Rattle.std.proofs.Common.{◌≡◌, ◌+◌, ◌-◌, ℕ, Result, Ok, Err, List, [], ◌++◌, length, take, drop, cond, sym, ap, ◌∙◌, subst, arith}
+use Rattle.std.proofs.Common.{◌≡◌, ◌+◌, ◌-◌, ℕ, Result, List, [], ◌++◌, length, take, drop, cond, sym, ap, ◌∙◌, subst, arith}
 use Rattle.std.proofs.Common.{map, All}
 use Rattle.std.specs.Prelude.{OnOk, is_ok, slice_index}
 use Rattle.std.proofs.lemmas.List.{append-nil, take_all, drop_all, length-drop}
@@ -18,14 +18,11 @@ use Rattle.xf_layout.proofs.Stood.{IsShifted, instruction-start, label-instructi
 
 -- what a slice of a list gives back
 pub back : (new items : List ℕ) (n : ℕ) → length new ≡ length items → n ≡ length items → take n (new ++ drop (length new) items) ≡ new
-back new items n long end =
-    let none : drop (length new) items ≡ [] = drop_all (length new) items (omega (arith, long)) in
-    ap (λ (xs : List ℕ). take n (new ++ xs)) none ∙ ap (take n) (append-nil new) ∙ take_all n new (omega (arith, long, end))
+back new items n long end = grind (arith, drop, length, drop_all, take, append-nil, take_all)
 
 pub appended-ok : {E P : Type 0} (r : Result Unit E) (new old xs : List ℕ) → new ≡ cond (is_ok r) (old ++ xs) old → (new ≡ old ++ xs → P)
     → OnOk r P
-appended-ok (Ok x) new old xs e f = f e
-appended-ok (Err x) new old xs e f = tt
+appended-ok x new old xs e f = grind (arith)
 
 -- all but the first
 pub rest-is : {A : Type 0} (xs : List A) → take (length xs - 1) (drop 1 xs) ≡ drop 1 xs
@@ -34,9 +31,7 @@ rest-is xs = take_all (length xs - 1) (drop 1 xs) (omega (arith, length-drop 1 x
 -- items of equal lists in an equal code
 pub laid-items : (source : List ℕ) (p : LayoutPlan) (xs items : List Item) (bytes code : List ℕ) → xs ≡ items → code ≡ bytes
     → ItemsStand source (slice_index p.places) bytes 0 xs p.forms.items → ItemsStand source (slice_index p.places) code 0 items p.forms.items
-laid-items source p xs items bytes code same equal stands =
-    subst (λ (ys : List ℕ). ItemsStand source (slice_index p.places) ys 0 items p.forms.items) (sym equal)
-    (subst (λ (ys : List Item). ItemsStand source (slice_index p.places) bytes 0 ys p.forms.items) same stands)
+laid-items source p xs items bytes code same equal stands = grind (arith)
 
 pub stands-at : (source : List ℕ) (symbols : Symbols) (p : LayoutPlan) (laid : Laid) → IsLayoutPlan symbols.items p → ListingIsOne → NothingPastTheEnd
     → All (IsItem source symbols.items) symbols.items → All (IsRange symbols.items) symbols.ranges

@@ -1,4 +1,4 @@
-ghost use Rattle.std.specs.Prelude.{◌≡◌, ◌≤◌, ◌+◌, Ok, OnOk, IsTrue, length, map, slice_index};
+ghost use Rattle.std.specs.Prelude.{◌≡◌, ◌≤◌, ◌+◌, Ok, OnOk, IsTrue, length, slice_index};
 ghost use Rattle.jc_decode.specs.Decoding.{decoded};
 ghost use Rattle.jc_decode.specs.Cases.{cases, is_switch, with_default};
 ghost use Rattle.xf_layout.specs.Laid.{AreInReach, AddsSwitch, led};

@@ -1,4 +1,4 @@
-ghost use Rattle.std.specs.Prelude.{◌≡◌, ◌≤◌, All, IfOk, map, slice_index};
+ghost use Rattle.std.specs.Prelude.{◌≡◌, All, IfOk, map, slice_index};
 ghost use Rattle.jc_decode.specs.Symbols.{handler};
 ghost use Rattle.xf_layout.specs.Laid.{IsPlacedRange};
 

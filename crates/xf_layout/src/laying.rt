@@ -1,4 +1,4 @@
-ghost use Rattle.std.specs.Prelude.{◌≡◌, ◌≤◌, ℕ, List, All, length, OnOk, IfOk, slice_index};
+ghost use Rattle.std.specs.Prelude.{◌≤◌, List, All, length, OnOk, IfOk, slice_index};
 ghost use Rattle.jc_decode.specs.Symbols.{IsItem};
 ghost use Rattle.xf_layout.specs.Form.{IsForm, form_bytes};
 ghost use Rattle.xf_layout.specs.Plan.{IsLayoutPlan};
