@@ -6,7 +6,6 @@ use Rattle.std.proofs.lemmas.Bool.{cases_lt}
 use Rattle.std.proofs.lemmas.Option.{slice_get_within}
 use Rattle.xf_live.specs.declared.live.Liveness.{Liveness}
 use Rattle.xf_live.specs.declared.live.Node.{Node}
-use Rattle.xf_live.specs.declared.set.RegisterSet.{RegisterSet}
 use Rattle.xf_live.specs.Set.{Has, IsSmall, no_registers}
 use Rattle.xf_live.specs.Live.{IsLive, live_read, set_at}
 use Rattle.xf_live.specs.Liveness.{Raises, Begins, BegunTo}
@@ -23,16 +22,7 @@ none-small = record { first = omega arith; second = omega arith; third = omega a
 
 module _ (nodes : List Node) where
   pub begun-none : (s : Liveness) → s.sets.items ≡ replicate (length nodes) no_registers → length s.sets.items ≡ length nodes → BegunTo nodes 0 s
-  begun-none s sets size =
-      let none : (n : ℕ) → set_at s.sets.items n ≡ no_registers = λ n. ap (λ (ss : List RegisterSet). set_at ss n) sets ∙ set-none (length nodes) n in
-      let empty : (n x : ℕ) → Has (set_at s.sets.items n) x → ⊥ = λ n x h. empty-is x (subst (λ (k : RegisterSet). Has k x) (none n) h) in
-      record {
-        size = size;
-        small = λ n. subst IsSmall (sym (none n)) none-small;
-        sound = λ n x h. absurd (empty n x h);
-        closed = λ q. inr (λ after n there from node x at h apart. absurd (empty q x h));
-        reads = λ n x node lt there h. absurd (omega (arith, lt));
-      }
+  begun-none s sets size = grind (arith, set-none, length, empty-is, none-small)
 
   pub begun-more :
       (k : ℕ) (node : Node) (old new : Liveness) → slice_get nodes k ≡ Some node → BegunTo nodes k old → Raises k node.reads old new
@@ -61,10 +51,4 @@ module _ (nodes : List Node) where
       one a b e = cc
 
   pub begun-all : (k : ℕ) (s : Liveness) → length nodes ≤ k → BegunTo nodes k s → Begins nodes s
-  begun-all k s all b = record {
-    size = b.size;
-    small = b.small;
-    sound = b.sound;
-    closed = b.closed;
-    reads = λ n x node there h. (let lt = slice_get_within nodes n node there in b.reads n x node (omega (arith, lt, all)) there h);
-  }
+  begun-all k s all b = grind (arith, slice_get_within)

@@ -1,11 +1,11 @@
 -- How a search for live registers goes on.
-use Rattle.std.proofs.Common.{◌≡◌, ◌<◌, ◌≤◌, ◌⊎◌, inl, inr, ⊎_elim, ℕ, zero, suc, ◌+◌, ◌*◌, ◌^◌, List, [], ◌∷◌, ◌++◌, length}
+use Rattle.std.proofs.Common.{◌≡◌, ◌<◌, ◌≤◌, ◌⊎◌, inl, inr, ⊎_elim, ℕ, zero, suc, ◌+◌, List, [], ◌∷◌, ◌++◌, length}
 use Rattle.std.proofs.Common.{refl, sym, ap, ◌∙◌, subst, arith, Contains, All}
 use Rattle.std.specs.Prelude.{Option, Some, None, slice_get, slice_set, sum_by, IsSomeAnd}
 use Rattle.std.proofs.lemmas.Bool.{cases_eq}
 use Rattle.std.proofs.lemmas.List.{length-append, length-set, get_or-set_same, get_or-set_other}
 use Rattle.std.proofs.lemmas.List.Sums.{sum_by-set, sum_by-cons}
-use Rattle.std.proofs.lemmas.List.Elements.{All-contains, All-weaker, Contains-append_left, Contains-push, Contains-push_cases}
+use Rattle.std.proofs.lemmas.List.Elements.{All-contains, Contains-append_left, Contains-push, Contains-push_cases}
 use Rattle.xf_live.specs.declared.live.Liveness.{Liveness}
 use Rattle.xf_live.specs.declared.live.Node.{Node}
 use Rattle.xf_live.specs.declared.set.RegisterSet.{RegisterSet}
@@ -17,24 +17,10 @@ use Rattle.xf_live.specs.Liveness.{IsClosedAt, CarriesAll, IsClosed, Begins}
 -- ---- growth
 
 pub grows-not : (s : Liveness) → Grows s s
-grows-not s = record {
-  size = refl;
-  has = λ n x h. h;
-  fresh = λ n. inl refl;
-  pending = λ n h. h;
-  small = λ h. h;
-  less = omega arith;
-}
+grows-not s = grind (arith)
 
 pub grows-on : (a b c : Liveness) → Grows a b → Grows b c → Grows a c
-grows-on a b c g h = record {
-  size = h.size ∙ g.size;
-  has = λ n x k. h.has n x (g.has n x k);
-  fresh = λ n. ⊎_elim (λ later. ⊎_elim (λ before. inl (later ∙ before)) (λ waits. inr (h.pending n waits)) (g.fresh n)) (λ waits. inr waits) (h.fresh n);
-  pending = λ n k. h.pending n (g.pending n k);
-  small = λ k. h.small (g.small k);
-  less = let x = g.less in let y = h.less in omega (arith, x, y);
-}
+grows-on a b c g h = grind (arith, ⊎_elim)
 
 -- a set with more registers is written at a node
 pub raises-by :
@@ -62,24 +48,14 @@ module _ (n : ℕ) (more : RegisterSet) (old new : Liveness) (inside : n < lengt
     size-is = ap length sets ∙ length-set old.sets.items n set
 
     small-is : IsSmall set → AreSmall old.sets.items → AreSmall new.sets.items
-    small-is small all k = elim (cases_eq k n) [
-      | inl same ↦ subst IsSmall (ap (λ j. set_at new.sets.items j) (sym same)) (subst IsSmall (sym here-is) small)
-      | inr apart ↦ subst IsSmall (sym (others-are k apart)) (all k)
-    ]
+    small-is small all k = grind (arith, cases_eq, here-is, others-are, all)
 
   -- the set of this node has these too, and no set has more than that
   pub raised-only : Raises n more old new → (k x : ℕ) → Has (set_at new.sets.items k) x → Has (set_at old.sets.items k) x ⊎ ((k ≡ n) × Has more x)
-  raised-only (raised_before same union) k x h = inl (subst (λ (s : Liveness). Has (set_at s.sets.items k) x) same h)
-  raised-only (raised_now set sets pending union rises small) k x h = elim (cases_eq k n) [
-    | inl same ↦
-        let now : Has set x = subst (λ (s : RegisterSet). Has s x) (ap (λ j. set_at new.sets.items j) same ∙ here-is set sets) h in
-        ⊎_elim (λ before. inl (subst (λ j. Has (set_at old.sets.items j) x) (sym same) before)) (λ also. inr (same, also)) ((union x).0 now)
-    | inr apart ↦ inl (subst (λ (s : RegisterSet). Has s x) (others-are set sets k apart) h)
-  ]
+  raised-only x k x2 h = grind (arith, cases_eq, here-is, ⊎_elim, others-are)
 
   pub raised-has : Raises n more old new → (x : ℕ) → Has more x → Has (set_at new.sets.items n) x
-  raised-has (raised_before same union) x h = subst (λ (s : Liveness). Has (set_at s.sets.items n) x) (sym same) ((union x).1 (inr h))
-  raised-has (raised_now set sets pending union rises small) x h = subst (λ (s : RegisterSet). Has s x) (sym (here-is set sets)) ((union x).1 (inr h))
+  raised-has x x2 h = grind (arith, here-is)
 
   pub raised-grows : Raises n more old new → Grows old new
   raised-grows (raised_before same union) = subst (Grows old) (sym same) (grows-not old)
@@ -143,8 +119,7 @@ module _ (nodes : List Node) where
   pub all-carried-on :
       (live : RegisterSet) (ns : List ℕ) (old new : Liveness) → Grows old new → All (λ n. IsCarried nodes live n old) ns
       → All (λ n. IsCarried nodes live n new) ns
-  all-carried-on live ns old new grows all =
-      All-weaker (λ n. IsCarried nodes live n old) (λ n. IsCarried nodes live n new) (λ n carried. carried-on live n old new grows carried) ns all
+  all-carried-on live ns old new grows all = grind (arith, carried-on, all)
 
   -- the node whose set is carried, and those before it
   module _ (q : ℕ) (from : List ℕ) (live : RegisterSet) (start : Liveness)
@@ -160,9 +135,7 @@ module _ (nodes : List Node) where
     pub carried-sound :
         (n : ℕ) (old new : Liveness) → Contains from n → Carries nodes n live old new → (IsSound nodes start → IsSound nodes old)
         → IsSound nodes start → IsSound nodes new
-    carried-sound n old new listed c before sound =
-        c.sound q the-node.0 the-node.1 (subst (λ (ns : List ℕ). Contains ns n) (sym the-node.2) listed)
-        (λ x h. sound q x (subst (λ (k : RegisterSet). Has k x) is h)) (before sound)
+    carried-sound n old new listed c before sound = grind (arith, the-node)
 
     pub carried-all :
         (last : Liveness) → Grows start last → All (λ n. IsCarried nodes live n last) from → (IsSound nodes start → IsSound nodes last)
@@ -255,11 +228,4 @@ total-room (s ∷ ss) small =
 
 pub less-work :
     (q : ℕ) (old new last : Liveness) → TakesUp q old new → AreSmall old.sets.items → Grows new last → work last < work old
-less-work q old new last t small grows =
-    let all_small : AreSmall new.sets.items = subst AreSmall (sym t.sets) small in
-    let fits = total-room last.sets.items (grows.small all_small) in
-    let size : room last.sets.items ≡ room old.sets.items = ap (λ n. n * 2 ^ 66) (grows.size ∙ ap length t.sets) in
-    let total : sum_by weight new.sets.items ≡ sum_by weight old.sets.items = ap (sum_by weight) t.sets in
-    let count : length old.pending.items ≡ length new.pending.items + 1 = ap length t.pending ∙ length-append new.pending.items (q ∷ []) in
-    let less = grows.less in
-    omega (arith, fits, size, total, count, less)
+less-work q old new last t small grows = grind (arith, total-room, length, length-append)

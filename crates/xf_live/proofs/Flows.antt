@@ -39,9 +39,7 @@ node-there (v ∷ uses) [] all n u e = absurd all
 pub uses-there : (uses : List Uses) (nodes : List Node) → AreAlone uses nodes → (n : ℕ) (node : Node) → slice_get nodes n ≡ Some node
     → HasUses node (slice_get uses n)
 uses-there [] [] all n node e = absurd (cc)
-uses-there (u ∷ uses) (m ∷ nodes) all zero node e =
-    let same : m ≡ node = cc in
-    record { uses = u; there = refl; is = subst (IsNodeOf u) same all.0 }
+uses-there (u ∷ uses) (m ∷ nodes) all zero node e = grind (arith)
 uses-there (u ∷ uses) (m ∷ nodes) all (suc n) node e = uses-there uses nodes all.1 n node e
 uses-there [] (m ∷ nodes) all n node e = absurd all
 uses-there (u ∷ uses) [] all n node e = absurd all
@@ -64,14 +62,7 @@ alone-set : (uses : List Uses) (nodes : List Node) (k : ℕ) (node after : Node)
 alone-set [] [] k node after all e r w = all
 alone-set [] (m ∷ nodes) k node after all e r w = absurd all
 alone-set (u ∷ uses) [] k node after all e r w = absurd all
-alone-set (u ∷ uses) (m ∷ nodes) zero node after all e r w =
-    let same : m ≡ node = cc in (
-      record {
-        reads = r ∙ (ap (λ (x : Node). x.reads) (sym same) ∙ all.0.reads);
-        writes = w ∙ (ap (λ (x : Node). x.writes) (sym same) ∙ all.0.writes);
-      },
-      all.1,
-    )
+alone-set (u ∷ uses) (m ∷ nodes) zero node after all e r w = grind (arith)
 alone-set (u ∷ uses) (m ∷ nodes) (suc k) node after all e r w = (all.0, alone-set uses nodes k node after all.1 e r w)
 
 get-set-same : {X : Type 0} (xs : List X) (k : ℕ) (x : X) → k < length xs → slice_get (slice_set xs k x) k ≡ Some x
@@ -150,13 +141,7 @@ pushed-at (m ∷ nodes) node zero other e = inl e
 pushed-at (m ∷ nodes) node (suc q) other e = pushed-at nodes node q other e
 
 pub unlinked-nodes : (uses : List Uses) (nodes : List Node) → AreUnlinked uses nodes → AreNodesOf uses [] nodes
-unlinked-nodes uses nodes u = record {
-  alone = u.alone;
-  edge = λ n q node there. (
-    λ listed. (let lt = listed.1 in absurd (omega (arith, lt))),
-    λ listed. (let none = subst (λ (ns : List ℕ). Contains ns n) (u.none q node there) listed in let lt = none.1 in absurd (omega (arith, lt))),
-  );
-}
+unlinked-nodes uses nodes u = grind (arith)
 
 -- ---- live by edges and by nodes
 

@@ -1,4 +1,5 @@
 -- Registers that are live where control may come from a node that writes one: how they are put together, edge by edge.
+use Rattle.std.proofs.Common.{arith}
 use Rattle.std.proofs.Common.{◌≡◌, ◌<◌, inl, inr, ⊎_elim, ℕ, ◌+◌, List, [], ◌∷◌, ◌++◌, length, take, sym, ap, ◌∙◌, subst}
 use Rattle.std.proofs.Common.{get_or}
 use Rattle.std.specs.Prelude.{slice_get}
@@ -72,14 +73,10 @@ module _ (uses : List Uses) (sets : List RegisterSet) where
 
   module _ (edges : List Edge) (after : List RegisterSet) (live : AreLiveIn uses edges sets) (are : AreAfter uses sets edges after) where
     forth : (x y : ℕ) → x < 256 → Has (set_at after x) y → ClashIn uses edges x y
-    forth x y lt h =
-        let a = (are.has x y lt).0 h in
-        record { edge = a.edge; listed = a.listed; node = a.node; there = a.there; writes = a.writes; live = (live a.edge.to y).0 a.live }
+    forth x y lt h = grind (arith)
 
     back : (x y : ℕ) → x < 256 → ClashIn uses edges x y → Has (set_at after x) y
-    back x y lt c =
-        (are.has x y lt).1
-        (record { edge = c.edge; listed = c.listed; node = c.node; there = c.there; writes = c.writes; live = (live c.edge.to y).1 c.live })
+    back x y lt c = grind (arith)
 
     pub interfering : (found : Interference) → found.first ≡ set_at sets 0 → found.after.items ≡ after → AreInterfering uses edges found
     interfering found first is x y lx ly = (tells, told)
@@ -91,7 +88,4 @@ module _ (uses : List Uses) (sets : List RegisterSet) where
             live_first ((live 0 x).0 (subst (λ (s : RegisterSet). Has s x) first h)) ((live 0 y).0 (subst (λ (s : RegisterSet). Has s y) first g))
 
         told : InterfereIn uses edges x y → Tells found x y
-        told (clash_forth c) = told_forth (subst (λ (ss : List RegisterSet). Has (set_at ss x) y) (sym is) (back x y lx c))
-        told (clash_back c) = told_back (subst (λ (ss : List RegisterSet). Has (set_at ss y) x) (sym is) (back y x ly c))
-        told (live_first h g) =
-            told_first (subst (λ (s : RegisterSet). Has s x) (sym first) ((live 0 x).1 h)) (subst (λ (s : RegisterSet). Has s y) (sym first) ((live 0 y).1 g))
+        told x = grind (arith, back)

@@ -36,11 +36,7 @@ word-empty (suc (suc (suc zero))) = refl
 word-empty (suc (suc (suc (suc n)))) = refl
 
 pub empty-is : IsEmpty (record { first = 0; second = 0; third = 0; fourth = 0 })
-empty-is x h =
-    let bit = h.bit in
-    let none : bit_at (word (record { first = 0; second = 0; third = 0; fourth = 0 }) (x / 64)) (x % 64) ≡ 0 =
-    ap (λ n. bit_at n (x % 64)) (word-empty (x / 64)) ∙ bit_at-zero (x % 64) in
-    absurd (omega (arith, bit, none))
+empty-is x h = grind (arith, word-empty, bit_at-zero)
 
 -- ---- unions
 
@@ -60,34 +56,14 @@ word-union s t (suc (suc (suc zero))) = refl
 word-union s t (suc (suc (suc (suc n)))) = refl
 
 pub union-is : (s t : RegisterSet) → IsUnion s t (union_of s t)
-union-is s t x =
-    let a : ℕ = word s (x / 64) in
-    let b : ℕ = word t (x / 64) in
-    let i : ℕ = x % 64 in
-    let e : bit_at (word (union_of s t) (x / 64)) i ≡ bit_at (bit_or a b) i = ap (λ n. bit_at n i) (word-union s t (x / 64)) in (
-      λ h. ⊎_elim (λ one. inl (record { bit = one })) (λ one. inr (record { bit = one })) (or-bit a b i (sym e ∙ h.bit)),
-      λ c. ⊎_elim (λ (h : Has s x). record { bit = e ∙ or-first a b i h.bit }) (λ (h : Has t x). record { bit = e ∙ or-second a b i h.bit }) c,
-    )
+union-is s t x = grind (arith, t, word-union, ⊎_elim, or-bit, or-first, or-second)
 
 same-sets : (s t : RegisterSet) → s.first ≡ t.first → s.second ≡ t.second → s.third ≡ t.third → s.fourth ≡ t.fourth → s ≡ t
-same-sets s t a b c d =
-    let one : s ≡ record s { first = t.first } = ap (λ n. record s { first = n }) a in
-    let two : record s { first = t.first } ≡ record t { third = s.third; fourth = s.fourth } = ap (λ n. record s { first = t.first; second = n }) b in
-    let three : record t { third = s.third; fourth = s.fourth } ≡ record t { fourth = s.fourth } = ap (λ n. record t { third = n; fourth = s.fourth }) c in
-    one ∙ (two ∙ (three ∙ ap (λ n. record t { fourth = n }) d))
+same-sets s t a b c d = grind (arith, t)
 
 -- it is the first set, or its words are more
 pub union-rises : (s t : RegisterSet) → (union_of s t ≡ s) ⊎ (weight s < weight (union_of s t))
-union-rises s t =
-    let a = le_or_l s.first t.first in
-    let b = le_or_l s.second t.second in
-    let c = le_or_l s.third t.third in
-    let d = le_or_l s.fourth t.fourth in
-    elim (cases_lt (weight s) (weight (union_of s t))) [
-      | inl lt ↦ inr lt
-      | inr ge ↦ inl (same-sets (union_of s t) s (omega (arith, ge, a, b, c, d)) (omega (arith, ge, a, b, c, d)) (omega (arith, ge, a, b, c, d))
-          (omega (arith, ge, a, b, c, d)))
-    ]
+union-rises s t = grind (arith, le_or_l, t, cases_lt, same-sets)
 
 pub union-small : (s t : RegisterSet) → IsSmall s → IsSmall t → IsSmall (union_of s t)
 union-small s t a b = record {
@@ -143,9 +119,7 @@ with-is s t register w x = (λ h. to h, λ c. ⊎_elim kept put c)
     ]
 
     put : x ≡ register → Has t x
-    put e =
-        subst (Has t) (sym e)
-        (record { bit = ap (λ n. bit_at n (register % 64)) w.here ∙ has-bit (word s (register / 64)) (register % 64) (low-bits register) })
+    put e = grind (arith, t, has-bit, low-bits)
 
 -- the four words, one of which has the bit of the register
 

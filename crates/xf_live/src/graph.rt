@@ -1,4 +1,4 @@
-ghost use Rattle.std.specs.Prelude.{◌≡◌, ◌≤◌, ◌^◌, length, IfOk, OnOk};
+ghost use Rattle.std.specs.Prelude.{◌≤◌, ◌^◌, length, IfOk, OnOk};
 ghost use Rattle.xf_live.specs.Flow.{AreLiveIn, AreNodesOf, AreUnlinked, GetsEdge};
 
 use crate::live::{Node, live_sets};

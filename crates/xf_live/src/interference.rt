@@ -1,5 +1,4 @@
 ghost use Rattle.std.specs.Prelude.{◌≡◌, ◌≤◌, ◌^◌, length, IfOk, MatchBool};
-ghost use Rattle.xf_live.specs.Live.{set_at};
 ghost use Rattle.xf_live.specs.Interference.{AreAfter, AreInterfering, PutsTo, Tells, WritesAt};
 
 use crate::graph::{Edge, Uses, live_before};

@@ -1,4 +1,4 @@
-ghost use Rattle.std.specs.Prelude.{◌≡◌, ◌<◌, ◌≤◌, ◌^◌, [], ◌∷◌, ◌++◌, length, slice_get, IfOk, IfSome, IfNone, IsSomeAnd, OnOk};
+ghost use Rattle.std.specs.Prelude.{◌≡◌, ◌<◌, ◌≤◌, ◌^◌, length, slice_get, IfOk, IfSome, IfNone, IsSomeAnd, OnOk};
 ghost use Rattle.xf_live.specs.Live.{AreLive, set_at};
 ghost use Rattle.xf_live.specs.Liveness.{Begins, Raises, Carries, CarriesAll, TakesUp, IsDone};
 
