@@ -1,10 +1,10 @@
 -- Steps along the targets of a branch.
 use Rattle.std.proofs.Common.{◌≡◌, ℕ, zero, suc, Bool, true, false, cond, None, Some, position, slice_get, Contains, refl, sym, ◌+◌}
-use Rattle.std.proofs.Common.{◌≤◌, List, [], ◌∷◌, ◌++◌, length, ◌∙◌, ap, arith, All}
+use Rattle.std.proofs.Common.{List, [], ◌∷◌, ◌++◌, length, ap, arith, All}
 use Rattle.std.specs.List.{position_or_len}
 use Rattle.std.specs.Ordering.{int_eq}
 use Rattle.std.proofs.lemmas.Bool.Decides.{nat_tests}
-use Rattle.std.specs.Prelude.{ℤ, nat_lt, pos, negsuc, ◌≤ℤ◌, ◌<ℤ◌, get_or}
+use Rattle.std.specs.Prelude.{ℤ, nat_lt, pos, ◌≤ℤ◌, ◌<ℤ◌, get_or}
 use Rattle.std.proofs.lemmas.Int.{ints}
 use Rattle.std.proofs.lemmas.List.Elements.{All-contains}
 use Rattle.std.proofs.lemmas.Option.{slice_get-get_or, slice_get_past}
@@ -17,12 +17,10 @@ use Rattle.law_laid.proofs.Steps.{at-contains}
 use Rattle.xf_emission.proofs.Ways.{way-found, way-from}
 
 pub near-low : (t : ℤ) → IsNearBy t → pos 0 ≤ℤ t
-near-low (pos q) h = omega (arith, ints)
-near-low (negsuc n) h = absurd h
+near-low x h = grind (arith, ints)
 
 pub near-high : (t : ℤ) → IsNearBy t → t <ℤ pos 65536
-near-high (pos q) h = omega (arith, ints)
-near-high (negsuc n) h = absurd h
+near-high x h = grind (arith, ints)
 
 -- what holds of each target holds of each way
 pub ways-all : (P : ℤ → Type 0) (ts : List ℤ) → All P ts → All P (each_once ts)
@@ -65,17 +63,10 @@ module _ (s : Source) (p : ℕ) (op : Operation) (n : ℕ) where
   label-from : (from k : ℕ) (ways : List ℤ) (t : ℤ) → slice_get ways k ≡ Some t → slice_get (way_labels s p op n from ways) k
       ≡ Some (lead s p op n (from + k) t)
   label-from from k [] t e = absurd (cc)
-  label-from from zero (u ∷ us) t e =
-      let same : u ≡ t = cc in
-      let here : from ≡ from + 0 = omega arith in
-      ap (λ j. Some (lead s p op n j u)) here ∙ ap (λ x. Some (lead s p op n (from + 0) x)) same
-  label-from from (suc k) (u ∷ us) t e =
-      let next : suc from + k ≡ from + suc k = omega arith in
-      label-from (suc from) k us t e ∙ ap (λ j. Some (lead s p op n j t)) next
+  label-from from zero (u ∷ us) t e = grind (arith)
+  label-from from (suc k) (u ∷ us) t e = grind (arith, suc, label-from (suc from) k us t e)
 
   -- the label of the way that a target goes
   pub target-label : (all : List ℤ) (t : ℤ) → Contains all t → slice_get (way_labels s p op n 0 (each_once all)) (way_of all t)
       ≡ Some (lead s p op n (way_of all t) t)
-  target-label all t c =
-      let first : 0 + way_of all t ≡ way_of all t = omega arith in
-      label-from 0 (way_of all t) (each_once all) t (way-found all c.0 t (at-contains all t c)) ∙ ap (λ j. Some (lead s p op n j t)) first
+  target-label all t c = grind (arith, label-from 0 (way_of all t) (each_once all) t (way-found all c.0 t (at-contains all t c)))

@@ -20,13 +20,7 @@ module _ (w : Linked) (m : Method) (frames : ℕ → Option Frame) (homes : List
 
   pub has-numbers : AreHomes w m frames homes → (symbols : Symbols) → AreSymbolsOf w m frames homes symbols → HasNumbers m.rec homes symbols
   unfolding rewritten
-  has-numbers are symbols is =
-      let fit = arguments-fit are in
-      record {
-        nargs = ap (λ (s : Symbols). s.nargs) is.are;
-        stack = ap (λ (s : Symbols). s.max_stack) is.are;
-        registers = omega (arith, ap (λ (s : Symbols). s.nargs) is.are, ap (λ (s : Symbols). s.max_locals) is.are, fit);
-      }
+  has-numbers are symbols is = grind (arith, arguments-fit)
 
   pub has-size : (symbols : Symbols) → AreSymbolsOf w m frames homes symbols → IsPlainSize w m frames homes (plain_size symbols.items)
   unfolding rewritten

@@ -1,20 +1,18 @@
 -- Where control comes next, place by place from the end of the code.
-use Rattle.std.proofs.Common.{◌≡◌, ℕ, zero, suc, ◌+◌, ◌-◌, ◌<◌, ◌≤◌, ◌⊎◌, inl, inr, true, false, List, length, set, Some, slice_get}
+use Rattle.std.proofs.Common.{◌≡◌, ℕ, zero, suc, ◌+◌, ◌<◌, ◌≤◌, ◌⊎◌, inl, inr, true, false, List, length, set, Some, slice_get}
 use Rattle.std.proofs.Common.{refl, sym, ◌∙◌, ap, subst, arith}
 use Rattle.std.specs.Prelude.{is_some}
 use Rattle.std.proofs.lemmas.List.{length-set}
 use Rattle.jc_base.proofs.Lists.{slice_get-set_here, slice_get-set_other}
 use Rattle.xf_homes.specs.Source.{Source}
-use Rattle.xf_homes.specs.Plan.{first_of, first_reached}
+use Rattle.xf_homes.specs.Plan.{first_reached}
 use Rattle.xf_homes.proofs.PlanSteps.{first-here, first-later}
 use Rattle.xf_code.specs.NextReached.{AreNextFrom}
 
 -- from the end of the code on there is none
 pub end-reached : (s : Source) (p : ℕ) → length s.method.code ≤ p → first_reached s p ≡ p
 unfolding first_reached
-end-reached s p past =
-    let none : length s.method.code - p ≡ 0 = omega (arith, past) in
-    ap (first_of s.frames p) none
+end-reached s p past = grind (arith, length)
 
 pub here-reached : (s : Source) (p : ℕ) → p < length s.method.code → is_some (s.frames p) ≡ true → first_reached s p ≡ p
 unfolding first_reached

@@ -18,7 +18,6 @@ use Rattle.jc_rules.specs.Typing.{state_at}
 use Rattle.xf_homes.specs.declared.home.Home.{Home}
 use Rattle.xf_homes.specs.Answer.{IsTypingOf}
 use Rattle.xf_homes.specs.Order.{AreHomes, register_sum}
-use Rattle.xf_homes.proofs.AllHomes.{IsTyped}
 use Rattle.xf_homes.proofs.Answered.{is-typed, code-short}
 use Rattle.xf_homes.specs.Plan.{stack_of}
 use Rattle.xf_emission.specs.Emission.{rewritten}
@@ -36,9 +35,7 @@ module _ (w : Linked) (m : Method) (typing : List (Option Frame)) (control : Mar
   is-code = record { bytes = bytes; lists = listed.lists; short = code-short w m mo method; few = method.few_handlers }
 
   pub has-frames : HasFrames (record { world = w; method = m; frames = state_at typing; leaders = control.leaders; homes = homes })
-  has-frames =
-      let is : IsTyped m (state_at typing) control.leaders = is-typed w m typing typed control flow placed listed mo method in
-      record { formed = typed.least.typing.formed; reached = typed.reached; placed = is.placed }
+  has-frames = grind (arith, is-typed w m typing typed control flow placed listed mo method)
 
   shallow : m.rec.max_stack ≤ 255 → (p : ℕ) → length (stack_of (state_at typing p)) ≤ 255
   shallow room p = by (state_at typing p) refl
@@ -76,18 +73,7 @@ module _ (w : Linked) (m : Method) (typing : List (Option Frame)) (control : Mar
   pub is-planned :
       AreDerived w m typing → AreHomes w m (state_at typing) homes → register_sum homes ≤ 255
       → IsPlanned (record { world = w; method = m; frames = state_at typing; leaders = control.leaders; homes = homes })
-  is-planned derived are few =
-      record {
-        method = mo;
-        code = is-code;
-        frames = has-frames;
-        typing = typed.least.typing;
-        derived = derived;
-        registers = typed.registers;
-        leaders = flow.leaders;
-        homes = are;
-        few = few;
-      }
+  is-planned derived are few = grind (arith, is-code, has-frames)
 
   pub matches-by :
       RewrittenMatches w → AreDerived w m typing → AreHomes w m (state_at typing) homes → register_sum homes ≤ 255 → m.rec.max_stack < 255

@@ -1,4 +1,5 @@
 -- A local whose value is the same at both ends of an edge, on which no handler asks anything anew, is copied nowhere.
+use Rattle.std.proofs.Common.{arith}
 use Rattle.std.proofs.Common.{◌≡◌, ℕ, zero, suc, ◌&&◌, Bool, true, false, if◌then◌else◌, not, inl, inr, List, [], ◌∷◌, ◌++◌}
 use Rattle.std.proofs.Common.{flat_map, All, slice_get, Option, Some, None, refl, sym, ◌∙◌, ap, ap₂}
 use Rattle.std.specs.Prelude.{⊤, ◌↔◌, MatchBool}
@@ -39,8 +40,7 @@ asks_as_before s q p h e = inl e
 pub asks_by_registers : (s : Source) (q p : ℕ) (h : Handler) (same : Bool)
     → (same ≡ true) ↔ HaveSameRegisters (s.frames h.entry) (s.frames q)
     → MatchBool (not same) ⊤ (AsksNothing s q p h)
-asks_by_registers s q p h true alike = inr (same_locals (s.frames h.entry) (s.frames q) (alike.0 refl))
-asks_by_registers s q p h false alike = tt
+asks_by_registers s q p h x alike = grind (arith, same_locals)
 
 flat-nothing : {X Y : Type 0} (f : X → List Y) (xs : List X) → ((x : X) → IsAmong x xs → f x ≡ []) → flat_map f xs ≡ []
 flat-nothing f [] h = refl

@@ -5,7 +5,6 @@ ghost use Rattle.jc_rules.specs.Typing.{state_at};
 ghost use Rattle.xf_homes.specs.Answer.{IsTypingOf};
 ghost use Rattle.xf_homes.specs.Order.{AreHomes, register_sum};
 ghost use Rattle.xf_homes.specs.PlannedMethod.{source};
-ghost use Rattle.cap_bytes.specs.Bytes.{AreBytes};
 ghost use Rattle.jc_decode.specs.Symbols.{IsItem, IsRange, plain_size};
 ghost use Rattle.xf_emission.specs.Emission.{IsPlainSize, AreSymbolsOf, items, ranges, rewritten};
 ghost use Rattle.xf_code.specs.Known.{IsSubject};
