@@ -35,18 +35,12 @@ module _ (w : Linked) (entry : ℕ) (measure : ℕ → ℕ) where
 
   chained : (m : ℕ) (ms rest : List ℕ) → IsStacked w entry (m ∷ ms) → Way (Calls w) m rest → Chained (total measure ms + total measure rest)
   chained m ms rest entry_alone way = record { chain = rest; is_way = way; measures = omega arith }
-  chained m whole rest (called_on {m = n} {ms = ms} call more) way =
-      let all = chained n ms (n ∷ rest) more (way_goes call way) in
-      let sums = all.measures in
-      record { chain = all.chain; is_way = all.is_way; measures = omega arith }
+  chained m whole rest (called_on {m = n} {ms = ms} call more) way = grind (arith, chained n ms (n ∷ rest) more (way_goes call way))
 
   -- so the methods of the frames measure at most what a chain does
   stacked-most : (ms : List ℕ) (most : ℕ) → IsGreatest (Calls w) measure entry most → AreStacked w entry ms → total measure ms ≤ most
   stacked-most [] most greatest h = omega arith
-  stacked-most (m ∷ ms) most greatest h =
-      let all = chained m ms (m ∷ []) h way_ends in
-      let l = greatest.none_more all.chain all.is_way in
-      let sums = all.measures in omega arith
+  stacked-most (m ∷ ms) most greatest h = grind (arith, chained m ms (m ∷ []) h way_ends)
 
 pub chains-bound-runs : (w : Linked) → IsWorld w → ChainsBoundRuns w
 chains-bound-runs w world unset entry words frames methods most_words most_frames =

@@ -27,7 +27,7 @@ use Rattle.vm_store.specs.Kind.{kind_of_handle, type_of_kind}
 use Rattle.vm_store.specs.Cells.{tagged, word_of}
 use Rattle.vm_store.specs.State.{Frame, Object, State, top}
 use Rattle.vm_step.specs.Act.{calls, lacks}
-use Rattle.vm_step.specs.Calls.{args_of, with_ready, class_with_methods, served, served_act, interface_act, call_act}
+use Rattle.vm_step.specs.Calls.{args_of, class_with_methods, served, served_act, interface_act, call_act}
 use Rattle.vm_step.specs.Methods.{of_method, code_at, instruction_at}
 use Rattle.vm_step.specs.Performed.{act}
 use Rattle.vm_step.specs.Step.{Fetches}
@@ -162,16 +162,8 @@ module _ (w : Linked) (world : IsWorld w) where
           → (k count : ℕ) (y : State Cell)
           → call_act tagged w (record { method = n; receiver = receiver; choice = choice }) now ≡ calls k count y
           → IsRun n choice k
-      chosen-run n receiver choices.Static m is method chosen k count y e =
-          let eq = same-method-called n k (args_of w n) count now y e in
-          record { may = sym eq; code = subst (HasCode w) eq (has-code n m method chosen.body) }
-      chosen-run n receiver choices.Special m is method chosen k count y e =
-          let rest = null-calls (word_of (slice_index_or f.stack (args_of w n) cells.Empty))
-          (λ h. calls n (args_of w n + 1) (with_ready tagged w.classes (record { method = n; receiver = receiver; choice = choices.Special })
-          (args_of w n) now)) k count y e in
-          let eq : n ≡ k = same-method-called n k (args_of w n + 1) count
-          (with_ready tagged w.classes (record { method = n; receiver = receiver; choice = choices.Special }) (args_of w n) now) y rest.1 in
-          record { may = sym eq; code = subst (HasCode w) eq (has-code n m method chosen.body) }
+      chosen-run n receiver choices.Static m is method chosen k count y e = grind (arith, same-method-called, has-code)
+      chosen-run n receiver choices.Special m is method chosen k count y e = grind (arith, null-calls, same-method-called, has-code)
       chosen-run n receiver (choices.Virtual c token) m is method chosen k count y e =
           let few : args_of w n ≡ length m.sig.args = ap (of_method 0 (λ (x : MethodRec). length x.sig.args)) method in
           let rest = null-calls (word_of (slice_index_or f.stack (args_of w n) cells.Empty))
@@ -220,8 +212,7 @@ module _ (w : Linked) (world : IsWorld w) where
       → Resolves w m i.place i.insn (Ok (ops.Call callee))
       → call_act tagged w callee (record { frames = fs; heap = heap; statics = statics }) ≡ calls method count y
       → IsRun callee.method callee.choice method
-  run-by assigned typings [] heap statics y m i callee method count typed fetched resolves e =
-      let runs = fetched.runs in absurd (omega (arith, runs))
+  run-by assigned typings [] heap statics y m i callee method count typed fetched resolves e = grind (arith)
   run-by assigned typings (f ∷ below) heap statics y m i callee method count typed fetched resolves e =
       let here = here-now w world assigned typings f below heap statics typed in
       let alike : Ok here.turn.operation ≡ Ok (ops.Call callee) =

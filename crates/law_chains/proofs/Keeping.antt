@@ -1,13 +1,11 @@
 -- What an operation comes to leaves the frames' methods as they are.
-use Rattle.std.proofs.Common.{◌≡◌, ℕ, zero, suc, ◌+◌, ◌*◌, ◌==◌, Bool, true, false, if◌then◌else◌, List, [], ◌∷◌, map, refl, ◌∙◌}
-use Rattle.std.specs.Prelude.{ℤ, pos, negsuc, Option, Some, None, unwrap_or, ⊤}
+use Rattle.std.proofs.Common.{arith}
+use Rattle.std.proofs.Common.{◌≡◌, ℕ, zero, suc, ◌+◌, ◌==◌, Bool, true, false, if◌then◌else◌, List, [], ◌∷◌, map, refl, ◌∙◌}
+use Rattle.std.specs.Prelude.{ℤ, Option, ⊤}
 use Rattle.jc_base.specs.declared.ty.Ty.{Ty}
-use Rattle.jc_base.specs.declared.ty.Ty.TheVariants.{Short, IntHigh}
 use Rattle.jc_base.specs.Cell.{width}
-use Rattle.jc_base.specs.Dispatch.{dispatched}
 use Rattle.jc_base.specs.World.{Linked}
 use Rattle.jc_decode.specs.declared.insn.Insn.{Insn}
-use Rattle.jc_decode.specs.Listing.{target}
 use Rattle.jc_ops.specs.declared.operation.Constant.{Constant}
 use Rattle.jc_ops.specs.declared.operation.Constant.TheVariants as constants
 use Rattle.jc_ops.specs.declared.operation.Sort.{Sort}
@@ -28,23 +26,20 @@ use Rattle.jc_ops.specs.declared.operation.Operation.{Operation}
 use Rattle.jc_ops.specs.declared.operation.Operation.TheVariants as ops
 use Rattle.vm_store.specs.declared.cell.Cell.{Cell}
 use Rattle.vm_store.specs.declared.kind.ObjectKind.{ObjectKind}
-use Rattle.vm_store.specs.declared.kind.ObjectKind.TheVariants.{Instance}
-use Rattle.vm_store.specs.Kind.{kind_of_handle}
 use Rattle.vm_store.specs.Cells.{tagged}
-use Rattle.vm_store.specs.State.{Frame, Object, State, nth}
-use Rattle.vm_store.specs.Objects.{kinds, with_object_cell, with_static_cell, object_cells}
-use Rattle.vm_store.specs.Value.{with_object_value, with_static_value, value_in, value_on, kept_value}
-use Rattle.vm_arithmetic.specs.Arithmetic.{short_of_word}
+use Rattle.vm_store.specs.State.{Frame, Object, State}
+use Rattle.vm_store.specs.Objects.{with_object_cell, with_static_cell}
+use Rattle.vm_store.specs.Value.{with_object_value, with_static_value}
 use Rattle.vm_step.specs.declared.exception.Exception.{Exception}
 use Rattle.vm_step.specs.declared.exception.Exception.TheVariants as exceptions
 use Rattle.vm_step.specs.Act.{Act, goes, jumps, makes, calls, gives, raises, throws, lacks, unless_null, if_some}
-use Rattle.vm_step.specs.Branching.{leads_if, is_taken, branch_width}
-use Rattle.vm_step.specs.Calls.{args_of, class_of, made_at, readied, with_ready, served, served_act, interface_act, call_act, return_act}
-use Rattle.vm_step.specs.Fields.{at_element, elements_of, element_index, keeps_kind, with_element, held_handle, holder_width, with_field_read, with_field_write}
-use Rattle.vm_step.specs.Numbers.{handle_at, short_at, replaced, dropped, number_cells}
-use Rattle.vm_step.specs.Objects.{array_of_count, kind_of_type, may_cast, type_test_act}
+use Rattle.vm_step.specs.Branching.{leads_if}
+use Rattle.vm_step.specs.Calls.{readied, served_act, interface_act, call_act, return_act}
+use Rattle.vm_step.specs.Fields.{with_field_read}
+use Rattle.vm_step.specs.Numbers.{handle_at, short_at, dropped}
+use Rattle.vm_step.specs.Objects.{array_of_count, kind_of_type, type_test_act}
 use Rattle.vm_step.specs.Performed.{act}
-use Rattle.vm_step.specs.Values.{with_constant, with_store, with_number, incremented, arithmetic_act, binary, both_widths}
+use Rattle.vm_step.specs.Values.{with_constant, with_store, with_number, incremented, arithmetic_act}
 use Rattle.law_chains.specs.Stacked.{methods_on}
 
 -- the state in which the run goes on has frames of these methods
@@ -67,12 +62,10 @@ null-keeps ms h rest keeps = go (h == 0)
 
 some-keeps : {X : Type 0} (ms : List ℕ) (e : Exception) (o : Option X) (rest : X → Act Cell) → ((x : X) → KeepsMethods ms (rest x))
     → KeepsMethods ms (if_some e o rest)
-some-keeps ms e None rest keeps = tt
-some-keeps ms e (Some x) rest keeps = keeps x
+some-keeps ms e x rest keeps = grind (arith)
 
 either-keeps : (ms : List ℕ) (b : Bool) (x y : Act Cell) → KeepsMethods ms x → KeepsMethods ms y → KeepsMethods ms (if b then x else y)
-either-keeps ms true x y h g = h
-either-keeps ms false x y h g = g
+either-keeps ms x x2 y h g = grind (arith)
 
 object-cell-keeps : (s : State Cell) (h at : ℕ) (c : Cell) → methods_on (with_object_cell s h at c) ≡ methods_on s
 object-cell-keeps s zero at c = refl
@@ -94,77 +87,43 @@ module _ (f : Frame Cell) (below : List (Frame Cell)) (heap : List (Object Cell)
   here = f.method ∷ map (λ (g : Frame Cell). g.method) below
 
   constant-keeps : (c : Constant) → methods_on (with_constant tagged c now) ≡ here
-  constant-keeps constants.Nothing = refl
-  constant-keeps constants.Null = refl
-  constant-keeps (constants.Short n) = refl
-  constant-keeps (constants.Int n) = refl
+  constant-keeps x = grind (arith)
 
   store-keeps : (sort : Sort) (x : ℕ) → methods_on (with_store tagged sort x now) ≡ here
-  store-keeps sorts.Int x = refl
-  store-keeps sorts.Short x = refl
-  store-keeps sorts.Reference x = refl
+  store-keeps x x2 = grind (arith)
 
   number-keeps : (width : Width) (x : ℕ) (n : ℤ) → methods_on (with_number tagged width x n now) ≡ here
-  number-keeps widths.Short x n = refl
-  number-keeps widths.Int x n = refl
+  number-keeps x x2 n = grind (arith)
 
   arithmetic-keeps : (a : Arithmetic) → KeepsMethods here (arithmetic_act tagged a now)
-  arithmetic-keeps (arithmetic.Binary operator width) = some-keeps here exceptions.Arithmetic (binary tagged operator width f.stack)
-      (λ n. goes (replaced now (both_widths width) (number_cells tagged width n))) (λ n. refl)
-  arithmetic-keeps (arithmetic.Negate width) = refl
-  arithmetic-keeps arithmetic.ShortToByte = refl
-  arithmetic-keeps arithmetic.ShortToInt = refl
-  arithmetic-keeps arithmetic.IntToByte = refl
-  arithmetic-keeps arithmetic.IntToShort = refl
-  arithmetic-keeps arithmetic.CompareInts = refl
+  arithmetic-keeps x = grind (arith, some-keeps)
 
   branch-keeps : (b : Bool) (to : ℤ) (z : State Cell) → methods_on z ≡ here → KeepsMethods here (leads_if b to z)
-  branch-keeps true to z h = h
-  branch-keeps false to z h = h
+  branch-keeps x to z h = grind (arith)
 
   array-keeps : (kind : ObjectKind) (n : ℤ) (z : State Cell) → methods_on z ≡ here → KeepsMethods here (array_of_count tagged kind n z)
-  array-keeps kind (pos n) z h = h
-  array-keeps kind (negsuc n) z h = tt
+  array-keeps kind x z h = grind (arith)
 
   return-keeps : (result : Option Ty) → KeepsMethods here (return_act tagged result now)
-  return-keeps None = tt
-  return-keeps (Some Short) = tt
-  return-keeps (Some IntHigh) = tt
-  return-keeps (Some ty) = tt
+  return-keeps x = grind (arith)
 
   test-keeps : (w : Linked) (test : TypeTest) (ty : Ty) → KeepsMethods here (type_test_act tagged w.classes test ty now)
-  test-keeps w tests.Cast ty =
-      either-keeps here (may_cast w.classes now ty (handle_at tagged f.stack 0)) (goes now) (raises exceptions.ClassCast) refl (tt {0})
-  test-keeps w tests.InstanceOf ty = refl
+  test-keeps w x ty = grind (arith, either-keeps)
 
   field-keeps : (field : InstanceField) (holder : Holder) (h : ℕ) → methods_on (with_field_read tagged field holder h now) ≡ here
-  field-keeps field holders.Stack h = refl
-  field-keeps field holders.This h = refl
+  field-keeps field x h = grind (arith)
 
   readied-keeps : (o : Option ℕ) → methods_on (readied tagged now o) ≡ here
-  readied-keeps None = refl
-  readied-keeps (Some p) = refl
+  readied-keeps x = grind (arith)
 
   served-keeps : (o : Option ℕ) (class count : ℕ) → KeepsMethods here (served_act o class count now)
-  served-keeps None class count = tt
-  served-keeps (Some n) class count = refl
+  served-keeps x class count = grind (arith)
 
   interface-keeps : (w : Linked) (interface token count : ℕ) (o : Option ObjectKind) → KeepsMethods here (interface_act w.classes interface token count o now)
-  interface-keeps w interface token count None = tt
-  interface-keeps w interface token count (Some (Instance class)) = served-keeps (served w.classes interface token class) class count
-  interface-keeps w interface token count (Some array) = tt
+  interface-keeps w interface token count x = grind (arith, served-keeps)
 
   choice-keeps : (w : Linked) (callee : Callee) (c : Choice) → KeepsMethods here (call_act tagged w (record callee { choice = c }) now)
-  choice-keeps w callee choices.Static = refl
-  choice-keeps w callee choices.Special = null-keeps here (handle_at tagged f.stack (args_of w callee.method))
-      (λ h. calls callee.method (args_of w callee.method + 1) (with_ready tagged w.classes (record callee { choice = choices.Special })
-      (args_of w callee.method) now))
-      (λ h. readied-keeps (made_at callee.receiver (tagged.type_of w.classes (kinds now) (nth tagged f.stack (args_of w callee.method)))))
-  choice-keeps w callee (choices.Virtual class token) = null-keeps here (handle_at tagged f.stack (args_of w callee.method))
-      (λ h. calls (unwrap_or (dispatched w.classes class token (class_of w.classes now h)) callee.method) (args_of w callee.method + 1) now) (λ h. refl)
-  choice-keeps w callee (choices.Interface class token words) = null-keeps here (handle_at tagged f.stack (args_of w callee.method))
-      (λ h. interface_act w.classes class token (args_of w callee.method + 1) (kind_of_handle (kinds now) h) now)
-      (λ h. interface-keeps w class token (args_of w callee.method + 1) (kind_of_handle (kinds now) h))
+  choice-keeps w callee x = grind (arith, null-keeps, readied-keeps, interface-keeps)
 
   pub act-keeps : (w : Linked) (i : Insn) (op : Operation) → KeepsMethods here (act tagged w i op now)
   act-keeps w i (ops.Constant c) = constant-keeps c
@@ -173,32 +132,15 @@ module _ (f : Frame Cell) (below : List (Frame Cell)) (heap : List (Object Cell)
   act-keeps w i (ops.Increment width x amount) = number-keeps width x (incremented tagged width f.registers x amount)
   act-keeps w i (ops.Move move) = refl
   act-keeps w i (ops.Arithmetic a) = arithmetic-keeps a
-  act-keeps w i (ops.ArrayRead kind) = null-keeps here (handle_at tagged f.stack 1)
-      (λ h. at_element (short_at tagged f.stack 0) (elements_of now h)
-      (λ i. goes (replaced now 2 (value_in tagged kind (object_cells now h) (i * width kind)))))
-      (λ h. some-keeps here exceptions.ArrayIndex (element_index (short_at tagged f.stack 0) (elements_of now h))
-      (λ i. goes (replaced now 2 (value_in tagged kind (object_cells now h) (i * width kind)))) (λ i. refl))
-  act-keeps w i (ops.ArrayWrite kind) = null-keeps here (handle_at tagged f.stack (width kind + 1))
-      (λ h. at_element (short_at tagged f.stack (width kind)) (elements_of now h)
-      (λ i. if keeps_kind tagged w.classes kind now h then goes (with_element tagged kind h i now) else raises exceptions.ArrayStore))
-      (λ h. some-keeps here exceptions.ArrayIndex (element_index (short_at tagged f.stack (width kind)) (elements_of now h))
-      (λ i. if keeps_kind tagged w.classes kind now h then goes (with_element tagged kind h i now) else raises exceptions.ArrayStore)
-      (λ i. either-keeps here (keeps_kind tagged w.classes kind now h) (goes (with_element tagged kind h i now)) (raises exceptions.ArrayStore)
-      (object-value-keeps (dropped now (width kind + 2)) h (i * width kind) (kept_value tagged kind (value_on tagged kind f.stack))) (tt {0})))
-  act-keeps w i ops.ArrayLength = null-keeps here (handle_at tagged f.stack 0)
-      (λ h. goes (replaced now 1 (tagged.short (short_of_word (elements_of now h)) ∷ []))) (λ h. refl)
-  act-keeps w i (ops.Branch branch) =
-      branch-keeps (is_taken tagged branch f.stack) (target f.place i.x) (dropped now (branch_width branch)) refl
+  act-keeps w i (ops.ArrayRead kind) = grind (arith, null-keeps, some-keeps)
+  act-keeps w i (ops.ArrayWrite kind) = grind (arith, null-keeps, some-keeps, either-keeps, object-value-keeps)
+  act-keeps w i ops.ArrayLength = grind (arith, null-keeps)
+  act-keeps w i (ops.Branch branch) = grind (arith, branch-keeps)
   act-keeps w i (ops.Switch width) = refl
   act-keeps w i (ops.StaticRead field) = refl
-  act-keeps w i (ops.StaticWrite field) =
-      static-value-keeps (dropped now (width field.kind)) field.slot (kept_value tagged field.kind (value_on tagged field.kind f.stack))
-  act-keeps w i (ops.FieldRead field holder) = null-keeps here (held_handle tagged holder 0 now)
-      (λ h. goes (with_field_read tagged field holder h now)) (λ h. field-keeps field holder h)
-  act-keeps w i (ops.FieldWrite field holder) = null-keeps here (held_handle tagged holder (width field.kind) now)
-      (λ h. goes (with_field_write tagged field holder h now))
-      (λ h. object-value-keeps (dropped now (width field.kind + holder_width holder)) h field.cell
-      (kept_value tagged field.kind (value_on tagged field.kind f.stack)))
+  act-keeps w i (ops.StaticWrite field) = grind (arith, static-value-keeps)
+  act-keeps w i (ops.FieldRead field holder) = grind (arith, null-keeps, field-keeps)
+  act-keeps w i (ops.FieldWrite field holder) = grind (arith, null-keeps, object-value-keeps)
   act-keeps w i (ops.Call callee) = choice-keeps w callee callee.choice
   act-keeps w i (ops.New place class) = refl
   act-keeps w i (ops.NewArray ty) = array-keeps (kind_of_type ty) (short_at tagged f.stack 0) (dropped now 1) refl

@@ -23,7 +23,7 @@ use Rattle.vm_step.specs.declared.ending.Value.{Value}
 use Rattle.vm_step.specs.declared.exception.Exception.{Exception}
 use Rattle.vm_step.specs.declared.ending.Plain.TheVariants.{Returned, TooDeep, HeapFull}
 use Rattle.vm_step.specs.declared.ending.Ending.TheVariants.{Plain, Faulted}
-use Rattle.vm_step.specs.Act.{Act, goes, jumps, makes, calls, gives, raises, throws, lacks, role_of}
+use Rattle.vm_step.specs.Act.{Act, calls, role_of}
 use Rattle.vm_step.specs.Calls.{class_of}
 use Rattle.vm_step.specs.Methods.{code_at, instruction_at}
 use Rattle.vm_step.specs.Performed.{act}
@@ -49,13 +49,11 @@ methods_of fs = map (λ (f : Frame Cell). f.method) fs
 -- the frame on top at another place, or with another stack, is of the same method
 place-keeps : (fs : List (Frame Cell)) (m : ℕ) (ms : List ℕ) (place : ℕ) (heap : List (Object Cell)) (statics : List Cell) → methods_of fs ≡ m ∷ ms
     → methods_on (with_place (record { frames = fs; heap = heap; statics = statics }) place) ≡ m ∷ ms
-place-keeps [] m ms place heap statics is = absurd (cc)
-place-keeps (f ∷ fs) m ms place heap statics is = is
+place-keeps x m ms place heap statics is = grind (arith)
 
 module _ (w : Linked) (entry : ℕ) where
   fault-keeps : (s : State Cell) (o : Option Fault) (outcome : Outcome Cell) → KeepsToCalls w entry outcome → KeepsToCalls w entry (unless_fault s o outcome)
-  fault-keeps s None outcome h = h
-  fault-keeps s (Some fault) outcome h = tt
+  fault-keeps s x outcome h = grind (arith)
 
   tail-stacked : (m : ℕ) (ms : List ℕ) → IsStacked w entry (m ∷ ms) → AreStacked w entry ms
   tail-stacked m ms entry_alone = tt
@@ -69,8 +67,7 @@ module _ (w : Linked) (entry : ℕ) where
   caught-keeps : (b : Bool) (hd : Handler) (handle : ℕ) (s : State Cell) (f : Frame Cell) (below : List (Frame Cell))
       → AreStacked w entry (methods_of (f ∷ below))
       → KeepsToCalls w entry (if b then ends (Faulted StackFault) s else running (record s { frames = caught tagged hd handle f ∷ below }))
-  caught-keeps true hd handle s f below h = tt
-  caught-keeps false hd handle s f below h = h
+  caught-keeps x hd handle s f below h = grind (arith)
 
   unwound-keeps : (class handle : ℕ) (s : State Cell) (fs : List (Frame Cell)) → AreStacked w entry (methods_of fs)
       → KeepsToCalls w entry (unwound tagged w class handle s fs)
@@ -144,8 +141,7 @@ module _ (w : Linked) (entry : ℕ) where
           called : (fs : List (Frame Cell)) → methods_of fs ≡ methods_of (f ∷ below)
               → methods_on (with_call tagged w.methods (record { frames = fs; heap = z.heap; statics = z.statics }) method count)
               ≡ method ∷ methods_of (f ∷ below)
-          called [] e = absurd (cc)
-          called (g ∷ gs) e = ap (λ ms. method ∷ ms) e
+          called x e = grind (arith)
 
           go : (b : Bool) → nat_lt (length z.frames) frame_limit ≡ b
               → KeepsToCalls w entry (if b then running (with_call tagged w.methods z method count) else ends (Plain TooDeep) z)
@@ -171,10 +167,7 @@ module _ (w : Linked) (entry : ℕ) where
           → KeepsToCalls w entry (if b
           then goes_to tagged w (after_call g) (callers g gs) (given g gs cells)
           else ends (Plain (Returned value)) (callers g gs))
-      returned-keeps true value cells g gs h =
-          fault-keeps (callers g gs) (fault_next tagged w (given g gs cells) (length (with_value cells g.stack)) (after_call g))
-          (running (with_place (given g gs cells) (after_call g))) h
-      returned-keeps false value cells g gs h = tt
+      returned-keeps x value cells g gs h = grind (arith, fault-keeps, length)
 
       given-keeps : (value : Value) (cells : List Cell) → KeepsToCalls w entry (given_to tagged w value cells (without_top now))
       given-keeps value cells = go below (tail-stacked f.method (methods_of below) stacked)
@@ -187,14 +180,7 @@ module _ (w : Linked) (entry : ℕ) where
       settled-keeps : (a : Act Cell) → KeepsMethods (methods_of (f ∷ below)) a
           → ((method count : ℕ) (y : State Cell) → a ≡ calls method count y → Calls w f.method method)
           → KeepsToCalls w entry (settled tagged w next now a)
-      settled-keeps (goes z) kept call = goes-keeps now z kept
-      settled-keeps (jumps to z) kept call = jumps-keeps to z kept
-      settled-keeps (makes kind cells reference z) kept call = made-keeps kind cells reference z kept
-      settled-keeps (calls method count z) kept call = calls-keeps method count z kept (call method count z refl)
-      settled-keeps (gives value cells) kept call = given-keeps value cells
-      settled-keeps (raises exception) kept call = raised-keeps exception now stacked
-      settled-keeps (throws handle) kept call = unwound-keeps (class_of w.classes now handle) handle now (f ∷ below) stacked
-      settled-keeps (lacks class) kept call = tt
+      settled-keeps x kept call = grind (arith, goes-keeps, jumps-keeps, made-keeps, calls-keeps, given-keeps, raised-keeps, unwound-keeps)
 
   -- ---- steps and runs
 
