@@ -1,5 +1,5 @@
 -- A line tells what is read: two that are the same lead to the same state.
-use Rattle.std.proofs.Common.{◌≡◌, ◌<◌, ◌≤◌, ◌+◌, ◌^◌, ℕ, Bool, true, false, Some, None, Result, Ok}
+use Rattle.std.proofs.Common.{◌≡◌, ◌<◌, ◌≤◌, ◌^◌, ℕ, Bool, true, false, Some, None, Result, Ok}
 use Rattle.std.proofs.Common.{Err, List, [], ◌∷◌, ◌++◌, length, map, get_or, refl, sym, ap, ◌∙◌, ⊎_elim, arith, rules}
 use Rattle.std.proofs.Common.{drop, length-append}
 use Rattle.std.specs.Prelude.{All, ℤ, pos, negsuc, decimal, FitsSigned, ◌==◌}
@@ -31,8 +31,8 @@ use Rattle.std.proofs.lemmas.List.FromFn.{get_or-map-range_with_len}
 use Rattle.cap_listing.specs.declared.method.ListedMethod.{ListedMethod}
 use Rattle.cap_listing.specs.Words.{ArePlain, joined}
 use Rattle.cap_listing.specs.Numbers.{numbers_of, block_of, AreShown}
-use Rattle.cap_listing.specs.Text.{IsMethod, IsHandler, head_words, bytes_words, handler_words, end_words}
-use Rattle.cap_listing.specs.Reading.{Begun, State, IsOne, IsBare, with_bytes, with_handler, block_words}
+use Rattle.cap_listing.specs.Text.{IsMethod, IsHandler, head_words, bytes_words, handler_words}
+use Rattle.cap_listing.specs.Reading.{Begun, State, IsOne, IsBare, with_bytes, block_words}
 use Rattle.cap_listing.specs.Reading.{Next, next_head, next_instruction, next_bytes, next_handler, next_end}
 use Rattle.cap_listing.proofs.Words.{IsDigits, decimal-digits, decimal-first, plain-decimal, plain-name, plain-hex, plain-map, plain-append}
 use Rattle.cap_listing.proofs.Words.{joined-same}
@@ -76,17 +76,11 @@ head-plain m h = (
     narrow : {n : ℕ} → n < 2 ^ 8 → n < 2 ^ 64
     narrow l = omega arith
 
-pub block-plain : (place : ℕ) (bytes : List ℕ) (i : Insn) → place ≤ 65535 → IsOne bytes i → ArePlain (block_words place bytes i)
-block-plain place bytes i h one = grind (arith, plain-decimal, plain-name, plain-map, numbers-shown)
-
 pub bytes-plain : (place : ℕ) (bytes : List ℕ) → place ≤ 65535 → AreBytes bytes → ArePlain (bytes_words place bytes)
 bytes-plain place bytes h are = (search rules, (plain-decimal place (omega arith), (plain-hex bytes are, search rules)))
 
 pub handler-plain : (x : LaidHandler) → IsHandler x → ArePlain (handler_words x)
 handler-plain x h = grind (arith, plain-decimal)
-
-pub end-plain : ArePlain end_words
-end-plain = (search rules, search rules)
 
 -- ---- the same words say the same
 
@@ -165,10 +159,6 @@ hex-same xs ys h k e =
 mk-handler : ℕ → ℕ → ℕ → ℕ → LaidHandler
 mk-handler s l e p = record { start = s; length = l; entry = e; pool = p }
 
-handler-same : (x y : LaidHandler) → IsHandler x → IsHandler y → handler_words x ≡ handler_words y → x ≡ y
-unfolding mk-handler
-handler-same x y h k e = grind (arith, decimal_injective)
-
 -- ---- the kinds of line are apart by the first byte
 
 abbrev lead : List (List ℕ) → ℕ
@@ -227,11 +217,7 @@ next-one st vs ws a b (next_handler x) (next_instruction y) e =
       ap lead (sym x.are ∙ e ∙ y.are),
     ))
 next-one st vs ws a b (next_handler x) (next_bytes y) e = absurd (omega (arith, ap lead (sym x.are ∙ e ∙ y.are)))
-next-one st vs ws a b (next_handler x) (next_handler y) e =
-    let same = begun-same st x.begun y.begun x.from y.from in
-    x.to ∙ ap (λ (h : LaidHandler). record { done = st.done; begun = Some (record { method = with_handler x.begun.method h; closed = true }) })
-    (handler-same x.handler y.handler x.fits y.fits (sym x.are ∙ e ∙ y.are))
-    ∙ ap (λ (g : Begun). record { done = st.done; begun = Some (record { method = with_handler g.method y.handler; closed = true }) }) same ∙ sym y.to
+next-one st vs ws a b (next_handler x) (next_handler y) e = grind (arith, begun-same, decimal_injective)
 next-one st vs ws a b (next_handler x) (next_end y) e = absurd (omega (arith, ap lead (sym x.are ∙ e ∙ y.are)))
 next-one st vs ws a b (next_end x) (next_head y) e = absurd (not-begun st _ y.from x.from)
 next-one st vs ws a b (next_end x) (next_instruction y) e = grind (arith, block-lead, few-before)
@@ -248,11 +234,11 @@ pub record IsLineOf (ws : List (List ℕ)) : Type 0 where
 
 pub next-plain : (st : State) (ws : List (List ℕ)) (a : State) → Next st ws a → IsLineOf ws
 next-plain st ws a (next_head x) = record { first = _; others = _; are = x.are; plain = head-plain x.method x.bare.is }
-next-plain st ws a (next_instruction x) = grind (arith, block-plain, few-before)
+next-plain st ws a (next_instruction x) = grind (arith, few-before, plain-decimal, plain-name, plain-map, numbers-shown)
 next-plain st ws a (next_bytes x) =
     record { first = _; others = _; are = x.are; plain = bytes-plain (length x.method.laid.code) x.bytes (few-before x.method.laid.code x.bytes x.few) x.bare }
 next-plain st ws a (next_handler x) = record { first = _; others = _; are = x.are; plain = handler-plain x.handler x.fits }
-next-plain st ws a (next_end x) = record { first = _; others = _; are = x.are; plain = end-plain }
+next-plain st ws a (next_end x) = grind (arith)
 
 -- two lines of the same bytes from one state
 pub line-one : (st : State) (vs ws : List (List ℕ)) (a b : State) → Next st vs a → Next st ws b → joined vs ≡ joined ws → a ≡ b

@@ -18,13 +18,6 @@ shown-append ys zs = ap spaced (map-append signed_decimal ys zs) ∙ spaced-appe
 
 pub ruleset steps = (append_assoc, append-nil, shown-append, text-append)
 
--- the numbers of an instruction, by its layout
-pub numbers_shown : (place : ℕ) (i : Insn) (cs : List Case) (l : Layout) → layout_of i.op ≡ Ok l
-    → shown (numbers_of place i cs)
-    ≡ shown (shown_operand l.x (shown_first (jumps i.op) place i.x))
-    ++ (shown (shown_operand l.y i.y) ++ (shown (shown_operand l.z i.z) ++ shown (shown_cases l.cases place cs)))
-numbers_shown place i cs l is = grind (arith, shown-append)
-
 pub numbers_none : (place : ℕ) (i : Insn) (cs : List Case) (e : CodeEnd) → layout_of i.op ≡ Err e → shown (numbers_of place i cs) ≡ []
 numbers_none place i cs e is = ap (λ (r : Result Layout CodeEnd). shown (numbers_by r place i cs)) is
 
@@ -36,4 +29,4 @@ pub numbers_pushed : (place : ℕ) (i : Insn) (cs : List Case) (l : Layout) → 
     → x ≡ shown_first (jumps i.op) place i.x → y ≡ i.y → z ≡ i.z
     → b ≡ a ++ shown (shown_operand l.x x) → c ≡ b ++ shown (shown_operand l.y y) → d ≡ c ++ shown (shown_operand l.z z)
     → e ≡ d ++ shown (shown_cases l.cases place cs) → e ≡ a ++ shown (numbers_of place i cs)
-numbers_pushed place i cs l is a b c d e x y z first second third one two three four = grind (arith, append_assoc, numbers_shown)
+numbers_pushed place i cs l is a b c d e x y z first second third one two three four = grind (arith, append_assoc, shown-append)

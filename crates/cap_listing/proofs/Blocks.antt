@@ -1,5 +1,5 @@
 -- The bytes of an instruction are that instruction alone, and wherever they stand.
-use Rattle.std.proofs.Common.{◌≡◌, ◌+◌, ◌-◌, ℕ, Ok, List, [], ◌++◌, length, take, drop}
+use Rattle.std.proofs.Common.{◌≡◌, ◌+◌, ℕ, Ok, List, [], ◌++◌, length, take, drop}
 use Rattle.std.proofs.Common.{sym, ap, subst, ◌∙◌, ⊎_elim, arith, append_assoc}
 use Rattle.std.proofs.lemmas.List.{append-nil, take-append-drop, length-take-le, length-take}
 use Rattle.std.proofs.lemmas.List.{length-drop, drop-drop, get_or-take, get_or_past}

@@ -1,5 +1,5 @@
 -- What is read of a line is what the line tells, if it tells anything.
-use Rattle.std.proofs.Common.{◌≡◌, ◌<◌, ◌≤◌, ◌+◌, ◌-◌, ◌^◌, ℕ, Result, Ok, Err, Option, Some, None, List, [], ◌∷◌, ◌++◌}
+use Rattle.std.proofs.Common.{◌≡◌, ◌<◌, ◌≤◌, ◌+◌, ◌-◌, ◌^◌, ℕ, Ok, Err, Option, Some, None, List, [], ◌∷◌, ◌++◌}
 use Rattle.std.proofs.Common.{Bool, true, false, length, map, sym, ap, ◌∙◌, arith, append_assoc, length-append}
 use Rattle.std.specs.Prelude.{ℤ, FitsSigned, decimal, codes, ◌==◌}
 use Rattle.std.proofs.lemmas.Bool.{eqb-true, eqb-false}
@@ -151,14 +151,11 @@ handler-read line first a second b third d fourth f start end length entry pool 
     ∙ ap (λ (k : ℕ). mk-handler h.start h.length k pool) (entries h.entry fits.entry w3.0)
     ∙ ap (λ (k : ℕ). mk-handler h.start h.length h.entry k) (pools h.pool fits.pool w4.0)
 
-no-error : (r : Result (List ℕ) FromHexError) (a : List ℕ) (e : FromHexError) → r ≡ Ok a → r ≡ Err e → ⊥
-no-error r a e p q = absurd (cc)
-
 pub digits-read : (digits read bytes : List ℕ) → decode_of digits ≡ Ok read → AreBytes bytes → digits ≡ encode_lower bytes → read ≡ bytes
 digits-read digits read bytes is are e = decode_of-same digits read bytes is (ap decode_of e ∙ decode_of-encode_lower bytes are)
 
 pub digits-unread : (digits bytes : List ℕ) (e : FromHexError) → decode_of digits ≡ Err e → AreBytes bytes → digits ≡ encode_lower bytes → ⊥
-digits-unread digits bytes e is are same = no-error (decode_of digits) bytes e (ap decode_of same ∙ decode_of-encode_lower bytes are) is
+digits-unread digits bytes e is are same = grind (arith, decode_of-encode_lower)
 
 pub bytes-cut : (line place_word a digits b : List ℕ) → CutsTwo line place_word a → Cuts a digits b → (place : ℕ) (bytes : List ℕ) → place ≤ 65535
     → AreBytes bytes → line ≡ joined (bytes_words place bytes) → digits ≡ encode_lower bytes

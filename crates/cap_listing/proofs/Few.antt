@@ -1,19 +1,12 @@
 -- An instruction has no more cases than its code has bytes.
-use Rattle.std.proofs.Common.{◌≡◌, ◌≤◌, ◌+◌, ◌-◌, ℕ, List, ◌++◌, length, drop, sym}
+use Rattle.std.proofs.Common.{◌≡◌, ◌≤◌, ◌+◌, ℕ, List, ◌++◌, length, drop, sym}
 use Rattle.std.proofs.Common.{ap, ◌∙◌, append_assoc}
 use Rattle.std.specs.Prelude.{slice_get, Some, None}
 use Rattle.std.proofs.lemmas.List.{drop_all, append-nil}
 use Rattle.jc_decode.specs.declared.layout.Cases.{Cases}
 use Rattle.jc_decode.specs.declared.insn.Case.{Case}
-use Rattle.std.proofs.Common.{◌*◌, Ok, [], refl}
+use Rattle.std.proofs.Common.{[]}
 use Rattle.std.proofs.Common.{arith}
-use Rattle.std.proofs.lemmas.List.FromFn.{length-map-range_with_len}
-use Rattle.jc_decode.specs.declared.layout.Operand.{Operand}
-use Rattle.jc_decode.specs.declared.insn.Insn.{Insn}
-use Rattle.jc_decode.specs.Layout.{total_width}
-use Rattle.jc_decode.specs.Decoding.{decoded, pair_width}
-use Rattle.jc_decode.specs.Cases.{cases, cases_in}
-use Rattle.jc_decode.proofs.Decoded.{Begins-decoded, table_end-ok}
 use Rattle.jc_decode.proofs.Elements.{drop-here, drop-past}
 use Rattle.cap_listing.specs.Numbers.{shown, shown_case, shown_cases}
 use Rattle.cap_listing.proofs.Appending.{shown-append}

@@ -1,5 +1,5 @@
 -- Which text is a listing, and where another goes wrong.
-use Rattle.std.proofs.Common.{◌≡◌, ◌+◌, ℕ, Some, None}
+use Rattle.std.proofs.Common.{◌≡◌, ℕ, Some, None}
 use Rattle.std.proofs.Common.{Option, List, [], ◌∷◌, ◌++◌, length, refl, sym, ap, subst, ◌∙◌, arith, append_assoc}
 use Rattle.std.proofs.Common.{length-append}
 use Rattle.std.specs.Prelude.{All}

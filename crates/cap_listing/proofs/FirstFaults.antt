@@ -1,8 +1,6 @@
 -- The first fault is found in one pass over the methods.
 use Rattle.std.proofs.Common.{◌≡◌, ◌≢◌, ◌<◌, ◌≤◌, ◌+◌, ℕ, cond, min, List, [], ◌∷◌, length, drop, get_or}
-use Rattle.std.proofs.Common.{Err, refl, sym, ap, subst, ◌∙◌, arith}
-use Rattle.std.proofs.Common.{Bool, true, false, ◌++◌}
-use Rattle.std.proofs.Common.{Result, Ok}
+use Rattle.std.proofs.Common.{Err, refl, ap, arith}
 use Rattle.std.proofs.lemmas.List.{drop_more, drop_all, length-drop}
 use Rattle.jc_decode.specs.declared.symbols.LaidHandler.{LaidHandler}
 use Rattle.cap_listing.specs.declared.method.ListedMethod.{ListedMethod}

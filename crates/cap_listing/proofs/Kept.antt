@@ -1,19 +1,16 @@
 -- An operand's number is kept where the operand may have it.
-use Rattle.std.proofs.Common.{◌≡◌, ◌+◌, true, List, ◌++◌, refl, sym, ap, ◌∙◌}
+use Rattle.std.proofs.Common.{◌≡◌, List, ◌++◌}
 use Rattle.std.proofs.Common.{[]}
 use Rattle.std.proofs.Common.{arith}
-use Rattle.std.specs.Prelude.{ℤ, int_le}
+use Rattle.std.specs.Prelude.{ℤ}
 use Rattle.std.proofs.lemmas.Bool.{le-leb}
 use Rattle.jc_decode.specs.declared.layout.Operand.{Operand}
 use Rattle.jc_decode.specs.Decoding.{FitsOperand}
 use Rattle.jc_decode.specs.Encoding.{operand_bytes}
-use Rattle.cap_listing.specs.Numbers.{between, kept, kept_bytes, shown_operand, first_number, after_operand}
-
-between-same : (low high v : ℤ) → int_le low v ≡ true → int_le v high ≡ true → between low high v ≡ v
-between-same low high v h k = rw (h, k) refl
+use Rattle.cap_listing.specs.Numbers.{kept, kept_bytes, shown_operand, first_number, after_operand}
 
 pub kept-same : (o : Operand) (v : ℤ) → FitsOperand o v → kept o v ≡ v
-kept-same x v h = grind (arith, between-same, le-leb)
+kept-same x v h = grind (arith, le-leb)
 
 -- an operand is read off the first of the numbers that are shown
 pub after-shown : (o : Operand) (v : ℤ) (more : List ℤ) → after_operand o (shown_operand o v ++ more) ≡ more

@@ -75,13 +75,10 @@ no-listing text n ms h l = by h.here
 
 -- ---- what `assemble` answers
 
-not-line : (text : List ℕ) (fault : AsmFault) (ms : List ListedMethod) → TellsLine text fault → Lists ms text → ⊥
-not-line text y ms t l = grind (arith, no-listing)
-
 -- a listing is assembled, or there is no memory
 pub comes-back : (text : List ℕ) (ms : List ListedMethod) (answer : Result (List ListedMethod) AsmEnd) → Lists ms text → Assembles text answer
     → AnswersMethods ms answer
-comes-back text ms z l a = grind (arith, one-list, not-line)
+comes-back text ms z l a = grind (arith, one-list, no-listing)
 
 same-line : (text : List ℕ) (n : ℕ) (fault : AsmFault) → IsNotListing text n → TellsLine text fault → fault ≡ NotListing n
 same-line text n (NotListing line) h t = ap (λ (k : ℕ). NotListing k) (one-line text line n t h)

@@ -1,6 +1,6 @@
 -- Where nothing is wrong with listed methods in place of a package's own, the package may be written with them.
 use Rattle.std.proofs.Common.{◌≡◌, ◌<◌, ◌≤◌, ◌+◌, ℕ, Bool, true, false, not, cond, ◌&&◌, ◌||◌, ltb, leb, eqb, List, [], ◌∷◌, ◌++◌}
-use Rattle.std.proofs.Common.{Ok, drop, get_or, length, map, min, Option, Some, None, refl, sym, ap, ◌∙◌, arith, append_assoc}
+use Rattle.std.proofs.Common.{Ok, drop, get_or, length, map, min, Option, Some, refl, sym, ap, ◌∙◌, arith, append_assoc}
 use Rattle.std.proofs.lemmas.Bool.{ltb-false, ltb-true, leb-true, eqb-true, eqb-false, and_parts}
 use Rattle.std.proofs.lemmas.List.{append-nil, drop_more, drop_all}
 use Rattle.cap_method.specs.MethodFormat.{Header}
@@ -11,7 +11,6 @@ use Rattle.cap_package.specs.HeaderChecks.{header_in, is_abstract}
 use Rattle.jc_decode.specs.declared.symbols.Laid.{Laid}
 use Rattle.jc_decode.specs.declared.symbols.LaidHandler.{LaidHandler}
 use Rattle.cap_laying.specs.HandlerTable.{AreInside}
-use Rattle.law_package.specs.Laying.{IsCodeFor}
 use Rattle.cap_write.specs.Condition.{handler_sum, no_method, methods_for, AreElements, MayBeLaid}
 use Rattle.cap_listing.specs.declared.method.ListedMethod.{ListedMethod}
 use Rattle.cap_listing.specs.declared.fault.AsmFault.{AsmFault}
@@ -43,12 +42,9 @@ AreSame [] (n ∷ ns) = ⊥
 AreSame (m ∷ ms) [] = ⊥
 AreSame (m ∷ ms) (n ∷ ns) = (m.laid.nargs ≡ n.laid.nargs) × AreSame ms ns
 
-same-nargs : (m n : ListedMethod) → is_same m n ≡ true → m.laid.nargs ≡ n.laid.nargs
-same-nargs m n e = grind (arith, eqb, eqb-true, and_parts)
-
 one-same : (k : ℕ) (m n : ListedMethod) (ms ns : List ListedMethod) (more : List AsmFault) (b : Bool) → is_same m n ≡ b
     → (more ≡ [] → AreSame ms ns) → cond b more (OtherMethod k ∷ more) ≡ [] → AreSame (m ∷ ms) (n ∷ ns)
-one-same k m n ms ns more a e rest h = grind (arith, same-nargs, some-none)
+one-same k m n ms ns more a e rest h = grind (arith, some-none, eqb, eqb-true, and_parts)
 
 all-same : (k : ℕ) (ms ns : List ListedMethod) → other_faults k ms ns ≡ [] → AreSame ms ns
 all-same k [] [] e = tt {0}
@@ -105,14 +101,8 @@ all-fit n (m ∷ ms) r h l =
 
 -- ---- the elements
 
-none-header : (x : Option Header) (h : Header) → x ≡ None → x ≡ Some h → ⊥
-none-header x h e f = absurd (cc)
-
 same-header : (x : Option Header) (g h : Header) → x ≡ Some g → x ≡ Some h → g ≡ h
 same-header x g h e f = cc
-
-code-for : (m : ListedMethod) (h : Header) → Fits m → m.laid.nargs ≡ h.nargs → IsCodeFor h m.laid
-code-for m h f e = record { some = f.some; short = f.short; arguments = e; registers = f.registers; inside = f.inside }
 
 module _ (interfaces : ℕ → Bool) (methods : Methods) where
   -- what comes after some records is as it is to be
@@ -124,13 +114,13 @@ module _ (interfaces : ℕ → Bool) (methods : Methods) where
       (records : List (Option MethodDescriptor)) (b : Bool) → header_in methods.info d.method_offset ≡ Some h → is_abstract h ≡ b → Later tail flags records
       → Later (cond b [] (record { class_no = class_no; method_no = n; laid = laid_of methods d h } ∷ []) ++ tail) (not b ∷ flags) (Some d ∷ records)
   unfolding Later
-  by-abstract class_no n d h tail flags records b there e later ms same fit = grind (arith, same-header, code-for)
+  by-abstract class_no n d h tail flags records b there e later ms same fit = grind (arith, same-header)
 
   by-header : (class_no n : ℕ) (d : MethodDescriptor) (tail : List ListedMethod) (flags : List Bool) (records : List (Option MethodDescriptor))
       (o : Option Header) → header_in methods.info d.method_offset ≡ o → Later tail flags records
       → Later (listed_by methods class_no n d o ++ tail) (has_code o ∷ flags) (Some d ∷ records)
   unfolding Later
-  by-header class_no n d tail flags records a there later ms same fit = grind (arith, none-header, by-abstract)
+  by-header class_no n d tail flags records a there later ms same fit = grind (arith, by-abstract)
 
   of-class : (class_no n : ℕ) (ds : List MethodDescriptor) (tail : List ListedMethod) (flags : List Bool) (records : List (Option MethodDescriptor))
       → Later tail flags records

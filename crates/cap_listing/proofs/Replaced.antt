@@ -1,5 +1,5 @@
 -- The methods of a package that is written with listed methods in place of its own are the listed ones.
-use Rattle.std.proofs.Common.{◌≡◌, ◌+◌, ◌-◌, ℕ, Bool, true, false, not, cond, eqb, List, [], ◌∷◌, ◌++◌, length, take, drop, map}
+use Rattle.std.proofs.Common.{◌≡◌, ◌+◌, ℕ, Bool, true, false, not, cond, eqb, List, [], ◌∷◌, ◌++◌, length, take, drop, map}
 use Rattle.std.proofs.Common.{Option, Some}
 use Rattle.std.proofs.Common.{refl, sym, ap, subst, ◌∙◌, arith, append_assoc, suc}
 use Rattle.std.proofs.lemmas.Bool.{eqb-true, and_parts}
@@ -14,14 +14,12 @@ use Rattle.cap_components.specs.PackageRecord.{PackageRecord, names_interface}
 use Rattle.cap_package.specs.HeaderChecks.{header_in, is_abstract}
 use Rattle.cap_package.specs.StandsFor.{StandsFor}
 use Rattle.cap_laying.specs.HandlerTable.{handler_entry, entries_at}
-use Rattle.cap_laying.specs.HeaderBytes.{header_of}
-use Rattle.cap_laying.specs.Member.{numbers_of}
 use Rattle.cap_write.proofs.Sources.{are_laid_for}
 use Rattle.jc_decode.specs.declared.symbols.Laid.{Laid}
 use Rattle.jc_decode.specs.declared.symbols.LaidHandler.{LaidHandler}
 use Rattle.law_package.specs.Changes.{changes, changes_of, laid_but, now_at, sources_from}
 use Rattle.law_package.specs.Rewritten.{bare_class, IsRewritten}
-use Rattle.law_package.specs.Written.{HasCode, IsAs}
+use Rattle.law_package.specs.Written.{IsAs}
 use Rattle.cap_package.proofs.Agreed.{agrees}
 use Rattle.law_package.proofs.Bare.{but_same, same_interfaces}
 use Rattle.law_package.proofs.Facts.{Fact, facts}
@@ -47,12 +45,9 @@ AreNumbered [] (n ∷ ns) = ⊥
 AreNumbered (m ∷ ms) [] = ⊥
 AreNumbered (m ∷ ms) (n ∷ ns) = HasNumbers m n × AreNumbered ms ns
 
-same-numbers : (m n : ListedMethod) → is_same m n ≡ true → HasNumbers m n
-same-numbers m n e = grind (arith, and_parts, eqb, eqb-true)
-
 one-numbered : (k : ℕ) (m n : ListedMethod) (ms ns : List ListedMethod) (more : List AsmFault) (b : Bool) → is_same m n ≡ b
     → (more ≡ [] → AreNumbered ms ns) → cond b more (OtherMethod k ∷ more) ≡ [] → AreNumbered (m ∷ ms) (n ∷ ns)
-one-numbered k m n ms ns more a e rest h = grind (arith, same-numbers, some-none)
+one-numbered k m n ms ns more a e rest h = grind (arith, some-none, and_parts, eqb, eqb-true)
 
 all-numbered : (k : ℕ) (ms ns : List ListedMethod) → other_faults k ms ns ≡ [] → AreNumbered ms ns
 all-numbered k [] [] e = tt {0}
@@ -84,9 +79,6 @@ handlers-back : (start : ℕ) (hs : List LaidHandler) → map (laid_handler star
 handlers-back start [] = refl
 handlers-back start (h ∷ hs) = grind (arith, handler-back, handlers-back start hs)
 
-laid-back : (q : PackageRecord) (d : MethodDescriptor) (l : Laid) → HasCode q l d → laid_of q.methods d (header_of (numbers_of l)) ≡ l
-laid-back q d l is = grind (arith, handlers-back)
-
 module _ (p q : PackageRecord) where
   abbrev Become : ℕ → List MethodDescriptor → List (Option Laid) → List MethodDescriptor → Type 0
   Become x os ls ds = Each (Fact p q) (changes_of (sources_from x os ls) ds)
@@ -111,7 +103,7 @@ module _ (p q : PackageRecord) where
         num,
       )
   one-by k n o d h [] rest false e there num is = absurd num
-  one-by k n o d h (m ∷ ms) rest false e there num is = grind (arith, laid-back, cond)
+  one-by k n o d h (m ∷ ms) rest false e there num is = grind (arith, cond, handlers-back)
 
   -- ---- the methods of a class
 

@@ -1,5 +1,5 @@
 -- What is read is what the lines list: each line is that of the state which it leads to.
-use Rattle.std.proofs.Common.{◌≡◌, ◌≢◌, ◌<◌, ◌≤◌, ◌+◌, ℕ, zero, suc, true, false, Some, None, Option, arith}
+use Rattle.std.proofs.Common.{◌≡◌, ◌<◌, ◌≤◌, ℕ, zero, suc, true, false, Some, None, Option, arith}
 use Rattle.std.proofs.Common.{List, [], ◌∷◌, ◌++◌, length, refl, sym, ap, subst, ◌∙◌, append_assoc}
 use Rattle.std.specs.Prelude.{All}
 use Rattle.std.proofs.lemmas.List.{append-nil, map-append}
@@ -8,8 +8,8 @@ use Rattle.std.proofs.lemmas.Bool.{false≢true}
 use Rattle.jc_decode.specs.declared.symbols.LaidHandler.{LaidHandler}
 use Rattle.cap_bytes.specs.Bytes.{AreBytes}
 use Rattle.cap_listing.specs.declared.method.ListedMethod.{ListedMethod}
-use Rattle.cap_listing.specs.Text.{IsMethod, IsHandler, head_words, handler_words, end_words, code_lines, begun_lines, lines_of}
-use Rattle.cap_listing.specs.Reading.{Begun, State, IsBare, with_bytes, with_handler}
+use Rattle.cap_listing.specs.Text.{IsMethod, IsHandler, handler_words, end_words, code_lines, begun_lines, lines_of}
+use Rattle.cap_listing.specs.Reading.{Begun, State, with_bytes, with_handler}
 use Rattle.cap_listing.specs.Reading.{Next, next_head, next_instruction, next_bytes, next_handler, next_end, Reads, reads_nothing}
 use Rattle.cap_listing.specs.Reading.{reads_more}
 use Rattle.cap_listing.specs.Reading.{start, lines_begun, read_lines, IsBegun, MayBegin, IsState}
@@ -79,11 +79,8 @@ method-with-handler m x h fits = record {
   handlers = All-append IsHandler m.laid.handlers (x ∷ []) h.handlers (All-cons IsHandler x [] fits (All-nil IsHandler));
 }
 
-bare-lines : (m : ListedMethod) → IsBare m → begun_lines m ≡ head_words m ∷ []
-bare-lines m h = grind (arith, append-nil, lines-none)
-
 pub next-grows : (before : State) (words : List (List ℕ)) (after : State) → IsState before → Next before words after → Grows before words after
-next-grows before words after is (next_head n) = grind (arith, end-none, grows, open-state, bare-lines, lines-at, append-nil)
+next-grows before words after is (next_head n) = grind (arith, end-none, grows, open-state, lines-at, append-nil, lines-none)
 next-grows before words after is (next_instruction n) =
     let m = n.method in
     let b : Begun = record { method = m; closed = false } in

@@ -1,7 +1,7 @@
 -- Words, and lines of them: what is joined is cut into the same words.
 use Rattle.std.proofs.Common.{◌≡◌, ◌<◌, ◌≤◌, ◌+◌, ◌^◌, ℕ, zero, suc, Bool, true, false, List, [], ◌∷◌}
 use Rattle.std.proofs.Common.{◌++◌, length, map, get_or, refl, sym, ap, ◌∙◌, ⊎_elim, ◌/◌, ◌%◌, arith, rules, append_assoc, nat_lt, subst}
-use Rattle.std.proofs.Common.{drop, replicate}
+use Rattle.std.proofs.Common.{drop}
 use Rattle.std.specs.Prelude.{ℤ, All, decimal, FitsSigned, ⊤, ◌==◌, ◌&&◌}
 use Rattle.std.specs.Int.{w32}
 use Rattle.std.specs.Fmt.{signed_decimal}
@@ -15,7 +15,7 @@ use Rattle.std.proofs.lemmas.List.{get_or-replicate}
 use Rattle.hex.specs.Hex.{encode_with, encode_lower, lower_digits}
 use Rattle.jc_decode.specs.Names.{names, name}
 use Rattle.cap_bytes.specs.Bytes.{AreBytes}
-use Rattle.std.specs.List.{slice_split, list_all, range_with_len}
+use Rattle.std.specs.List.{slice_split, list_all}
 use Rattle.std.proofs.lemmas.List.Splits.{slice_split_at, slice_split_none}
 use Rattle.cap_listing.specs.Words.{IsPlain, ArePlain, HasNone, IsCut, spaced, joined, line, text_of_lines}
 use Rattle.cap_listing.specs.Fault.{HasNoFeed}
@@ -152,12 +152,8 @@ plain-at (w ∷ ws) e (suc n) = plain-at ws (and_parts (is_plain w) _ e).1 n
 pub plain-name : (op : ℕ) → IsPlain (name op)
 plain-name op = plain-at names names_plain op
 
-digits_plain : map (λ k. is_plain_byte (get_or lower_digits k 0)) (range_with_len 0 16) ≡ replicate 16 true
-unfolding is_plain_byte
-digits_plain = refl
-
 digit-plain : (k : ℕ) → k < 16 → (32 < get_or lower_digits k 0) × (get_or lower_digits k 0 < 127)
-digit-plain k h = grind (arith, plain-byte, get_or, get_or-map-range_with_len, digits_plain, get_or-replicate)
+digit-plain k h = grind (arith, plain-byte, get_or, get_or-map-range_with_len, get_or-replicate)
 
 pub plain-hex : (bytes : List ℕ) → AreBytes bytes → IsPlain (encode_lower bytes)
 unfolding encode_with

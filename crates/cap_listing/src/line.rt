@@ -1,10 +1,10 @@
-ghost use Rattle.std.specs.Prelude.{◌≡◌, ◌++◌, ◌∷◌, [], ◌<◌, ◌≤◌, ℕ, List, Ok, length, map, codes, OnOk};
+ghost use Rattle.std.specs.Prelude.{◌≡◌, ◌++◌, ◌∷◌, [], ◌<◌, ◌≤◌, Ok, length, map, codes, OnOk};
 ghost use Rattle.std.specs.Fmt.{signed_decimal, decimal};
 ghost use Rattle.jc_decode.specs.Decoding.{decoded};
 ghost use Rattle.jc_decode.specs.Names.{name};
 ghost use Rattle.jc_decode.specs.Cases.{cases};
 ghost use Rattle.cap_listing.specs.Words.{joined, spaced};
-ghost use Rattle.cap_listing.specs.Numbers.{numbers_of, shown};
+ghost use Rattle.cap_listing.specs.Numbers.{numbers_of};
 ghost use Rattle.cap_listing.specs.Text.{heading_words, bytes_words, handler_words};
 
 use crate::method::Heading;

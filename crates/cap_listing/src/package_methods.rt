@@ -1,4 +1,4 @@
-ghost use Rattle.std.specs.Prelude.{◌≡◌, ◌++◌, ◌≤◌, ◌<◌, ◌^◌, [], All, length, take, drop, map, OnOk, IfOk, if◌then◌else◌};
+ghost use Rattle.std.specs.Prelude.{◌≡◌, ◌++◌, ◌≤◌, ◌<◌, ◌^◌, [], All, length, take, drop, map, OnOk, IfOk};
 ghost use Rattle.offset_set.specs.Bits.{holds};
 ghost use Rattle.cap_method.specs.MethodPart.{handlers_left, header_seen};
 ghost use Rattle.cap_desc.specs.MemberRecords.{method_seen};

@@ -1,5 +1,4 @@
 ghost use Rattle.std.specs.Prelude.{◌≡◌, ◌≢◌, ◌≤◌, ◌+◌, ◌↔◌, ℕ, List, Ok, length, IfOk, IfSome, IfNone, IsTrue};
-ghost use Rattle.cap_bytes.specs.Bytes.{AreBytes};
 ghost use Rattle.jc_decode.specs.Decoding.{decoded};
 ghost use Rattle.jc_decode.specs.declared.symbols.LaidHandler.{LaidHandler};
 ghost use Rattle.cap_listing.specs.declared.method.ListedMethod.{ListedMethod};

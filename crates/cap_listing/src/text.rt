@@ -1,7 +1,7 @@
 ghost use Rattle.std.specs.Prelude.{◌≡◌, ◌++◌, ◌∷◌, [], ◌≤◌, All, drop, length, map, OnOk, IfOk};
-ghost use Rattle.cap_listing.specs.Words.{line, text_of_lines};
+ghost use Rattle.cap_listing.specs.Words.{text_of_lines};
 ghost use Rattle.jc_decode.specs.Listing.{listing};
-ghost use Rattle.cap_listing.specs.Text.{IsShort, instruction_words, rest_lines, code_lines, handler_words, end_words, begun_lines, lines_of, text_of};
+ghost use Rattle.cap_listing.specs.Text.{IsShort, instruction_words, rest_lines, code_lines, handler_words, end_words, begun_lines, text_of};
 
 use crate::line::{push_bytes, push_handler, push_heading, push_instruction};
 use crate::method::{Listed, ListedMethod};
