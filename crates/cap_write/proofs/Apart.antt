@@ -1,13 +1,12 @@
 -- Described methods stand apart in the Method component, since the parts of a package agree.
-use Rattle.std.proofs.Common.{◌≡◌, ◌≤◌, ◌<◌, ◌+◌, ℕ, Bool, false, cond, List, [], ◌∷◌, length, map, Some, None}
+use Rattle.std.proofs.Common.{◌≡◌, ◌≤◌, ◌<◌, ◌+◌, ℕ, List, [], ◌∷◌, length, map, None}
 use Rattle.std.proofs.Common.{sym, ◌∙◌, arith}
-use Rattle.std.specs.Prelude.{min, max, ◌||◌}
+use Rattle.std.specs.Prelude.{min}
 use Rattle.std.specs.List.{filter_map}
 use Rattle.std.proofs.lemmas.Bool.{ltb-false}
 use Rattle.std.proofs.lemmas.List.Elements.{filter_map-append}
 use Rattle.first_fault.proofs.LeastFaults.{faultless_first}
 use Rattle.cap_desc.specs.DescriptorFormat.{MethodDescriptor}
-use Rattle.cap_components.specs.declared.fault.PackFault.{PackFault}
 use Rattle.cap_package.specs.MethodChecks.{code_start, code_end, overlap_fault, overlap_pair, outside_fault}
 use Rattle.cap_package.specs.Pairs.{pairs}
 use Rattle.cap_package.proofs.StaticsKnown.{both_empty}
@@ -22,12 +21,9 @@ abbrev pub AllEnd : List ℕ → List MethodDescriptor → Type 0
 AllEnd info [] = Unit {0}
 AllEnd info (m ∷ ms) = EndsInside info m × AllEnd info ms
 
-outside_none : (a b : Bool) (f : PackFault) → cond (a || b) (Some f) None ≡ None → b ≡ false
-outside_none x b f e = grind (arith)
-
 ends_inside : (info : List ℕ) (n : ℕ) (m : MethodDescriptor) → outside_fault info n m ≡ None → EndsInside info m
 unfolding outside_fault code_end code_start
-ends_inside info n m none = grind (arith, size_least, ltb-false, outside_none)
+ends_inside info n m none = grind (arith, size_least, ltb-false)
 
 pub all_end : (info : List ℕ) (n : ℕ) (ms : List MethodDescriptor) → filter_map (outside_fault info n) ms ≡ [] → AllEnd info ms
 all_end info n [] e = tt
@@ -46,19 +42,13 @@ AreDistinct (o ∷ os) = IsNone o os × AreDistinct os
 abbrev pub offset_of : MethodDescriptor → ℕ
 offset_of m = m.method_offset
 
-test_false : (b : Bool) (f : PackFault) → cond b (Some f) None ≡ None → b ≡ false
-test_false x f e = grind (arith)
-
-max_same : (n : ℕ) → max n n ≡ n
-max_same n = grind arith
-
 least_above : (o a b c : ℕ) → o < a → o < b → o < c → o < min (min a b) c
 least_above o a b c x y z = grind arith
 
 differ : (info : List ℕ) (a b : MethodDescriptor) → EndsInside info a → EndsInside info b → overlap_fault info a b ≡ None
     → b.method_offset ≡ a.method_offset → ⊥
 unfolding overlap_fault
-differ info a b ea eb none same = grind (arith, test_false, ltb-false, max_same)
+differ info a b ea eb none same = grind (arith, ltb-false)
 
 one_apart : (info : List ℕ) (a : MethodDescriptor) (ms : List MethodDescriptor) → EndsInside info a → AllEnd info ms
     → filter_map (overlap_pair info) (map (λ b. (a, b)) ms) ≡ [] → IsNone a.method_offset (map offset_of ms)

@@ -42,12 +42,9 @@ find_other change tag (c ∷ cs) h = by (drops change) (c.tag == 128) (c.tag == 
     by true true false e f r = r
     by true true true e f r = absurd (h (sym (eqb-true c.tag tag f) ∙ eqb-true c.tag 128 e))
 
-entry_other : (change : IndexChange) (tag : ℕ) → (tag ≡ 128 → ⊥) → find (has_tag tag) (index_entry change) ≡ None
-entry_other x tag h = grind (arith, cond, ne_eqb)
-
 pub found_other : (change : IndexChange) (tag : ℕ) (cs : List Custom) → (tag ≡ 128 → ⊥) → find (has_tag tag) (new_customs change cs)
     ≡ find (has_tag tag) cs
-found_other change tag cs h = find_front tag (filter (stays_in_index change) cs) (index_entry change) (entry_other change tag h) ∙ find_other change tag cs h
+found_other change tag cs h = grind (arith, find_front, filter, find_other, cond, ne_eqb)
 
 -- the one with the tag of a target index stays, or goes
 filter_kept : (cs : List Custom) → filter (stays_in_index Kept) cs ≡ cs

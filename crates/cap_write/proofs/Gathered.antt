@@ -1,5 +1,5 @@
 -- The parts of a package whose methods are written anew.
-use Rattle.std.proofs.Common.{◌≡◌, ◌<◌, ◌⊎◌, ℕ, Bool, false, List, length, Option, subst, arith}
+use Rattle.std.proofs.Common.{◌≡◌, ◌<◌, ◌⊎◌, ℕ, List, length, Option, subst, arith}
 use Rattle.std.proofs.lemmas.Bool.{ne_eqb}
 use Rattle.cap_components.specs.Parts.{Lent, held}
 use Rattle.cap_components.specs.PackageRecord.{PackageRecord}
@@ -12,20 +12,17 @@ use Rattle.cap_laying.specs.References.{written_references}
 use Rattle.cap_laying.specs.WrittenSeen.{IsWrittenAs}
 use Rattle.cap_write.specs.WrittenMethods.{AreMembersFor}
 use Rattle.cap_write.specs.NewIndex.{Index, IsNewIndex, IsShortIndex, dropped, stays, written}
-use Rattle.cap_write.specs.Files.{Either, IsFile}
+use Rattle.cap_write.specs.Files.{IsFile}
 use Rattle.cap_write.specs.Filed.{AreFiled}
 use Rattle.cap_write.specs.WrittenPackage.{ArePartsOf, AreWritten, IsWritten}
 use Rattle.cap_laying.proofs.Standing.{methods_stand}
 use Rattle.cap_write.proofs.Spread.{references_stand}
 use Rattle.cap_write.proofs.Table.{table_stands}
 
-other_than : (This That : Type 0) (b : Bool) → b ≡ false → Either b This That → That
-other_than x y z e x2 = grind (arith)
-
 module _ (p : PackageRecord) (news : List (Option NewMethod)) (methods references : List ℕ) (index : Index) (parts : List Lent)
     (f : AreFiled (IsFile p news methods references index) 256 parts) where
   other_file : (tag : ℕ) → tag < 256 → (tag ≡ 0) ⊎ (12 < tag) → (tag ≡ 128 → ⊥) → held parts tag ≡ held p.parts tag
-  other_file tag lt z not_index = grind (arith, other_than, ne_eqb)
+  other_file tag lt z not_index = grind (arith, ne_eqb)
 
   pub parts_of : ArePartsOf p news methods references index parts
   parts_of = grind (arith, other_file)

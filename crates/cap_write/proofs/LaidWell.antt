@@ -11,7 +11,7 @@ use Rattle.jc_decode.specs.declared.symbols.Laid.{Laid}
 use Rattle.law_package.proofs.Lists.{Each}
 use Rattle.cap_package.proofs.Agreed.{agrees}
 use Rattle.law_package.proofs.Facts.{WasWell, wells}
-use Rattle.cap_write.specs.Condition.{handler_sum, no_method, methods_for, IsElement, AreElements, MayBeLaid}
+use Rattle.cap_write.specs.Condition.{handler_sum, no_method, methods_for, AreElements, MayBeLaid}
 
 -- at most 32,767 bytes of code, in which the handlers lie
 pub record IsLaidWell (laid : Laid) : Type 0 where
@@ -49,10 +49,6 @@ well_for p set (c ∷ cs) h = by (set c.class_ref) h (λ k. well_for p set cs k)
     by true h f = well_none p c.methods (methods_for set cs) (f h)
     by false h f = well_some p c.methods (methods_but set cs) (methods_for set cs) h f
 
-laid_one : (p : PackageRecord) (m : MethodDescriptor) (l : Laid) → WasWell p m → IsElement p.methods.info (Some m) (Some l)
-    → length l.handlers ≤ 255 → IsLaidWell l
-laid_one p m l w e few = let c = e w.header w.there in record { short = c.short; few = few; inside = c.inside }
-
 laid_all : (p : PackageRecord) (ms : List (Option MethodDescriptor)) (ls : List (Option Laid)) → AreWell p ms → AreElements p.methods.info ms ls
     → handler_sum ls ≤ 255 → AreLaidWell ls
 laid_all p [] [] w e few = tt
@@ -61,7 +57,7 @@ laid_all p (m ∷ ms) [] w e few = tt
 laid_all p (None ∷ ms) (None ∷ ls) w e few = laid_all p ms ls w e.1 few
 laid_all p (None ∷ ms) (Some l ∷ ls) w e few = absurd e.0
 laid_all p (Some m ∷ ms) (None ∷ ls) w e few = laid_all p ms ls w.1 e.1 few
-laid_all p (Some m ∷ ms) (Some l ∷ ls) w e few = (laid_one p m l w.0 e.0 (omega arith), laid_all p ms ls w.1 e.1 (omega arith))
+laid_all p (Some m ∷ ms) (Some l ∷ ls) w e few = ((grind (arith)), laid_all p ms ls w.1 e.1 (omega arith))
 
 pub laid_well : (parts : List Lent) (p : PackageRecord) (laid : List (Option Laid)) → StandsFor parts p → MayBeLaid p laid → AreLaidWell laid
 laid_well parts p laid s l = grind (arith, wells parts p (agrees parts p s.agree), laid_all, well_for)

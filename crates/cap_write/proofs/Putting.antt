@@ -7,16 +7,13 @@ use Rattle.cap_desc.specs.DescriptorFormat.{MethodDescriptor, ClassDescriptor}
 use Rattle.jc_decode.specs.declared.symbols.Laid.{Laid}
 use Rattle.cap_laying.specs.declared.member.WrittenMember.{WrittenMember}
 use Rattle.cap_write.specs.Described.{SeenMember, member_seen, seen_method, first_of_them}
-use Rattle.cap_write.specs.Described.{others_of_them, seen_methods, seen_class, seen_classes}
-
-drop_one : (ls : List (Option Laid)) → drop 1 ls ≡ others_of_them ls
-drop_one x = grind (arith)
+use Rattle.cap_write.specs.Described.{seen_methods, seen_class, seen_classes}
 
 pub one_method : (info : List ℕ) (m : MethodDescriptor) (ms all : List MethodDescriptor) (laid rest : List (Option Laid)) (now new : List WrittenMember)
     (x : WrittenMember) (whole : List SeenMember) → all ≡ m ∷ ms → new ≡ now ++ x ∷ []
     → member_seen x ≡ seen_method info m (first_of_them laid) → rest ≡ drop 1 laid → map member_seen now ++ seen_methods info all laid ≡ whole
     → map member_seen new ++ seen_methods info ms rest ≡ whole
-one_method info m ms all laid rest now new x whole e n s r h = grind (arith, drop_one, map_push, append_assoc)
+one_method info m ms all laid rest now new x whole e n s r h = grind (arith, map_push, append_assoc)
 
 pub one_class : (set : ℕ → Bool) (info : List ℕ) (c : ClassDescriptor) (cs all : List ClassDescriptor) (laid rest : List (Option Laid))
     (now new : List WrittenMember) (whole : List SeenMember) → all ≡ c ∷ cs

@@ -1,5 +1,5 @@
 -- What the components of the written parts say.
-use Rattle.std.proofs.Common.{◌≡◌, ℕ, Bool, List, length, Option, Some, None, option_map, refl, sym, ap, subst, ◌∙◌, arith}
+use Rattle.std.proofs.Common.{◌≡◌, ℕ, Bool, List, length, Option, Some, None, option_map, sym, ap, subst, ◌∙◌, arith}
 use Rattle.cap_bytes.specs.Grammar.{Grammar}
 use Rattle.cap_bytes.specs.Spelling.{Stands, file_of}
 use Rattle.cap_bytes.proofs.Laws.{reading_where}
@@ -40,13 +40,9 @@ pub renewed_says : {X : Type 0} (old new : List Lent) (tag : ℕ) (g : Grammar X
     → IsPresent (IsRenewed old tag g renew edits x) (held new tag) → Says new tag g (renew x)
 renewed_says old new tag g renew edits x h = grind (arith)
 
-if_says : {X : Type 0} (old new : List Lent) (tag : ℕ) (g : Grammar X) (renew : X → X) (edits : X → List Edit) (x : Option X) (o : Option (List ℕ))
-    → held new tag ≡ o → IsRenewedIf old tag g renew edits x o → SaysIf new tag g (option_map renew x)
-if_says old new tag g renew edits a b e h = grind (arith)
-
 pub renewed_if_says : {X : Type 0} (old new : List Lent) (tag : ℕ) (g : Grammar X) (renew : X → X) (edits : X → List Edit) (x : Option X)
     → IsRenewedIf old tag g renew edits x (held new tag) → SaysIf new tag g (option_map renew x)
-renewed_if_says old new tag g renew edits x h = if_says old new tag g renew edits x (held new tag) refl h
+renewed_if_says old new tag g renew edits x h = grind (arith)
 
 -- ---- sizes
 

@@ -36,12 +36,6 @@ use Rattle.cap_write.proofs.Customs.{has_tag}
 
 -- ---- a part and its size
 
-zero_of : (b : Bool) (n : ℕ) (f : PackFault) → (n == 0) ≡ b → cond b None (Some f) ≡ None → n ≡ 0
-zero_of x n f e h = grind (arith, nat_tests)
-
-same_of : (b : Bool) (m n : ℕ) (f : PackFault) → (m == n) ≡ b → cond b None (Some f) ≡ None → n ≡ m
-same_of x m n f e h = grind (arith, eqb-true)
-
 info_framed : (parts : List Lent) (tag : ℕ) (file info : List ℕ) → held parts tag ≡ Some file → info_in parts tag ≡ Ok info
     → Stands (component tag) file info
 unfolding info_in
@@ -50,12 +44,12 @@ info_framed parts tag file info e h = grind (arith, stands, formed_ok)
 told_absent : (parts : List Lent) (d : DirectoryItems) (tag size : ℕ) → held parts tag ≡ None → size_in d tag ≡ Some size
     → sized_fault parts d tag ≡ None → size ≡ 0
 unfolding sized_fault absent_fault
-told_absent parts d tag size e s h = grind (arith, zero_of)
+told_absent parts d tag size e s h = grind (arith, nat_tests)
 
 told_size : (parts : List Lent) (d : DirectoryItems) (tag size : ℕ) (info : List ℕ) → info_in parts tag ≡ Ok info → size_in d tag ≡ Some size
     → size_fault parts d tag ≡ None → length info ≡ size
 unfolding size_fault
-told_size parts d tag size info e s h = grind (arith, same_of)
+told_size parts d tag size info e s h = grind (arith, eqb-true)
 
 told_there : (parts : List Lent) (d : DirectoryItems) (tag size : ℕ) (file : List ℕ) → held parts tag ≡ Some file → size_in d tag ≡ Some size
     → form_fault parts tag ≡ None → size_fault parts d tag ≡ None → IsSizeOf tag size (Some file)

@@ -1,4 +1,4 @@
-ghost use Rattle.std.specs.Prelude.{◌≡◌, ◌≤◌, length, IfOk, IfErr};
+ghost use Rattle.std.specs.Prelude.{◌≤◌, length, IfOk, IfErr};
 ghost use Rattle.cap_laying.specs.Members.{MayBeWritten};
 ghost use Rattle.cap_laying.specs.WrittenSeen.{IsWrittenAs};
 ghost use Rattle.cap_write.specs.Condition.{MayBeLaid};
