@@ -1,5 +1,5 @@
 -- What the Descriptor and the Class component tell of a package with other code but for the places of methods.
-use Rattle.std.proofs.Common.{◌≡◌, ◌+◌, ◌-◌, ℕ, List, [], ◌∷◌, ◌++◌, length, drop, map, Bool, ◌||◌, ◌&&◌, Option, arith}
+use Rattle.std.proofs.Common.{◌≡◌, ◌+◌, ℕ, List, [], ◌∷◌, ◌++◌, length, drop, map, Bool, ◌||◌, ◌&&◌, Option, arith}
 use Rattle.std.proofs.Common.{Some, None, option_and_then, refl, sym, ap, ◌∙◌}
 use Rattle.std.specs.Prelude.{if◌then◌else◌, ◌==◌}
 use Rattle.std.specs.List.{list_any}
@@ -32,12 +32,9 @@ pub but_same : (s t : ℕ → Bool) (cs : List ClassDescriptor) → ((r : ℕ) �
 but_same s t [] h = refl
 but_same s t (c ∷ cs) h = but_by (s c.class_ref) (t c.class_ref) c.methods (methods_but s cs) (methods_but t cs) (h c.class_ref) (but_same s t cs h)
 
-in_by : (b c : Bool) (ms us vs : List MethodDescriptor) → b ≡ c → us ≡ vs → (if b then ms ++ us else us) ≡ (if c then ms ++ vs else vs)
-in_by b c ms us vs e h = rw (e, h) refl
-
 pub in_same : (s t : ℕ → Bool) (cs : List ClassDescriptor) → ((r : ℕ) → s r ≡ t r) → methods_in s cs ≡ methods_in t cs
 in_same s t [] h = refl
-in_same s t (c ∷ cs) h = in_by (s c.class_ref) (t c.class_ref) c.methods (methods_in s cs) (methods_in t cs) (h c.class_ref) (in_same s t cs h)
+in_same s t (c ∷ cs) h = grind (arith)
 
 -- ---- methods, fields and classes of the Descriptor
 

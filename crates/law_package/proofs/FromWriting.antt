@@ -3,8 +3,6 @@ use Rattle.std.proofs.Common.{◌≡◌, ◌≤◌, ◌<◌, ◌+◌, ℕ, zero,
 use Rattle.std.proofs.Common.{option_map, refl, sym, ap, subst, ◌∙◌, arith}
 use Rattle.std.specs.Prelude.{slice_index}
 use Rattle.jc_base.proofs.Eaching.{All-from_Each}
-use Rattle.std.proofs.Common.{Some, None}
-use Rattle.std.specs.Prelude.{if◌then◌else◌, ◌==◌}
 use Rattle.jc_base.proofs.Eaching.{Each-map}
 use Rattle.cap_frame.specs.AppletFormat.{Applet}
 use Rattle.cap_pool.specs.PoolFormat.{Entry}
@@ -15,7 +13,7 @@ use Rattle.cap_components.specs.PackageRecord.{PackageRecord, names_interface, h
 use Rattle.cap_package.specs.StandsFor.{StandsFor}
 use Rattle.cap_renewal.specs.NewMethods.{to}
 use Rattle.cap_renewal.specs.AppletEdits.{renewed_applet}
-use Rattle.cap_renewal.specs.PoolEdits.{own_method, entry_by, renewed_entry}
+use Rattle.cap_renewal.specs.PoolEdits.{renewed_entry}
 use Rattle.cap_renewal.specs.ClassEdits.{renewed_class}
 use Rattle.cap_renewal.specs.ExportEdits.{renewed_exported}
 use Rattle.cap_renewal.specs.DescriptorEdits.{renewed_method}
@@ -48,11 +46,8 @@ applet_same f g a h = ap (λ n. with_install a n) (h a.install)
     with_install : Applet → ℕ → Applet
     with_install a n = record { aid = a.aid; install = n }
 
-entry_by_same : (f g : ℕ → ℕ) (e : Entry) (o : Option ℕ) → ((n : ℕ) → f n ≡ g n) → entry_by f e o ≡ entry_by g e o
-entry_by_same f g e u h = grind (arith)
-
 entry_same : (f g : ℕ → ℕ) (e : Entry) → ((n : ℕ) → f n ≡ g n) → renewed_entry f e ≡ renewed_entry g e
-entry_same f g e h = entry_by_same f g e (own_method e) h
+entry_same f g e h = grind (arith)
 
 class_same : (f g : ℕ → ℕ) (c : Class) → ((n : ℕ) → f n ≡ g n) → renewed_class f c ≡ renewed_class g c
 class_same f g c h = rw (map_same f g c.public h, map_same f g c.visible h) refl

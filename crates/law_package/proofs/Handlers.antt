@@ -1,5 +1,5 @@
 -- Each entry of the handler table is owned by exactly one method, in whose code it lies.
-use Rattle.std.proofs.Common.{◌≡◌, ◌≤◌, ◌<◌, ◌+◌, ◌-◌, ℕ, zero, suc, List, [], ◌∷◌, ◌++◌, length, map, take, drop, sum_by}
+use Rattle.std.proofs.Common.{◌≡◌, ◌≤◌, ◌<◌, ◌+◌, ◌-◌, ℕ, zero, suc, List, [], ◌∷◌, ◌++◌, length, map, drop, sum_by}
 use Rattle.std.proofs.Common.{filter, filter_map, slice_get, max, Bool, true, false, cond, not, ◌&&◌}
 use Rattle.std.proofs.Common.{Option, Some, None, inl, inr, refl, sym, ap, subst}
 use Rattle.std.proofs.Common.{◌∙◌, arith}
@@ -131,9 +131,6 @@ blocks_differ p c d cs false false u v h n x y o s =
       claimed_twice,
     )
 
-later_once : (n : ℕ) (c : Change) (cs : List Change) → OwnedOnce n (map old_of (c ∷ cs)) → OwnedOnce n (map old_of cs)
-later_once n c cs o i lt = grind (arith, fewer, filter)
-
 abbrev pub block : PackageRecord → Change → ℕ
 block p c = block_of p c.source
 
@@ -146,7 +143,7 @@ blocks_apart p (c ∷ cs) x n o = (
       (λ d h. blocks_differ p c d cs (c.source.method.handler_count == 0) (d.source.method.handler_count == 0) refl refl h
       (each_at (λ (y : Change). y.source.number ≡ c.source.number → ⊥) cs d n.0 h) x.0
       (each_at (λ (y : Change). ClaimsInside (length p.methods.handlers) y.source.method) cs d x.1 h) o),
-  blocks_apart p cs x.1 n.1 (later_once (length p.methods.handlers) c cs o),
+  blocks_apart p cs x.1 n.1 (grind (arith, fewer, filter)),
 )
 
 pub all_blocks : (parts : List Lent) (p q : PackageRecord) (laid : List (Option Laid)) → Agrees parts p → IsRewritten p laid q
@@ -231,13 +228,10 @@ entry_within start size (h ∷ hs) zero e a g =
     entry_or d (Some x) = x.entry
 entry_within start size (h ∷ hs) (suc j) e a g = entry_within start size hs j e a.1 g
 
-four_tests : (a b c d : Bool) → a ≡ true → b ≡ true → c ≡ true → d ≡ true → a && b && c && d ≡ true
-four_tests a b c d e f g h = rw (e, f, g, h) refl
-
 within_code : (info : List ℕ) (m : MethodDescriptor) (size : ℕ) (h : HandlerInfo) → m.bytecode_count ≡ size → IsEntryOf (code_start info m) size h
     → is_within info h m ≡ true
 unfolding code_end
-within_code info m size h e i = grind (arith, four_tests, le-leb, lt-ltb)
+within_code info m size h e i = grind (arith, le-leb, lt-ltb)
 
 owner_within : (p q : PackageRecord) (all : List Change) (c : Change) (k : ℕ) (h : HandlerInfo) (l : Option Laid) (x : _) → IsFor x l
     → IsAs p q c.source.method l c.now → IsMethodWritten p q all c

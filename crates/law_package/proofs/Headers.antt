@@ -5,7 +5,6 @@ use Rattle.std.specs.Prelude.{if◌then◌else◌, nat_le}
 use Rattle.std.specs.Result.{result_ok}
 use Rattle.std.specs.Option.{option_map}
 use Rattle.std.proofs.lemmas.List.{drop-drop}
-use Rattle.byteorder.specs.Endian.{big_number}
 use Rattle.cap_bytes.specs.Number.{number_at}
 use Rattle.cap_bytes.specs.Spelling.{Spells}
 use Rattle.cap_bytes.specs.Reading.{Reading}
@@ -20,9 +19,6 @@ use Rattle.law_package.specs.Written.{lead_bytes}
 number_drop : (n k : ℕ) (xs : List ℕ) → number_at 1 (n + k) xs ≡ number_at 1 k (drop n xs)
 number_drop n k xs = grind (arith, drop-drop, length-drop)
 
-number_front : (j : ℕ) (zs : List ℕ) → big_number 1 (take (suc j) zs) ≡ big_number 1 zs
-number_front j y = grind (arith)
-
 no_item : (a b : ℕ) → drop {A = ℕ} b (take a []) ≡ []
 no_item zero zero = refl
 no_item zero (suc b) = refl
@@ -35,7 +31,7 @@ drop_take (suc k) s [] = no_item (suc k + s) (suc k) ∙ sym (ap (take s) (no_it
 drop_take (suc k) s (y ∷ ys) = let e : suc k + s ≡ suc (k + s) = omega arith in rw e (drop_take k s ys)
 
 number_take : (k j : ℕ) (ys : List ℕ) → number_at 1 k (take (k + suc j) ys) ≡ number_at 1 k ys
-number_take k j ys = grind (arith, length-take, suc, drop_take, number_front)
+number_take k j ys = grind (arith, length-take, suc, drop_take)
 
 -- where so many bytes are the same, so is each of them
 same_byte : (k j m n : ℕ) (xs ys : List ℕ) → take (k + suc j) (drop n ys) ≡ take (k + suc j) (drop m xs)

@@ -18,7 +18,6 @@ use Rattle.cap_package.specs.StaticChecks.{image_fault, image_by, array_kinds, f
 use Rattle.cap_package.specs.StaticChecks.{kind_at, image_offset, is_static_at, no_static_fault}
 use Rattle.cap_package.specs.NameChecks.{exported_fields, undescribed_fault, undescribed_class_fault, not_own_fault}
 use Rattle.cap_package.specs.TypeChecks.{field_type_fault, field_type_by, method_type_fault, method_type_by}
-use Rattle.cap_components.specs.declared.count_kind.CountKind.{CountKind}
 use Rattle.cap_components.specs.declared.count_kind.CountKind.TheVariants.{Imports, Applets, ImageSize}
 use Rattle.cap_components.specs.declared.count_kind.CountKind.TheVariants.{InitialArrays, ArrayBytes, PoolTypes}
 use Rattle.cap_components.specs.declared.count_kind.CountKind.TheVariants.{ImageSegments}
@@ -66,12 +65,6 @@ find_map p g (x ∷ xs) = by (p (g x)) (find_map p g xs)
 
 -- ---- numbers that two components tell
 
-differ_same : (what : CountKind) (a b c d : ℕ) → a ≡ b → c ≡ d → disagreements what b d ≡ [] → disagreements what a c ≡ []
-differ_same what a b c d e h n = rw (e, h) n
-
-count_map : {X : Type 0} (g : X → X) (o : Option (List X)) → count_if (option_map (map g) o) ≡ count_if o
-count_map g y = grind (arith, length-map)
-
 pub record HasSameNumbers (q : PackageRecord) : Type 0 where
   pub imports : disagreements Imports q.directory.import_count (length q.imports) ≡ []
   pub applets : disagreements Applets q.directory.applet_count (count_if q.applets) ≡ []
@@ -82,7 +75,7 @@ pub record HasSameNumbers (q : PackageRecord) : Type 0 where
   pub image_sum : disagreements ImageSegments q.statics.image_size (image_bytes q.statics) ≡ []
 
 pub same_numbers : (parts : List Lent) (p q : PackageRecord) (laid : List (Option Laid)) → Agrees parts p → IsRewritten p laid q → HasSameNumbers q
-same_numbers parts p q laid a r = grind (arith, differ_same, count_map, length-map)
+same_numbers parts p q laid a r = grind (arith, length-map)
 
 -- ---- instance sizes
 

@@ -89,12 +89,6 @@ body_at xs ys s h (Code laid) at back within fits small is bytes =
     )
 body_at xs ys s h (Lead header) at back within fits small is bytes = (is.0, lead_at s.method.method_offset at xs ys header.now within is.1 bytes)
 
-body_long : (xs ys : List ℕ) (s : FormerMethod) (b : Body) (at : ℕ) → IsBodyAt xs ys s b at → size_by (number_at 1 at ys) + code_size b ≡ body_size b
-body_long xs ys s u at i = grind (arith)
-
-body_lead : (xs ys : List ℕ) (s : FormerMethod) (b : Body) (at : ℕ) → IsBodyAt xs ys s b at → size_by (number_at 1 at ys) ≡ lead_size b
-body_lead xs ys s u at i = grind (arith)
-
 -- ---- all
 
 pub record Known (p q : PackageRecord) (ms : List WrittenMember) (z : Pair) : Type 0 where
@@ -153,12 +147,12 @@ known parts p q laid ms s l w stand back =
 -- its size is that of its body
 pub size_known : (p q : PackageRecord) (ms : List WrittenMember) (z : Pair) → Known p q ms z → size_written q (change_in (places p ms) z)
     ≡ body_size z.member.body
-size_known p q ms z k = grind (arith, body_long)
+size_known p q ms z k = grind (arith)
 
 start_known : (p q : PackageRecord) (ms : List WrittenMember) (z : Pair) → Known p q ms z
     → code_start q.methods.info (renewed_method (places p ms) z.source.method) ≡ to (places p ms) z.member.offset + lead_size z.member.body
 unfolding code_start
-start_known p q ms z k = grind (arith, body_lead)
+start_known p q ms z k = grind (arith)
 
 as_laid_by : (p q : PackageRecord) (s : FormerMethod) (m : MethodDescriptor) (b : Body) (at : ℕ) → IsBodyAt p.methods.info q.methods.info s b at
     → m.method_offset ≡ at → m.bytecode_count ≡ code_size b → m.handler_count ≡ length (laid_handlers b)

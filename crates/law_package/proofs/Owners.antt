@@ -35,16 +35,13 @@ three a n = by (nat_lt a n) (nat_lt n a) refl refl
     by false true e f = inr (inr (ltb-true n a f))
     by false false e f = let x = ltb-false a n e in let y = ltb-false n a f in inr (inl (omega arith))
 
-nothing_below : {X : Type 0} (size key : X → ℕ) (xs : List X) → below size key xs 0 ≡ 0
-nothing_below size key xs = sum_none size (is_below key 0) xs (each_of (λ x. is_below key 0 x ≡ false) xs (λ x h. le-ltb (key x) 0 (omega arith)))
-
 pub record IsFound {X : Type 0} (size key : X → ℕ) (xs : List X) (k : ℕ) : Type 0 where
   pub at : ℕ
   pub low : below size key xs at ≤ k
   pub high : k < below size key xs (suc at)
 
 search_key : {X : Type 0} (size key : X → ℕ) (xs : List X) (k n : ℕ) → k < below size key xs n → IsFound size key xs k
-search_key size key xs k zero h = let e = nothing_below size key xs in absurd (omega arith)
+search_key size key xs k zero h = grind (arith, sum_none, each_of, le-ltb)
 search_key size key xs k (suc n) h = by (nat_lt k (below size key xs n)) refl (λ lt. search_key size key xs k n lt)
   where
     by : (b : Bool) → nat_lt k (below size key xs n) ≡ b → (k < below size key xs n → IsFound size key xs k) → IsFound size key xs k
@@ -114,23 +111,14 @@ ends_before size key xs n x h lt =
     itself : (a : ℕ) → nat_lt a a ≡ false
     itself a = grind arith
 
-pub begins_after : {X : Type 0} (size key : X → ℕ) (xs : List X) (n m : ℕ) → n ≤ m → below size key xs n ≤ below size key xs m
-begins_after size key xs n m h = sum_le size (is_below key n) (is_below key m) xs (λ y e. rises (key y) n m h e)
-
-after_it : (b : Bool) (k n : ℕ) → n ≤ k → b && nat_lt k n ≡ false
-after_it x k n h = grind (arith)
-
 before_it : (b : Bool) (k n : ℕ) → k < n → nat_le n k && b ≡ false
 before_it b k n h = let e : nat_le n k ≡ false = grind arith in rw e refl
-
-in_it : (k n m : ℕ) → n ≤ k → k < m → nat_le n k && nat_lt k m ≡ true
-in_it k n m g h = let e : nat_le n k ≡ true = grind arith in let f : nat_lt k m ≡ true = grind arith in rw (e, f) refl
 
 -- the pieces in which the number lies are those at the key
 lies_at : {X : Type 0} (size key : X → ℕ) (xs : List X) (k n : ℕ) (x : X) → Has xs x → below size key xs n ≤ k → k < below size key xs (suc n)
     → (key x ≡ n → k < below size key xs n + size x)
     → (key x < n) ⊎ ((key x ≡ n) ⊎ (n < key x)) → lies_in size key xs k x ≡ is_at key n x
-lies_at size key xs k n x h low high at e = grind (arith, ends_before, ne_eqb, after_it, in_it, begins_after, suc, before_it)
+lies_at size key xs k n x h low high at e = grind (arith, ends_before, ne_eqb, suc, before_it, sum_le, rises)
 
 at_of : {X : Type 0} (key : X → ℕ) (n : ℕ) (xs : List X) (x y : X) → filter (is_at key n) xs ≡ y ∷ [] → Has xs x → key x ≡ n → x ≡ y
 at_of {X = X} key n xs x y e h s =

@@ -9,13 +9,12 @@ use Rattle.cap_frame.specs.Frame.{component}
 use Rattle.cap_frame.specs.HeaderFormat.{header_info}
 use Rattle.cap_frame.specs.DirectoryFormat.{DirectoryItems, Custom, directory_info}
 use Rattle.cap_frame.specs.Directory.{size_in, custom_size_in}
-use Rattle.cap_components.specs.declared.fault.PackFault.{PackFault}
 use Rattle.cap_components.specs.declared.fault.PackFault.TheVariants.{MissingPart}
 use Rattle.cap_components.specs.Parts.{Lent, held}
 use Rattle.cap_components.specs.Components.{info_in, read_directory}
 use Rattle.cap_components.specs.PackageRecord.{PackageRecord}
 use Rattle.cap_components.specs.PartChecks.{required, optional, custom_tags, absent_fault, absent_by}
-use Rattle.cap_components.specs.PartChecks.{sized_fault, form_fault, form_by, size_fault, size_by}
+use Rattle.cap_components.specs.PartChecks.{sized_fault, form_fault, size_fault, size_by}
 use Rattle.cap_components.specs.Saying.{AreSaid}
 use Rattle.cap_components.proofs.Saying.{part_read}
 use Rattle.cap_package.specs.FirstFault.{missing_parts}
@@ -43,14 +42,11 @@ there_none : (parts : List Lent) (tag : ℕ) (file : List ℕ) → held parts ta
 unfolding absent_fault
 there_none parts tag file e = rw e refl
 
-either_none : (b : Bool) (o : Option PackFault) → o ≡ None → (if b then None else o) ≡ None
-either_none x o e = grind (arith)
-
 sized_by : (parts : List Lent) (tag : ℕ) (o : Option (List ℕ)) (s : Option ℕ) → held parts tag ≡ o
     → ((size : ℕ) → s ≡ Some size → IsSizeOf tag size o) → absent_by s (absent_fault parts tag) ≡ None
 sized_by parts tag o None e h = refl
 sized_by parts tag None (Some size) e h = let z : size ≡ 0 = h size refl in rw z refl
-sized_by parts tag (Some file) (Some size) e h = either_none (size == 0) (absent_fault parts tag) (there_none parts tag file e)
+sized_by parts tag (Some file) (Some size) e h = grind (arith, there_none)
 
 sized_none : (parts : List Lent) (d : DirectoryItems) (tag : ℕ) → HasSizes parts d → sized_fault parts d tag ≡ None
 unfolding sized_fault
@@ -112,10 +108,6 @@ has_size d tag h =
     let e : custom_size_in d.customs tag ≡ Some f.0.size = ap (option_map (λ (c : Custom). c.size)) f.1 in
     size_by_tag (nat_le 1 tag && nat_le tag 12) (unwrap_or (slice_get d.sizes (tag - 1)) 0) (custom_size_in d.customs tag) f.0.size e
 
-form_none_by : (parts : List Lent) (tag size : ℕ) (o : Option (List ℕ)) → held parts tag ≡ o → IsSizeOf tag size o
-    → form_by o (info_in parts tag) ≡ None
-form_none_by parts tag size u e h = grind (arith, file_info)
-
 pub forms_stand : (parts : List Lent) (d : DirectoryItems) → HasSizes parts d → filter_map (form_fault parts) (custom_tags d) ≡ []
 unfolding form_fault
-forms_stand parts d h = grind (arith, each_none, each_of, has_size, form_none_by)
+forms_stand parts d h = grind (arith, each_none, each_of, has_size, file_info)

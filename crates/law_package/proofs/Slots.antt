@@ -57,14 +57,10 @@ abbrev pub AreFree : (WrittenMember → Option ℕ) → List (Option WrittenMemb
 AreFree key table [] = Unit {0}
 AreFree key table (m ∷ ms) = FreeAt table (key m) × Each (Differ key m) ms × AreFree key table ms
 
-free_one : (table : List (Option WrittenMember)) (m : WrittenMember) (i : ℕ) (o : Option ℕ) → (o ≡ Some i → ⊥) → FreeAt table o
-    → FreeAt (slice_set table i (Some m)) o
-free_one table m i u h f = grind (arith, length_set, set_other)
-
 free_set : (key : WrittenMember → Option ℕ) (table : List (Option WrittenMember)) (m : WrittenMember) (i : ℕ) (ms : List WrittenMember)
     → Each (λ y. key y ≡ Some i → ⊥) ms → AreFree key table ms → AreFree key (slice_set table i (Some m)) ms
 free_set key table m i [] d f = tt
-free_set key table m i (y ∷ ms) d f = (free_one table m i (key y) d.0 f.0, f.1, free_set key table m i ms d.1 f.2)
+free_set key table m i (y ∷ ms) d f = ((grind (arith, length_set, set_other)), f.1, free_set key table m i ms d.1 f.2)
 
 free_put : (key : WrittenMember → Option ℕ) (table : List (Option WrittenMember)) (m : WrittenMember) (ms : List WrittenMember) (o : Option ℕ)
     → key m ≡ o → Each (Differ key m) ms → AreFree key table ms → AreFree key (put_by table m o) ms
@@ -106,18 +102,11 @@ pub kept : (key : WrittenMember → Option ℕ) (table : List (Option WrittenMem
 kept key table [] i d = refl
 kept key table (m ∷ ms) i d = kept key (put_by table m (key m)) ms i d.1 ∙ put_kept key table m (key m) i d.0
 
-put_same : (table : List (Option WrittenMember)) (m : WrittenMember) (o : Option ℕ) (i : ℕ) → FreeAt table o → o ≡ Some i
-    → slot (put_by table m o) i ≡ Some m
-put_same table m z i f e = grind (arith, set_same)
-
 -- each stands at its number
 pub own : (key : WrittenMember → Option ℕ) (table : List (Option WrittenMember)) (ms : List WrittenMember) (m : WrittenMember) (i : ℕ)
     → AreFree key table ms → Has ms m → key m ≡ Some i → slot (put_all key table ms) i ≡ Some m
 own key table [] m i f h e = absurd h
-own key table (y ∷ ms) m i f (inl s) e =
-    let k : key y ≡ Some i = ap key (sym s) ∙ e in
-    kept key (put_by table y (key y)) ms i (each_of (λ x. key x ≡ Some i → ⊥) ms (λ x g. each_at (Differ key y) ms x f.1 g i k))
-    ∙ put_same table y (key y) i f.0 k ∙ ap Some (sym s)
+own key table (y ∷ ms) m i f (inl s) e = grind (arith, kept, each_of, each_at, set_same)
 own key table (y ∷ ms) m i f (inr h) e = own key (put_by table y (key y)) ms m i (free_put key table y ms (key y) refl f.1 f.2) h e
 
 held_by : (key : WrittenMember → Option ℕ) (table : List (Option WrittenMember)) (m : WrittenMember) (o : Option ℕ) (j : ℕ) (b : WrittenMember)
@@ -226,13 +215,10 @@ place_is at [] (suc n) = omega arith
 place_is at (s ∷ table) zero = omega arith
 place_is at (s ∷ table) (suc n) = grind (arith, size_is, place_is (at + size_if s) table n)
 
-length_put_by : (table : List (Option WrittenMember)) (m : WrittenMember) (o : Option ℕ) → length (put_by table m o) ≡ length table
-length_put_by table m z = grind (arith, length_set)
-
 length_put : (key : WrittenMember → Option ℕ) (table : List (Option WrittenMember)) (ms : List WrittenMember)
     → length (put_all key table ms) ≡ length table
 length_put key table [] = refl
-length_put key table (m ∷ ms) = length_put key (put_by table m (key m)) ms ∙ length_put_by table m (key m)
+length_put key table (m ∷ ms) = length_put key (put_by table m (key m)) ms ∙ (grind (arith, length_set))
 
 pub length_table : (key : WrittenMember → Option ℕ) (size : ℕ) (ms : List WrittenMember) → length (put_all key (replicate size None) ms) ≡ size
 length_table key size ms = length_put key (replicate size None) ms ∙ length_none size
