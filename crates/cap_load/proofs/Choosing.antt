@@ -90,9 +90,6 @@ unfolding counted_from
 stands_counted zero first tag = none_counted first tag
 stands_counted (suc n) first tag = ap (λ (b : Bool). (first == tag) || b) (stands_counted n (suc first) tag) ∙ one_counted first tag n
 
-some_cond : (b : Bool) (n : ℕ) → is_some (cond b (Some n) None) ≡ b
-some_cond x n = grind (arith)
-
 less : (a b : ℕ) → nat_lt (1 + a) (suc b) ≡ nat_lt a b
 less a b = grind (arith, nat_tests)
 
@@ -105,7 +102,7 @@ found [] tag = refl
 found (t ∷ ts) tag = found_by t tag ts (t == tag) refl (found ts tag)
 
 position_some : (ts : List ℕ) (tag : ℕ) → is_some (position (λ t. t == tag) ts) ≡ stands_in tag ts
-position_some ts tag = some_cond (nat_lt (position_or_len (λ t. t == tag) ts) (length ts)) (position_or_len (λ t. t == tag) ts) ∙ found ts tag
+position_some ts tag = grind (arith, length, found)
 
 place_by : (b : Bool) (tag : ℕ) → (stands_in tag components || b) ≡ is_some (if b then Some tag else position (λ t. t == tag) components)
 place_by true tag = or-true (stands_in tag components)
@@ -149,12 +146,9 @@ order_append : (ts us : List ℕ) → InOrder ts → InOrder us → AllByRecursi
 order_append [] us o p a = p
 order_append (t ∷ ts) us o p a = (o.0, all_append (λ u. comes_before t u ≡ true) ts us o.1 a.0, order_append ts us o.2 p a.1)
 
-is_custom : (tag : ℕ) → 128 ≤ tag → tag < 256 → (nat_le 128 tag && nat_lt tag 256) ≡ true
-is_custom tag h few = ap (λ (b : Bool). b && nat_lt tag 256) (le-leb 128 tag h) ∙ lt-ltb tag 256 few
-
 custom_place : (tag : ℕ) → 128 ≤ tag → tag < 256 → place tag ≡ Some tag
 unfolding place
-custom_place tag h few = ap (λ (b : Bool). if b then Some tag else position (λ t. t == tag) components) (is_custom tag h few)
+custom_place tag h few = grind (arith, le-leb, lt-ltb)
 
 customs_before : (t u : ℕ) → 128 ≤ t → t < u → u < 256 → comes_before t u ≡ true
 unfolding comes_before

@@ -1,5 +1,5 @@
 -- What a loader that met no fault answers at the end.
-use Rattle.std.proofs.Common.{◌≡◌, ℕ, ◌+◌, List, [], ◌∷◌, ◌++◌, Option, None, Result, Ok, Err, sym, ap}
+use Rattle.std.proofs.Common.{◌≡◌, ℕ, List, [], ◌∷◌, ◌++◌, Option, None, Result, Ok, Err, sym, ap}
 use Rattle.std.proofs.Common.{subst, ◌∙◌, arith}
 use Rattle.std.proofs.lemmas.List.{append-nil}
 use Rattle.std.specs.List.{AllByRecursion, concat}
@@ -8,14 +8,13 @@ use Rattle.cap_load.specs.declared.fault.StreamFault.{StreamFault}
 use Rattle.cap_load.specs.declared.fault.StreamFault.TheVariants.{Unfinished}
 use Rattle.cap_load.specs.declared.finish_end.FinishEnd.{FinishEnd}
 use Rattle.cap_load.specs.declared.finish_end.FinishEnd.TheVariants.{Fault, Memory}
-use Rattle.cap_load.specs.declared.component.Next.{Next}
 use Rattle.cap_load.specs.declared.component.Next.TheVariants.{Tag}
 use Rattle.cap_load.specs.declared.component.Reading.{Reading}
 use Rattle.cap_load.specs.declared.block.Block.{Block}
 use Rattle.cap_load.specs.declared.block.Block.TheVariants.{Left, Ended}
-use Rattle.cap_load.specs.LoadFile.{IsBlock, in_blocks, stream_of, files_of, IsLoadFileWithin}
+use Rattle.cap_load.specs.LoadFile.{IsBlock, stream_of, files_of, IsLoadFileWithin}
 use Rattle.cap_load.specs.Fault.{HasEnded, IsUnfinished, IsFirst, IsRefused}
-use Rattle.cap_load.specs.Loaded.{Loaded, IsNext, IsFront, IsRead, StandsBy, StandsFor}
+use Rattle.cap_load.specs.Loaded.{Loaded, IsFront, IsRead, StandsBy, StandsFor}
 use Rattle.cap_load.specs.Finishing.{Finishes, Gives}
 use Rattle.cap_load.proofs.Splits.{one_split, files_split}
 use Rattle.cap_load.proofs.Fronts.{not_ended}
@@ -25,13 +24,6 @@ use Rattle.cap_load.proofs.Streams.{one_list, not_both}
 stands_by : (loaded : Loaded) (bytes : List ℕ) (fault : Option StreamFault) → loaded.fault ≡ fault → StandsFor loaded bytes
     → StandsBy fault loaded bytes
 stands_by loaded bytes fault e s = subst (λ (o : Option StreamFault). StandsBy o loaded bytes) e s
-
--- behind the ending stands nothing
-joined_whole : (bytes contents : List ℕ) (f : IsFront Ended bytes contents) → contents ≡ concat f.blocks
-joined_whole bytes contents f = f.joined ∙ ap (λ (x : List ℕ). concat f.blocks ++ x) f.left.1 ∙ append-nil (concat f.blocks)
-
-stream_whole : (bytes contents : List ℕ) (f : IsFront Ended bytes contents) → bytes ≡ stream_of f.blocks
-stream_whole bytes contents f = f.whole ∙ ap (λ (x : List ℕ). in_blocks f.blocks ++ x) f.left.0
 
 -- a stream has an ending
 stream_ended : (bytes : List ℕ) (blocks : List (List ℕ)) → AllByRecursion IsBlock blocks → bytes ≡ stream_of blocks → HasEnded bytes
@@ -47,13 +39,10 @@ cut : (bytes contents : List ℕ) (reading : Reading) → IsFront Ended bytes co
     → IsUnfinished bytes
 cut bytes contents reading f r some blocks parts each files whole joined =
     let split = one_split f.blocks blocks (0 ∷ []) (0 ∷ []) f.each each (λ h. absurd (omega arith)) (λ h. absurd (omega arith))
-    (sym (stream_whole bytes contents f) ∙ whole) in
+    (sym (grind (arith)) ∙ whole) in
     let same : files_of parts ++ [] ≡ files_of r.files ++ r.tail =
-    append-nil (files_of parts) ∙ sym joined ∙ ap concat (sym split.0) ∙ sym (joined_whole bytes contents f) ∙ r.whole in
+    append-nil (files_of parts) ∙ sym joined ∙ ap concat (sym split.0) ∙ sym (grind (arith, append-nil)) ∙ r.whole in
     some (sym (files_split parts r.files [] r.tail files r.each (tt {0}) (tail_is reading.next r.tail r.next) same).1)
-
-tail_some : (next : Next) (tail : List ℕ) → IsNext next tail → (next ≡ Tag → ⊥) → tail ≡ [] → ⊥
-tail_some x tail n h e = grind (arith)
 
 pub ends_cut : (loaded : Loaded) → loaded.fault ≡ None → loaded.block ≡ Ended → IsRead loaded.contents loaded.reading
     → (loaded.reading.next ≡ Tag → ⊥)
@@ -61,7 +50,7 @@ pub ends_cut : (loaded : Loaded) → loaded.fault ≡ None → loaded.block ≡ 
 ends_cut loaded e b r h bytes s =
     let stands = stands_by loaded bytes None e s in
     let front : IsFront Ended bytes loaded.contents = subst (λ (at : Block). IsFront at bytes loaded.contents) b stands.1 in
-    (stands.0, cut bytes loaded.contents loaded.reading front r (tail_some loaded.reading.next r.tail r.next h))
+    (stands.0, cut bytes loaded.contents loaded.reading front r (grind (arith)))
 
 first_refused : (room : ℕ) (bytes : List ℕ) (fault : StreamFault) → IsFirst room bytes fault → IsRefused room bytes fault
 first_refused room bytes z f = grind (arith)

@@ -1,10 +1,10 @@
 -- A file that its frame reads is a component's, where it is of bytes.
 use Rattle.std.proofs.Common.{◌≡◌, ℕ, suc, ◌+◌, ◌*◌, ◌-◌, ◌/◌, ◌%◌, ◌<◌, ◌≤◌, Bool, true, false, List, [], ◌∷◌}
-use Rattle.std.proofs.Common.{◌++◌, length, get_or, Option, Some, None, IsSome, cond, refl, sym, ap, subst, ◌∙◌, arith, length-append}
+use Rattle.std.proofs.Common.{◌++◌, length, get_or, Option, Some, None, IsSome, cond, refl, ap, subst, ◌∙◌, arith, length-append}
 use Rattle.std.proofs.Common.{if◌then◌else◌}
 use Rattle.std.proofs.lemmas.List.{get_or-append_right}
 use Rattle.std.proofs.lemmas.Bool.{eqb-true}
-use Rattle.std.specs.Prelude.{◌==◌, nat_le}
+use Rattle.std.specs.Prelude.{◌==◌}
 use Rattle.std.specs.List.{AllByRecursion}
 use Rattle.cap_bytes.specs.declared.fault.FormKind.TheVariants.{WrongTag}
 use Rattle.cap_bytes.specs.Number.{number_at}
@@ -30,9 +30,6 @@ headed : (tag : ℕ) (bytes info : List ℕ) → Stands (component tag) bytes in
 unfolding Stands Spells
 headed tag bytes info s = grind (arith)
 
-some_value : (b : Bool) (v x : ℕ) → (if b then Some v else None) ≡ Some x → (b ≡ true) × (v ≡ x)
-some_value x v x2 e = grind (arith)
-
 same_tag : (tag head : ℕ) → other_tag tag head ≡ None → head / 65536 ≡ tag
 same_tag tag head e = by (head / 65536 == tag) refl
   where
@@ -54,23 +51,7 @@ cells_of : (tag : ℕ) (bytes : List ℕ) → Headed tag bytes → Cells tag byt
 cells_of tag [] h = absurd (let long = h.long in omega arith)
 cells_of tag (a ∷ []) h = absurd (let long = h.long in omega arith)
 cells_of tag (a ∷ b ∷ []) h = absurd (let long = h.long in omega arith)
-cells_of tag (a ∷ b ∷ c ∷ info) h =
-    let bytes : List ℕ = a ∷ b ∷ c ∷ info in
-    let there : (if nat_le (0 + 3) (length bytes) then Some (a * 65536 + (b * 256 + (c * 1 + 0))) else None) ≡ Some h.head = h.there in
-    let value : a * 65536 + (b * 256 + (c * 1 + 0))
-    ≡ h.head = (some_value (nat_le (0 + 3) (length bytes)) (a * 65536 + (b * 256 + (c * 1 + 0))) h.head there).1 in
-    let sum : a * 65536 + b * 256 + c ≡ h.head = omega arith in
-    let long = h.long in
-    let size : length info ≡ h.head % 65536 = omega arith in
-    record {
-      first = a;
-      high = b;
-      low = c;
-      info = info;
-      whole = refl;
-      tagged = ap (λ (n : ℕ). n / 65536) sum ∙ same_tag tag h.head h.tagged;
-      size = size ∙ ap (λ (n : ℕ). n % 65536) (sym sum);
-    }
+cells_of tag (a ∷ b ∷ c ∷ info) h = grind (arith, length, same_tag)
 
 cells : (lent : Lent) → HasFrame lent → Cells lent.part lent.bytes
 cells lent f = cells_of lent.part lent.bytes (headed lent.part lent.bytes f.0 f.1)

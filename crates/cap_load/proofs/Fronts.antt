@@ -19,13 +19,9 @@ use Rattle.cap_load.proofs.Orders.{all_push}
 rest_is : (at : Block) (rest got : List ℕ) → IsLeft at rest got → IsRest rest
 rest_is x rest got l = grind (arith)
 
-goes_by : (n : ℕ) (blocks : List (List ℕ)) (rest got bytes contents : List ℕ) → AllByRecursion IsBlock blocks → bytes ≡ in_blocks blocks ++ rest
-    → contents ≡ concat blocks ++ got → IsLeft (Left n) rest got → 0 < n → GoesOn bytes contents
-goes_by n blocks z got bytes contents each whole joined l h = grind (arith)
-
 -- in a block the next byte is one of the contents
 pub goes_on : (n : ℕ) (bytes contents : List ℕ) → IsFront (Left n) bytes contents → 0 < n → GoesOn bytes contents
-goes_on n bytes contents f h = goes_by n f.blocks f.rest f.got bytes contents f.each f.whole f.joined f.left h
+goes_on n bytes contents f h = grind (arith)
 
 -- between blocks, or after the ending
 abbrev pub IsIdle : Block → Type 0

@@ -1,10 +1,10 @@
 -- Tags in order.
-use Rattle.std.proofs.Common.{◌≡◌, ℕ, ◌+◌, Bool, true, false, List, [], ◌∷◌, ◌++◌, Option, Some, None, IsSome, is_none, refl, sym, ap}
+use Rattle.std.proofs.Common.{◌≡◌, ℕ, Bool, true, false, List, [], ◌∷◌, ◌++◌, Option, Some, None, IsSome, is_none, refl, sym, ap}
 use Rattle.std.proofs.Common.{subst, ◌∙◌, arith, if◌then◌else◌}
 use Rattle.std.proofs.lemmas.Bool.{ltb-true, lt-ltb}
 use Rattle.std.specs.List.{AllByRecursion}
 use Rattle.cap_load.specs.declared.fault.StreamFault.TheVariants.{NoTag}
-use Rattle.cap_load.specs.Order.{place, is_below, comes_before, InOrder}
+use Rattle.cap_load.specs.Order.{place, comes_before, InOrder}
 use Rattle.cap_load.specs.Loaded.{IsLast}
 use Rattle.cap_load.specs.Reading.{tag_fault, order_fault}
 
@@ -16,19 +16,13 @@ pub all_last : {X : Type 0} (P : X → Type 0) (xs : List X) (x : X) → AllByRe
 all_last P [] x a = a.0
 all_last P (y ∷ ys) x a = all_last P ys x a.1
 
-below_through : (p q r : Option ℕ) → is_below p q ≡ true → is_below q r ≡ true → is_below p r ≡ true
-below_through x q r h k = grind (arith, lt-ltb, ltb-true)
-
 pub before_through : (a b c : ℕ) → comes_before a b ≡ true → comes_before b c ≡ true → comes_before a c ≡ true
 unfolding comes_before
-before_through a b c h k = below_through (place a) (place b) (place c) h k
-
-below_placed : (p q : Option ℕ) → is_below p q ≡ true → IsSome q
-below_placed x q h = grind (arith)
+before_through a b c h k = grind (arith, lt-ltb, ltb-true)
 
 before_placed : (a b : ℕ) → comes_before a b ≡ true → IsSome (place b)
 unfolding comes_before
-before_placed a b h = below_placed (place a) (place b) h
+before_placed a b h = grind (arith)
 
 -- a tag after the last of tags in order
 order_push : (front : List ℕ) (a b : ℕ) → InOrder (front ++ a ∷ []) → comes_before a b ≡ true → InOrder ((front ++ a ∷ []) ++ b ∷ [])

@@ -1,5 +1,5 @@
 -- A loader with one byte more stands for its bytes and that one.
-use Rattle.std.proofs.Common.{◌≡◌, ℕ, ◌+◌, ◌-◌, ◌<◌, ◌≤◌, List, [], ◌∷◌, ◌++◌, length, take, drop, get_or, Option, Some}
+use Rattle.std.proofs.Common.{◌≡◌, ℕ, ◌+◌, ◌<◌, ◌≤◌, List, [], ◌∷◌, ◌++◌, length, take, drop, get_or, Option, Some}
 use Rattle.std.proofs.Common.{None, refl, sym, ap, subst, ◌∙◌, arith, length-append, append_assoc}
 use Rattle.std.proofs.lemmas.Bool.{eqb-true, eqb-false, cond_both}
 use Rattle.std.proofs.lemmas.List.{take-append-drop, take_more}
@@ -9,7 +9,7 @@ use Rattle.cap_load.specs.declared.block.Block.{Block}
 use Rattle.cap_load.specs.declared.block.Block.TheVariants.{Left}
 use Rattle.cap_load.specs.Fault.{number, Shows, Faultless, IsFirst}
 use Rattle.cap_load.specs.Loaded.{Loaded, IsFront, IsRead, StandsBy, StandsFor}
-use Rattle.cap_load.specs.Taking.{fault_by, moved_by, taken_by, taken_after, taken}
+use Rattle.cap_load.specs.Taking.{fault_by, moved_by, taken_by, taken}
 use Rattle.cap_load.proofs.Faults.{behind, before, same, places}
 use Rattle.cap_load.proofs.Fronts.{front_open, front_more}
 use Rattle.cap_load.proofs.Shown.{Finds, finds}
@@ -30,11 +30,6 @@ faultless_more room bytes byte none here front after b fault e shown =
       | same h k ↦ here fault (subst (λ (x : List ℕ). Shows room x byte fault) (sym h) (subst (λ (x : ℕ). Shows room front x fault) (sym k) shown))
     ]
 
--- nothing is shown where nothing is found
-not_shown : (room : ℕ) (bytes : List ℕ) (byte : ℕ) (found : Option StreamFault) → Finds room bytes byte found → found ≡ None
-    → (fault : StreamFault) → Shows room bytes byte fault → ⊥
-not_shown room bytes byte found f e fault shown = let there = (f.least fault shown).1 in absurd (cc)
-
 found_first : (room : ℕ) (bytes : List ℕ) (byte : ℕ) (fault : StreamFault) → Faultless room bytes → Finds room bytes byte (Some fault)
     → IsFirst room (bytes ++ byte ∷ []) fault
 found_first room bytes byte fault none f = record {
@@ -53,10 +48,6 @@ found_first room bytes byte fault none f = record {
         let is : found.0 ≡ fault = let e = found.1 in cc in
         subst (λ (g : StreamFault). number g ≤ number other) is found.2
 
-front_moved : (n : ℕ) (loaded : Loaded) (bytes : List ℕ) (byte : ℕ) → IsFront (Left n) bytes loaded.contents → byte < 256
-    → let moved : Loaded = moved_by (Left n) loaded byte in IsFront moved.block (bytes ++ byte ∷ []) moved.contents
-front_moved n loaded bytes byte f few = grind (arith, cond_both, front_open, eqb-true, eqb-false, front_more)
-
 kept_fault : (n : ℕ) (loaded : Loaded) (byte : ℕ) → let moved : Loaded =
     moved_by (Left n) loaded byte in (moved.fault ≡ loaded.fault) × (moved.room ≡ loaded.room)
 kept_fault n loaded byte = grind (arith, cond_both)
@@ -67,21 +58,17 @@ stands_at loaded bytes e none f = subst (λ (o : Option StreamFault). StandsBy o
 
 moved_stands : (at : Block) (loaded : Loaded) (bytes : List ℕ) (byte : ℕ) → loaded.fault ≡ None → byte < 256 → fault_by at loaded byte ≡ None
     → Faultless loaded.room (bytes ++ byte ∷ []) → IsFront at bytes loaded.contents → StandsFor (moved_by at loaded byte) (bytes ++ byte ∷ [])
-moved_stands x loaded bytes byte e few found none f = grind (arith, kept_fault, front_moved)
+moved_stands x loaded bytes byte e few found none f = grind (arith, kept_fault, cond_both, front_open, eqb-true, eqb-false, front_more)
 
 taken_by_stands : (found : Option StreamFault) (loaded : Loaded) (bytes : List ℕ) (byte : ℕ) → loaded.fault ≡ None → byte < 256
     → Faultless loaded.room bytes → IsFront loaded.block bytes loaded.contents → Finds loaded.room bytes byte found
     → fault_by loaded.block loaded byte ≡ found → StandsFor (taken_by found loaded byte) (bytes ++ byte ∷ [])
-taken_by_stands x loaded bytes byte e few none f s is = grind (arith, moved_stands, faultless_more, not_shown, found_first)
-
-taken_after_stands : (fault : Option StreamFault) (loaded : Loaded) (bytes : List ℕ) (byte : ℕ) → loaded.fault ≡ fault → byte < 256
-    → IsRead loaded.contents loaded.reading → StandsBy fault loaded bytes → StandsFor (taken_after fault loaded byte) (bytes ++ byte ∷ [])
-taken_after_stands x loaded bytes byte e few r s = grind (arith, taken_by_stands, finds, first_more)
+taken_by_stands x loaded bytes byte e few none f s is = grind (arith, moved_stands, faultless_more, found_first)
 
 pub taken_stands : (loaded : Loaded) (bytes : List ℕ) (byte : ℕ) → byte < 256 → IsRead loaded.contents loaded.reading → StandsFor loaded bytes
     → StandsFor (taken loaded byte) (bytes ++ byte ∷ [])
 unfolding taken
-taken_stands loaded bytes byte few r s = taken_after_stands loaded.fault loaded bytes byte refl few r s
+taken_stands loaded bytes byte few r s = grind (arith, taken_by_stands, finds, first_more)
 
 -- ---- pieces
 
@@ -110,19 +97,9 @@ piece_end new bytes piece i fault e s =
     append_assoc bytes (take i piece) (drop i piece) ∙ ap (λ (x : List ℕ). bytes ++ x) (take-append-drop i piece) in
     subst (λ (x : List ℕ). StandsFor new x) regrouped (stands_on new (bytes ++ take i piece) (drop i piece) fault e s)
 
-moved_room : (at : Block) (loaded : Loaded) (byte : ℕ) → (let moved : Loaded = moved_by at loaded byte in moved.room) ≡ loaded.room
-moved_room x loaded byte = grind (arith, kept_fault)
-
-taken_by_room : (found : Option StreamFault) (loaded : Loaded) (byte : ℕ) → (let after : Loaded = taken_by found loaded byte in after.room) ≡ loaded.room
-taken_by_room x loaded byte = grind (arith, moved_room)
-
-taken_after_room : (fault : Option StreamFault) (loaded : Loaded) (byte : ℕ) → (let after : Loaded = taken_after fault loaded byte in after.room)
-    ≡ loaded.room
-taken_after_room x loaded byte = grind (arith, taken_by_room)
-
 pub taken_room : (loaded : Loaded) (byte : ℕ) → (taken loaded byte).room ≡ loaded.room
 unfolding taken
-taken_room loaded byte = taken_after_room loaded.fault loaded byte
+taken_room loaded byte = grind (arith, kept_fault)
 
 -- a loader that took nothing
 nothing_shown : (room : ℕ) → Faultless room []
