@@ -44,11 +44,6 @@ use Rattle.law_alike.proofs.Views.{View, same_op, new_ops, load_ops, store_ops, 
 
 -- ---- tests that are passed
 
-picked :
-    {X : Type 0} (x y z : X) (a b c : Bool) → (if a then Some x else if b then Some y else if c then None else Some z) ≡ None → c
-    ≡ true
-picked x y z u b c h = grind (arith)
-
 pub first-passed : {X : Type 0} (x y z : X) (a b c : Bool) → (if a then Some x else if b then Some y else if c then None else Some z) ≡ None → a ≡ false
 first-passed x y z u b c h = grind (arith)
 
@@ -71,7 +66,7 @@ module _ (w : Linked) (world : IsWorld w) where
       (f : Frame Cell) (below : List (Frame Cell)) (heap : List (Object Cell)) (statics : List Cell) (op : Operation)
       → fault_before tagged w op (record { frames = f ∷ below; heap = heap; statics = statics }) ≡ None
       → SatisfiesAll w.classes (types_of_frame w.classes Bottom (map (λ (o : Object Cell). o.kind) heap) f) (demands w op)
-  passed-asks f below heap statics op h = grind (arith, tests-hold, picked)
+  passed-asks f below heap statics op h = grind (arith, tests-hold)
 
 -- ---- another stack
 

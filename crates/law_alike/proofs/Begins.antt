@@ -15,14 +15,9 @@ use Rattle.law_alike.specs.Starting.{StartsRefuseAlike, MethodsAreNumberedAlike}
 fault-apart : (w : Linked) (args : List Argument) (o : Option MethodRec) → entry_fault w args (option_map apart_from_code o) ≡ entry_fault w args o
 fault-apart w args z = grind (arith)
 
--- nor in anything of the world but its classes and arrays
-fault-of : (v w : Linked) (args : List Argument) (o : Option MethodRec) → entry_fault (record v { classes = w.classes; arrays = w.arrays }) args o
-    ≡ entry_fault w args o
-fault-of v w args u = grind (arith)
-
 fault-same : (v w : Linked) (args : List Argument) (o : Option MethodRec) → v.classes ≡ w.classes → v.arrays ≡ w.arrays
     → entry_fault v args o ≡ entry_fault w args o
-fault-same v w args o classes arrays = grind (arith, fault-of)
+fault-same v w args o classes arrays = grind (arith)
 
 pub starts-refuse-alike : (v : Linked) → StartsRefuseAlike v
 starts-refuse-alike v w entry args same =

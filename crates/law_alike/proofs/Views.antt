@@ -52,16 +52,10 @@ view f ops.Throw _ equal = same_op ops.Throw tt
 view f (ops.TypeTest test ty) _ equal = same_op (ops.TypeTest test ty) tt
 view f (ops.Return result) _ equal = same_op (ops.Return result) tt
 
--- what is sound at a place is sound at the other
-sound-elsewhere :
-    (w : Linked) (m : MethodRec) (f : ℕ → ℕ) (place : ℕ) (op : Operation) → IsNoNew op → IsSound w m place op
-    → IsSound w m (f place) op
-sound-elsewhere w m f place v n h = grind (arith)
-
 pub sound-view :
     (w : Linked) (m : MethodRec) (f : ℕ → ℕ) (place : ℕ) (a b : Operation) → View f a b → IsSound w m place a
     → IsSound w m (f place) b
-sound-view w m f place _ _ (same_op op n) h = sound-elsewhere w m f place op n h
+sound-view w m f place _ _ (same_op op n) h = grind (arith)
 sound-view w m f place _ _ (new_ops p class) h = (ap f h.0, h.1)
 sound-view w m f place _ _ (load_ops _ x y) h = tt
 sound-view w m f place _ _ (store_ops _ x y) h = tt
