@@ -5,7 +5,7 @@ use Rattle.std.specs.Prelude.{Option, Some, None, flat_map, slice_get}
 use Rattle.std.proofs.lemmas.Bool.{cases_lt}
 use Rattle.std.proofs.lemmas.List.Concat.{flat_map-cons}
 use Rattle.jc_base.specs.declared.ty.Ty.{Ty}
-use Rattle.jc_base.specs.declared.ty.Ty.TheVariants.{Short, IntHigh}
+use Rattle.jc_base.specs.declared.ty.Ty.TheVariants.{Short}
 use Rattle.jc_base.specs.declared.record.MethodRec.{MethodRec}
 use Rattle.jc_base.specs.Each.{Each}
 use Rattle.jc_base.specs.Laws.{SameTypeDecides}
@@ -54,14 +54,8 @@ letter-is ty = grind (arith)
 pub same-letter : (a b : Ty) → load_op a ≡ load_op b → letter_of a ≡ letter_of b
 same-letter a b e = letter-is a ∙ (ap letter_by e ∙ sym (letter-is b))
 
-short-letter : (b : Ty) → letter_of b ≡ sorts.Short → b ≡ Short
-short-letter b e = grind (arith)
-
-int-letter : (b : Ty) → letter_of b ≡ sorts.Int → b ≡ IntHigh
-int-letter b e = grind (arith)
-
 by-letter : (a b : Ty) → letter_of b ≡ letter_of a → (b ≡ a) ⊎ (letter_of a ≡ sorts.Reference)
-by-letter a b e = grind (arith, short-letter, int-letter)
+by-letter a b e = grind (arith)
 
 -- only references have homes of several types
 pub same-or-reference : (a b : Ty) → load_op a ≡ load_op b → (b ≡ a) ⊎ (letter_of a ≡ sorts.Reference)

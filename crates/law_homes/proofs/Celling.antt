@@ -29,7 +29,6 @@ use Rattle.law_homes.specs.Moves.{letter_of, InstructionsStandFrom, IsAtStep}
 use Rattle.law_homes.proofs.Beside.{each-among, among-each, own, register-inside, register-small}
 use Rattle.law_homes.proofs.Beside.{cells-valued, held-as, placed-state}
 use Rattle.law_homes.specs.Premises.{AreMoveLaws}
-use Rattle.law_homes.proofs.Valued.{asked_types, CellsAt}
 use Rattle.law_homes.proofs.Carrying.{same-letter, same-or-reference, ArePairs, no_pairs, more_pairs, cells-run}
 use Rattle.law_homes.proofs.Edging.{home-same}
 use Rattle.jc_base.proofs.Lists.{slice_get-left}

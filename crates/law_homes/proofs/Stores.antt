@@ -222,10 +222,6 @@ module _ (t : ClassTable) (ks : List ObjectKind) where
     high-is : (c : Cell) → IsCellOf t ks IntHigh c → least_type t Bottom ks c ≡ IntHigh
     high-is c is = is-high t types_are (least_type t Bottom ks c) is.1 (filled-full c is.0)
 
-pub local-cells : (w : Linked) (t : State Cell) (letter : Sort) (x : ℕ) (f : Frame Cell) → HasLocal w t letter x f
-    → CellsAt w.classes (kinds t) f.registers x (asked_types w.classes letter)
-local-cells w t z x f is = grind (arith, back-at)
-
 copies-insns : (s : Source) (h : Home) (ks : List Home) → insns (flat_map (copy s h) ks) ≡ flat_map (copy_of s h) ks
 copies-insns s h [] = refl
 copies-insns s h (k ∷ ks) = grind (arith, flat_map-cons, insns-append, copies-insns s h ks)
@@ -307,7 +303,7 @@ module _ (v w : Linked) (l : AreMoveLaws v w) (place : ℕ → ℕ) (steps : Lis
     t = record { frames = g ∷ below; heap = heap; statics = statics }
 
     value : CellsAt w.classes (kinds t) f.registers x (asked_types w.classes letter)
-    value = local-cells w t letter x f local
+    value = grind (arith, back-at)
 
     fits : size letter + length stack ≤ max_stack_of w g.method
     fits = by letter (ap length stack_is)
