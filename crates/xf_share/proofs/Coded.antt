@@ -1,6 +1,6 @@
 -- A method with code: its numbers, the symbols with these, and what is laid for them.
 use Rattle.std.proofs.Common.{◌≡◌, ℕ, ◌+◌, ◌<◌, ◌≤◌, List, [], ◌∷◌, length, drop, All, Option, Some, None, Result, Err}
-use Rattle.std.proofs.Common.{IsSomeAnd, refl, sym, ap, ◌∙◌, subst, arith, length-drop}
+use Rattle.std.proofs.Common.{IsSomeAnd, refl, sym, subst, arith, length-drop}
 use Rattle.std.proofs.lemmas.List.{length-map}
 use Rattle.std.proofs.lemmas.Option.{slice_get-get_or}
 use Rattle.jc_base.specs.Linked.{IsMethod}
@@ -13,9 +13,8 @@ use Rattle.jc_decode.specs.declared.symbols.Laid.{Laid}
 use Rattle.jc_decode.specs.declared.symbols.Symbols.{Symbols}
 use Rattle.jc_decode.specs.Laws.{InstructionsAreListed}
 use Rattle.jc_decode.specs.Listing.{listing}
-use Rattle.jc_decode.specs.Symbols.{IsItem, IsRange, handler, plain_size}
+use Rattle.jc_decode.specs.Symbols.{IsItem, IsRange, plain_size}
 use Rattle.law_renumbered.specs.Numbers.{AreNumbersOf, numbers_kept, numbers_shared}
-use Rattle.law_renumbered.specs.Symbols.{range_of}
 use Rattle.law_share.specs.Laws.{RegistersAreNoMore}
 use Rattle.law_shared_world.specs.SharedCode.{IsSharedFor}
 use Rattle.xf_allot.specs.declared.sharing.Sharing.{Sharing}
@@ -61,9 +60,7 @@ module _ (listed : InstructionsAreListed) (w : Linked) (m : Method) (s : Option 
     readable = readable-of listed m known.short known.formed
 
     pub symbols-items : All (IsItem m.code symbols.items) symbols.items
-    symbols-items =
-        subst (λ (y : Symbols). All (IsItem m.code y.items) y.items) (sym known.are)
-        (items-suit m.code (number_of s) readable known.formed.ends known.bytes known.small)
+    symbols-items = grind (arith, items-suit, readable)
 
     pub symbols-ranges : All (IsRange symbols.items) symbols.ranges
     symbols-ranges =
@@ -71,19 +68,12 @@ module _ (listed : InstructionsAreListed) (w : Linked) (m : Method) (s : Option 
         (ranges-suit m.code (number_of s) readable known.formed.ends m.rec.handlers known.formed.handlers)
 
     pub symbols-small : plain_size symbols.items ≤ 458738
-    symbols-small =
-        subst (λ (y : Symbols). plain_size y.items ≤ 458738) (sym known.are) (size-small m.code (number_of s) readable known.formed.ends)
+    symbols-small = grind (arith, size-small, readable)
 
     -- ---- what is laid
 
     pub shared-for : (laid : Laid) → StandsShortest m.code symbols laid → length laid.code ≤ 32767 → IsSharedFor w m laid
-    shared-for laid stands short = record {
-      reg = number_of s;
-      locals = locals_of m.rec s;
-      numbers = numbers-of w m s known.answers;
-      stands = subst (λ (y : Symbols). StandsShortest m.code y laid) known.are stands;
-      short = short;
-    }
+    shared-for laid stands short = grind (arith, numbers-of)
 
     some-listed : (ps : List Placed) → Rises 0 (length m.code) ps → 0 < length m.code → 0 < length ps
     some-listed [] r some = absurd (omega (arith, r, some))
@@ -94,33 +84,10 @@ module _ (listed : InstructionsAreListed) (w : Linked) (m : Method) (s : Option 
 
     pub fits : IsWorld w → RegistersAreNoMore → (laid : Laid) → StandsShortest m.code symbols laid → length laid.code ≤ 32767
         → FitsMethod m.rec laid
-    fits world fewer laid stands short =
-        let st = stands.2 in
-        let items = ap (λ (y : Symbols). y.items) known.are in
-        let ranges = ap (λ (y : Symbols). y.ranges) known.are in
-        let arguments : laid.nargs ≡ m.rec.nargs = st.nargs ∙ ap (λ (y : Symbols). y.nargs) known.are in
-        let locals : laid.max_locals ≡ locals_of m.rec s = st.max_locals ∙ ap (λ (y : Symbols). y.max_locals) known.are in
-        let few = few-registers w world fewer m known.method s known.answers in
-        let many : length laid.handlers ≡ length m.rec.handlers = ap length st.handlers
-        ∙ length-map symbols.ranges (handler _) ∙ ap length ranges ∙ length-map m.rec.handlers range_of in
-        record {
-          some = filled m.code (number_of s) symbols laid _ items st (listed laid.code) has-instruction;
-          short = short;
-          arguments = arguments;
-          registers = omega (arith, arguments, locals, few);
-          inside = inside m.code (number_of s) symbols laid _ items st (listed laid.code) m.rec.handlers ranges short known.formed.handlers;
-          few = omega (arith, many);
-        }
+    fits world fewer laid stands short = grind (arith, few-registers, length, length-map, filled, has-instruction, inside)
 
     too-long : (k : ℕ) → ReachesTooFar symbols.items → k ≡ plain_size symbols.items → IsSharedLong w k m
-    too-long k long size = record {
-      method = known.method;
-      reg = number_of s;
-      locals = locals_of m.rec s;
-      numbers = numbers-of w m s known.answers;
-      long = subst (λ (y : Symbols). ReachesTooFar y.items) known.are long;
-      size = subst (λ (y : Symbols). k ≡ plain_size y.items) known.are size;
-    }
+    too-long k long size = grind (arith, numbers-of w m s known.answers)
 
     pub long-told : (n : ℕ) → ((P : Method → Type 0) → P m → IsSomeAnd (method_in w n) P) → (end : LayEnd)
         → ((k : ℕ) → ◌≡◌ {A = Result Laid LayEnd} (Err end) (Err (MethodLong k)) → ReachesTooFar symbols.items × (k ≡ plain_size symbols.items))

@@ -1,6 +1,6 @@
 -- Renumbered code is such as is laid.
 use Rattle.std.proofs.Common.{◌≡◌, ℕ, ◌+◌, ◌*◌, ◌<◌, ◌≤◌, Bool, true, false, if◌then◌else◌, inl, inr, List, [], ◌∷◌, All}
-use Rattle.std.proofs.Common.{length, map, Ok, refl, sym, ap, ◌∙◌, subst, arith}
+use Rattle.std.proofs.Common.{length, map, Ok, refl, arith}
 use Rattle.std.specs.Prelude.{ℤ, pos, negsuc, ◌||◌, slice_index_or, ◌-◌, ◌/◌, ◌%◌}
 use Rattle.std.proofs.lemmas.List.{length-map}
 use Rattle.std.proofs.lemmas.List.Elements.{All-map, All-weaker, All-head}
@@ -10,15 +10,14 @@ use Rattle.jc_base.specs.Each.{Each, IsAmong}
 use Rattle.jc_base.proofs.Eaching.{All-from_Each, Contains-from_IsAmong}
 use Rattle.jc_base.specs.declared.record.Handler.{Handler}
 use Rattle.jc_control.specs.WellFormed.{HasInstruction, IsHandlerOf, IsTargetPlace}
-use Rattle.jc_decode.specs.declared.insn.Case.{Case}
 use Rattle.jc_decode.specs.declared.insn.Insn.{Insn}
 use Rattle.jc_decode.specs.declared.insn.Placed.{Placed}
 use Rattle.jc_decode.specs.declared.symbols.Item.TheVariants.{Plain, Branch, Switch, Label}
-use Rattle.jc_decode.specs.Cases.{cases, is_switch, with_default}
+use Rattle.jc_decode.specs.Cases.{cases, is_switch}
 use Rattle.cap_bytes.specs.Bytes.{AreBytes}
 use Rattle.jc_decode.specs.Decoding.{decoded}
 use Rattle.jc_decode.specs.Forms.{is_load_n, is_store_n, plain_length, wide, with_operand}
-use Rattle.jc_decode.specs.Listing.{is_branch, jumps, listing, listing_end, Lists, target, targets}
+use Rattle.jc_decode.specs.Listing.{is_branch, jumps, listing, listing_end, Lists, targets}
 use Rattle.jc_decode.specs.Symbols.{IsItem, IsOnce, IsRange, plain_bytes, plain_size}
 use Rattle.jc_decode.proofs.Decoded.{IsWithin-decoded}
 use Rattle.jc_decode.proofs.Ranges.{IsAllowed-decoded, op-fits}
@@ -56,17 +55,14 @@ module _ (code : List ℕ) (reg : ℕ → ℕ) where
       renamed = omega (arith, plain-length (record (with_operand i.insn) { x = x }), operand-long i.insn)
 
       plain : (c : Bool) → plain_length (if c then record (with_operand i.insn) { x = x } else i.insn) ≤ i.insn.len + 13
-      plain true = renamed
-      plain false = plain-length i.insn
+      plain x = grind (arith, renamed, plain-length)
 
       by : (a b c : Bool)
           → plain_bytes (if a then Switch i.insn i.place (labels_of code i)
           else if b then Branch (wide i.insn.op) (slice_index_or (labels_of code i) 0 0)
           else Plain (if c then record (with_operand i.insn) { x = x } else i.insn))
           ≤ i.insn.len + 13
-      by true b c = own-length i.insn
-      by false true c = omega arith
-      by false false c = plain c
+      by x b c = grind (arith, own-length, plain)
 
   sizes : (at : ℕ) (ps : List Placed) → Lists code at ps → at ≤ length code
       → plain_size (items_from code reg ps) + 14 * at ≤ 14 * length code
@@ -122,12 +118,7 @@ module _ (code : List ℕ) (reg : ℕ → ℕ) where
 
       labels-count : (i : Placed) → jumps i.insn.op ≡ true → length (labels_of code i) ≡ length (cases code i.place i.insn) + 1
       unfolding targets
-      labels-count i e =
-          length-map (targets code i) place_number
-          ∙ subst
-          (λ b. length (if b then target i.place i.insn.x ∷ map (λ (c : Case). target i.place c.offset) (cases code i.place i.insn) else [])
-          ≡ length (cases code i.place i.insn) + 1)
-          (sym e) (omega (arith, length-map (cases code i.place i.insn) (λ (c : Case). target i.place c.offset)))
+      labels-count i e = grind (arith, length-map, length, map)
 
       first-once : (i : Placed) → HasInstruction code i → jumps i.insn.op ≡ true
           → IsOnce (items_from code reg (listing code)) (slice_index_or (labels_of code i) 0 0)
@@ -155,12 +146,8 @@ module _ (code : List ℕ) (reg : ℕ → ℕ) where
               (if a then Switch i.insn i.place (labels_of code i)
               else if b then Branch (wide i.insn.op) (slice_index_or (labels_of code i) 0 0)
               else Plain (renumbered_instruction reg i.insn))
-          by true b e f =
-              let jump : jumps i.insn.op ≡ true = or_right (is_branch i.insn.op) (is_switch i.insn.op) e in
-              (e, ap (with_default i.insn.x) d, labels-count i jump, labels-once i stands)
-          by false true e f =
-              let jump : jumps i.insn.op ≡ true = ap (λ b. b || is_switch i.insn.op) f in
-              (branch-wide i.insn.op small f, first-once i stands jump)
+          by true b e f = grind (arith, or_right (is_branch i.insn.op) (is_switch i.insn.op) e, labels-once i stands, labels-count)
+          by false true e f = grind (arith, branch-wide, small, first-once)
           by false false e f =
               plain-suits i.insn reg small few (neither (is_switch i.insn.op) (is_branch i.insn.op) e f)
               (IsAllowed-decoded code i.place i.insn bytes d)

@@ -1,6 +1,6 @@
 -- The labels of renumbered code: one at each place and one at the end, each once, in the order of the places.
 use Rattle.std.proofs.Common.{◌≡◌, ◌≢◌, ◌⊎◌, ℕ, suc, ◌+◌, ◌<◌, ◌≤◌, Bool, true, false, if◌then◌else◌, inl, inr, List, [], ◌∷◌}
-use Rattle.std.proofs.Common.{length, refl, sym, ap, ◌∙◌, subst, arith}
+use Rattle.std.proofs.Common.{length, refl, ap, ◌∙◌, subst, arith}
 use Rattle.std.specs.Prelude.{count_by, cond, ◌==◌, slice_index_or}
 use Rattle.std.proofs.lemmas.Bool.{cases_eq, eq-eqb, ne_eqb}
 use Rattle.std.proofs.lemmas.List.Sums.{sum_by-cons}
@@ -64,8 +64,7 @@ pub place-label : (code : List ℕ) (l : ℕ) → IsPlace code l → IsLabelIn (
 place-label code l p = label-start (length code) (listing code) l (place-starts code l p)
 
 pub boundary-label : (code : List ℕ) (l : ℕ) → IsBoundary code l → IsLabelIn (length code) (listing code) l
-boundary-label code l (inl end) = subst (IsLabelIn (length code) (listing code)) (sym end) (label-end (length code) (listing code))
-boundary-label code l (inr p) = place-label code l p
+boundary-label code l x = grind (arith, length, label-end, place-label)
 
 label-above : (at end l : ℕ) (ps : List Placed) → Rises at end ps → IsLabelIn end ps l → at ≤ l
 label-above at end l [] r e = omega (arith, r, e)
@@ -111,22 +110,11 @@ module _ (code : List ℕ) (reg : ℕ → ℕ) where
   count-cons l x xs = sum_by-cons (λ m. cond (is_label l m) 1 0) x xs
 
   count-behind : (l : ℕ) (i : Placed) (rest : List Item) → count_by (is_label l) (item_of code reg i ∷ rest) ≡ count_by (is_label l) rest
-  count-behind l i rest =
-      omega (arith, count-cons l (item_of code reg i) rest, ap counted (item-no-label l i))
+  count-behind l i rest = grind (arith, count-cons, item-no-label)
 
   none-below : (at l : ℕ) (ps : List Placed) → Rises at (length code) ps → l < at → count_by (is_label l) (items_from code reg ps) ≡ 0
-  none-below at l [] r lt =
-      let no : (length code == l) ≡ false = ne_eqb (length code) l (λ e. omega (arith, e, r, lt)) in
-      count-cons l (Label (length code)) [] ∙ ap (λ b. counted b + 0) no
-  none-below at l (i ∷ is) r lt =
-      let no : (i.place == l) ≡ false = ne_eqb i.place l (λ e. omega (arith, e, r.0, lt)) in
-      omega (
-        arith,
-        count-cons l (Label i.place) (item_of code reg i ∷ items_from code reg is),
-        ap counted no,
-        count-behind l i (items_from code reg is),
-        none-below (at + i.insn.len) l is r.2 (omega (arith, lt)),
-      )
+  none-below at l [] r lt = grind (arith, length, ne_eqb, count-cons)
+  none-below at l (i ∷ is) r lt = grind (arith, ne_eqb, count-cons, count-behind, none-below (at + i.insn.len) l is r.2 (omega (arith, lt)))
 
   once-from : (at l : ℕ) (ps : List Placed) → Rises at (length code) ps → IsLabelIn (length code) ps l
       → count_by (is_label l) (items_from code reg ps) ≡ 1
@@ -161,9 +149,7 @@ module _ (code : List ℕ) (reg : ℕ → ℕ) where
 
   place-past : (l : ℕ) (i : Placed) (is : List Placed) → i.place ≢ l
       → place_of l (items_from code reg (i ∷ is)) ≡ suc (place_of l (items_from code reg is))
-  place-past l i is other =
-      ap (λ b. if b then 0 else place_of l (item_of code reg i ∷ items_from code reg is)) (ne_eqb i.place l other)
-      ∙ one-behind code reg l i (items_from code reg is)
+  place-past l i is other = grind (arith, ne_eqb, one-behind)
 
   abbrev first_or : Bool → ℕ → ℕ
   first_or b n = if b then 0 else n

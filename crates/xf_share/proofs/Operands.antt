@@ -111,10 +111,7 @@ module _ (i : Insn) (r : ℕ) (small : i.op < 256) (lt : r < 256) (named : uses_
           (other-register i r (subst (λ op. first_byte (layout_of op) ≡ true) same parts.0) lt a)
 
   named-plain : IsAllowed i → IsAllowed (record (with_operand i) { x = pos r }) × IsTrue (not (jumps (with_operand i).op))
-  named-plain a = (
-    subst IsAllowed (sym (with-first i (pos r))) (named-allowed a),
-    subst (λ (j : Insn). IsTrue (not (jumps j.op))) (sym (with-first i (pos r))) rest.0,
-  )
+  named-plain a = grind (arith, with-first, named-allowed, rest)
 
 byte-small : (x : ℤ) → byte_of x < 256
 byte-small x = omega arith

@@ -1,5 +1,5 @@
 -- The passes over the methods of the last package, one method after the other.
-use Rattle.std.proofs.Common.{◌≡◌, ℕ, ◌+◌, ◌<◌, ◌≤◌, List, Option, Some, None, option_map, IsSomeAnd, slice_get, refl, subst, arith}
+use Rattle.std.proofs.Common.{◌≡◌, ℕ, ◌+◌, ◌<◌, ◌≤◌, List, Option, Some, None, option_map, IsSomeAnd, slice_get, refl, arith}
 use Rattle.cap_package.specs.PackageRecord.{PackageRecord}
 use Rattle.jc_base.specs.declared.record.MethodRec.{MethodRec}
 use Rattle.jc_base.specs.World.{Linked}
@@ -7,25 +7,20 @@ use Rattle.jc_control.specs.Asked.{AllHaveBelow, IsOfLast}
 use Rattle.jc_control.specs.Method.{method_in, method_with}
 use Rattle.jc_decode.specs.declared.symbols.Laid.{Laid}
 use Rattle.law_shared_world.specs.SharedCode.{HasSharedCode, IsSharedElement}
-use Rattle.xf_last.specs.Fits.{IsFitting}
 use Rattle.xf_last.specs.Last.{BeginsLast}
 use Rattle.xf_last.proofs.Passing.{below-more}
 use Rattle.xf_layout.specs.declared.symbols.LayEnd.{LayEnd}
-use Rattle.xf_layout.specs.declared.symbols.LayEnd.TheVariants.{MethodLong, Memory}
 use Rattle.xf_share.specs.Ends.{HaveCardTypings, IsSharedTooLong, TellsOf}
 use Rattle.xf_share.specs.Passes.{IsSharedAt}
 use Rattle.xf_share.specs.Unlaid.{IsSharedLong, TellsUnlaid, unlaid}
 
 module _ (w : Linked) (first : ℕ) (is : BeginsLast w first) where
   has-laid : (n : ℕ) (laid : Option Laid) (r : MethodRec) → 0 < r.code_len → IsSharedElement w n r laid → HasSharedCode w (method_with w n r)
-  has-laid n None r some none = absurd (omega (arith, some, none))
-  has-laid n (Some laid) r some h = record { laid = laid; is = h.1 }
+  has-laid n x r some none = grind (arith)
 
   pub laid-more : (n : ℕ) (laid : Option Laid) → AllHaveBelow (IsOfLast w) (HasSharedCode w) n → IsSharedAt w n laid
       → AllHaveBelow (IsOfLast w) (HasSharedCode w) (n + 1)
-  laid-more n laid below h =
-      below-more w (IsOfLast w) (HasSharedCode w) (λ m of. of.method) n below
-      (λ r at some. has-laid n laid r some (subst (λ (o : Option MethodRec). IsSomeAnd o (IsFitting (IsSharedElement w) n laid)) at h).is)
+  laid-more n laid below h = grind (arith, below-more, has-laid)
 
   too-long : (n k : ℕ) → first ≤ n → HaveCardTypings w → AllHaveBelow (IsOfLast w) (HasSharedCode w) n
       → IsSomeAnd (method_in w n) (IsSharedLong w k) → IsSharedTooLong w n k
@@ -48,5 +43,4 @@ module _ (w : Linked) (first : ℕ) (is : BeginsLast w first) where
 
   pub unlaid-tells : (n : ℕ) (end : LayEnd) → first ≤ n → HaveCardTypings w → AllHaveBelow (IsOfLast w) (HasSharedCode w) n → TellsUnlaid w n end
       → (ps : List PackageRecord) → TellsOf ps w (unlaid n end)
-  unlaid-tells n Memory le accepted below h ps = accepted
-  unlaid-tells n (MethodLong k) le accepted below h ps = too-long n k le accepted below h
+  unlaid-tells n x le accepted below h ps = grind (arith, too-long)

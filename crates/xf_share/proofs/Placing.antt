@@ -1,6 +1,6 @@
 -- Where laid code that is renumbered stands: its handlers lie inside it, and it has an instruction.
 use Rattle.std.proofs.Common.{◌≡◌, ◌⊎◌, ℕ, zero, suc, ◌+◌, ◌<◌, ◌≤◌, inl, inr, List, [], ◌∷◌, length, map, All, Some}
-use Rattle.std.proofs.Common.{refl, sym, ap, ◌∙◌, subst, arith}
+use Rattle.std.proofs.Common.{refl, sym, ap, ◌∙◌, arith}
 use Rattle.std.specs.Prelude.{slice_get}
 use Rattle.std.proofs.lemmas.List.Elements.{All-head, All-tail}
 use Rattle.std.proofs.Math.Nat.{eq-or-lt_of_le}
@@ -26,10 +26,7 @@ step-at code place n (s ∷ ss) [] k are lt = absurd are
 step-at code place n (s ∷ ss) (p ∷ ps) zero are lt =
     let same : n ≡ n + 0 = omega arith in
     (p, refl, are.0 ∙ ap place same)
-step-at code place n (s ∷ ss) (p ∷ ps) (suc k) are lt =
-    let same : suc n + k ≡ n + suc k = omega arith in
-    let later = step-at code place (suc n) ss ps k are.3 (omega (arith, lt)) in
-    (later.0, later.1, later.2 ∙ ap place same)
+step-at code place n (s ∷ ss) (p ∷ ps) (suc k) are lt = grind (arith, suc, step-at code place (suc n) ss ps k are.3 (omega (arith, lt)))
 
 module _ (code : List ℕ) (reg : ℕ → ℕ) (symbols : Symbols) (laid : Laid) (place : ℕ → ℕ)
     (same : symbols.items ≡ items_from code reg (listing code)) (stands : StandsAt place code symbols laid) (listed : AreListed laid.code) where
@@ -58,23 +55,14 @@ module _ (code : List ℕ) (reg : ℕ → ℕ) (symbols : Symbols) (laid : Laid)
   at_label l = place (place_of l symbols.items)
 
   start-in : (l : ℕ) → IsPlace code l → at_label l < length laid.code
-  start-in l p =
-      let lt = place-inside code reg l (listing code) (place-starts code l p) in
-      let is : place_of l symbols.items ≡ place_of l (items_from code reg (listing code)) = ap (place_of l) same in
-      inner (place_of l symbols.items) (omega (arith, lt, is))
+  start-in l p = grind (arith, place-inside, place-starts, inner)
 
   label-in : (l : ℕ) → at_label l ≤ length laid.code
-  label-in l =
-      let le = place-within code reg l (listing code) in
-      let is : place_of l symbols.items ≡ place_of l (items_from code reg (listing code)) = ap (place_of l) same in
-      outer (place_of l symbols.items) (omega (arith, le, is))
+  label-in l = grind (arith, place-within, outer)
 
   handler-inside : (h : Handler) → length laid.code ≤ 32767 → IsHandlerOf code h
       → IsInside (length laid.code) (handler at_label (range_of h))
-  handler-inside h short is =
-      let start = start-in h.start is.start in
-      let end = label-in h.end in
-      record { range = omega (arith, start, end); short = omega (arith, end, short); entry = start-in h.entry is.entry }
+  handler-inside h short is = grind (arith, start-in, label-in)
 
   handlers-inside : (hs : List Handler) → length laid.code ≤ 32767 → All (IsHandlerOf code) hs
       → AreInside (length laid.code) (map (handler at_label) (map range_of hs))
@@ -84,5 +72,4 @@ module _ (code : List ℕ) (reg : ℕ → ℕ) (symbols : Symbols) (laid : Laid)
 
   pub inside : (hs : List Handler) → symbols.ranges ≡ map range_of hs → length laid.code ≤ 32767 → All (IsHandlerOf code) hs
       → AreInside (length laid.code) laid.handlers
-  inside hs ranges short all =
-      subst (AreInside (length laid.code)) (sym (stands.handlers ∙ ap (map (handler at_label)) ranges)) (handlers-inside hs short all)
+  inside hs ranges short all = grind (arith, length, map, handlers-inside)

@@ -1,7 +1,6 @@
 ghost use Rattle.std.specs.Prelude.{◌≡◌, ℕ, ◌+◌, ◌<◌, List, length, IfErr, IfOk, IsSomeAnd, slice_get, vec_len};
 ghost use Rattle.cap_package.specs.PackageRecord.{PackageRecord};
 ghost use Rattle.jc_control.specs.Method.{method_in};
-ghost use Rattle.cap_bytes.specs.Bytes.{AreBytes};
 ghost use Rattle.law_shared_world.specs.SharedCode.{IsSharedFor};
 ghost use Rattle.xf_allot.specs.Sharing.{AnswersSharing};
 ghost use Rattle.xf_share.specs.Ends.{HaveCardTypings, TellsOf};
