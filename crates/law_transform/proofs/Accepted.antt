@@ -1,10 +1,9 @@
 -- A package that is written with the code that is laid for its methods makes a world in which each method with code has a card
 -- typing.
-use Rattle.std.proofs.Common.{◌≡◌, ◌⊎◌, inr, ⊎_elim, ℕ, ◌+◌, ◌-◌, ◌<◌, ◌≤◌, List, [], length, get_or, All, Option, Some, None}
-use Rattle.std.proofs.Common.{slice_get, refl, sym, ◌∙◌, ap, subst, arith}
+use Rattle.std.proofs.Common.{◌≡◌, ⊎_elim, ℕ, ◌+◌, ◌-◌, ◌<◌, ◌≤◌, List, [], length, get_or, All, Option, Some, None}
+use Rattle.std.proofs.Common.{slice_get, sym, ◌∙◌, ap, subst, arith}
 use Rattle.std.proofs.lemmas.Bool.{cases_lt}
 use Rattle.std.proofs.lemmas.List.{length-map, length-append}
-use Rattle.std.proofs.lemmas.List.Elements.{All-weaker}
 use Rattle.std.proofs.lemmas.Option.{slice_get_within, slice_get-get_or, same_Some}
 use Rattle.jc_base.specs.declared.record.MethodRec.{MethodRec}
 use Rattle.jc_base.specs.World.{Linked}
@@ -33,8 +32,7 @@ module _ (w : Linked) (laws : AreLaws w) (laid : List (Option Laid)) (are : AreL
   parted = record { parts = are.parts; earlier = are.before; last = are.last }
 
   own-there : (n : ℕ) (r : MethodRec) → slice_get are.own n ≡ Some r → slice_get w.methods (first + n) ≡ Some r
-  own-there n r e =
-      ap (λ ms. slice_get ms (first + n)) are.parts ∙ slice_get-farther are.libraries are.own n (first + n) refl ∙ e
+  own-there n r e = grind (arith, slice_get, slice_get-farther)
 
   -- one that code is laid for
   module _ (n : ℕ) (r : MethodRec) (l : Laid) (own : slice_get are.own n ≡ Some r) (at : slice_get laid n ≡ Some (Some l)) where
@@ -51,12 +49,7 @@ module _ (w : Linked) (laws : AreLaws w) (laid : List (Option Laid)) (are : AreL
     its-typing = laid-typed w laws (first + n) r (own-there n r own) its-element.0 l its-element.1
 
   pub may-replace : EachMayReplace are.own laid
-  may-replace n r l own at = record {
-    filled = (its-element n r l own at).0;
-    catches =
-        All-weaker (HasPoolOf r.handlers) (λ h. (h.pool ≡ 0) ⊎ HasPoolOf r.handlers h) (λ h p. inr p) l.handlers
-        (pools n r l own at);
-  }
+  may-replace n r l own at = grind (arith, its-element n r l own at, pools n r l own at)
 
   -- ---- the methods of the new world
 
@@ -78,9 +71,7 @@ module _ (w : Linked) (laws : AreLaws w) (laid : List (Option Laid)) (are : AreL
         → slice_get are.own n ≡ Some r
         → slice_get laid n ≡ Some o
         → HasCardTyping w m
-    by-element n r None number own at =
-        let none : m.code ≡ [] = known new (first + n) (λ k. k.code ≡ []) (stand.bare n r own at) m mo number in
-        absurd (omega (arith, mo.filled, ap length none))
+    by-element n r None number own at = grind (arith, known, length)
     by-element n r (Some l) number own at =
         let has = known new (first + n) (HasLaid r l) (stand.replaced n r l own at (pools n r l own at)) m mo number in
         its-typing n r l own at m has

@@ -1,5 +1,5 @@
 -- Runs begin alike, and end alike.
-use Rattle.std.proofs.Common.{ℕ, ◌-◌, ◌≤◌, List, [], ◌∷◌, refl, sym, ap, ◌∙◌}
+use Rattle.std.proofs.Common.{ℕ, ◌≤◌, List, [], ◌∷◌, refl, sym, ap, ◌∙◌}
 use Rattle.std.proofs.Common.{subst, arith}
 use Rattle.jc_base.specs.World.{Linked}
 use Rattle.vm_store.specs.declared.cell.Cell.{Cell}
@@ -15,7 +15,7 @@ use Rattle.law_alike.specs.Simulation.{ComesBeside, StepsMatch}
 use Rattle.law_alike.proofs.Simulation.{simulation-ends-alike}
 use Rattle.law_alike.proofs.Entering.{handed_in, made_in, made-same, handed-same}
 use Rattle.law_transform.specs.Counterparts.{AreCounterparts}
-use Rattle.law_transform.specs.Beside.{AreBeside, no_frames, OutcomesBeside}
+use Rattle.law_transform.specs.Beside.{AreBeside, no_frames}
 use Rattle.law_transform.specs.LikeEndings.{StartsAreMet, StepsAreMet}
 use Rattle.law_transform.proofs.Typed.{AreLaws}
 use Rattle.law_transform.proofs.Settling.{extra, Settles, enters}
@@ -23,9 +23,7 @@ use Rattle.law_transform.proofs.Simulating.{step-comes}
 
 module _ (v w : Linked) (typings : Typings) (laws : AreLaws v) (pair : AreCounterparts v w typings) where
   steps-match : StepsMatch v w (AreBeside v w typings) 1000 1000
-  steps-match z t o b step =
-      let c = step-comes v w typings laws pair z t b o step in
-      record { count = c.count; more = c.more; fewer = c.fewer; outcome = c.outcome; runs = c.runs; both = c.comes }
+  steps-match z t o b step = grind (arith, step-comes v w typings laws pair z t b o step)
 
   module _ (entry : ℕ) (args : List Argument) (s : State Cell) (starts : Starts tagged v entry args s) where
     abbrev made : Linked → State Cell
@@ -55,16 +53,7 @@ module _ (v w : Linked) (typings : Typings) (laws : AreLaws v) (pair : AreCounte
         no_frames typed (laws.begun entry args starts.begins))
 
     begins : ComesBeside w (AreBeside v w typings) 0 1000 second (running s)
-    begins =
-        let c = settles in
-        record {
-          count = c.count;
-          more = omega arith;
-          fewer = c.fewer;
-          outcome = c.outcome;
-          runs = c.continues;
-          both = subst (λ x. OutcomesBeside v w typings (running x) c.outcome) (sym starts.state) c.comes;
-        }
+    begins = grind (arith, settles)
 
 pub counterparts-end-alike : (v : Linked) → AreLaws v → (w : Linked) (typings : Typings) → AreCounterparts v w typings → EndsAlike v w
 counterparts-end-alike v laws w typings pair =

@@ -56,11 +56,7 @@ pub element-at :
     → IsLaidElement w (number + n) r o
 element-at w number [] laid n r o are own at = absurd (cc)
 element-at w number (s ∷ ss) [] n r o are own at = absurd are
-element-at w number (s ∷ ss) (l ∷ ls) zero r o are own at =
-    let first : s ≡ r = cc in
-    let its : l ≡ o = cc in
-    let here : number ≡ number + 0 = omega arith in
-    subst (λ k. IsLaidElement w k r o) here (subst (λ a. IsLaidElement w number r a) its (subst (λ a. IsLaidElement w number a l) first are.0))
+element-at w number (s ∷ ss) (l ∷ ls) zero r o are own at = grind (arith)
 element-at w number (s ∷ ss) (l ∷ ls) (suc n) r o are own at =
     let here : suc number + n ≡ number + suc n = omega arith in
     subst (λ k. IsLaidElement w k r o) here (element-at w (suc number) ss ls n r o are.1 own at)

@@ -1,5 +1,5 @@
 -- The places of a code as flags, for a control flow that is told of and not computed.
-use Rattle.std.proofs.Common.{◌≡◌, ℕ, zero, suc, Bool, true, false, inl, inr, List, [], ◌∷◌, None, refl, sym, ap, subst, ◌∙◌, arith}
+use Rattle.std.proofs.Common.{◌≡◌, ℕ, zero, suc, Bool, true, false, inl, inr, List, [], ◌∷◌, refl, sym, ap, subst, ◌∙◌, arith}
 use Rattle.std.specs.Prelude.{Contains}
 use Rattle.std.proofs.lemmas.Bool.{cases_eq, both_ways}
 use Rattle.std.proofs.lemmas.List.{get_or_past}
@@ -71,7 +71,4 @@ abbrev pub bare : List ℕ → Listed
 bare code = record { begins = flags (listing code); insns = [] }
 
 pub bare-listing : (code : List ℕ) → IsListingOf code (bare code)
-bare-listing code = record {
-  begins = places-flagged code;
-  decodes = λ p i h. absurd (none-some i (sym (get_or_past [] p None (omega arith)) ∙ h));
-}
+bare-listing code = grind (arith, places-flagged, none-some, get_or_past)

@@ -31,9 +31,9 @@ use Rattle.vm_store.specs.State.{Frame, State, arguments, entered, top, other_fr
 use Rattle.vm_step.specs.declared.ending.Ending.TheVariants as endings
 use Rattle.vm_step.specs.declared.ending.Fault.TheVariants.{LocalFault, StackFault, TypeFault}
 use Rattle.vm_step.specs.Act.{calls}
-use Rattle.vm_step.specs.Methods.{of_method, code_at, instruction_at, max_stack_of}
+use Rattle.vm_step.specs.Methods.{of_method, code_at, max_stack_of}
 use Rattle.vm_step.specs.Performed.{act}
-use Rattle.vm_step.specs.Raising.{Outcome, running, ended, raised, thrown}
+use Rattle.vm_step.specs.Raising.{Outcome, running, ended, thrown}
 use Rattle.vm_step.specs.Settled.{given_to, settled}
 use Rattle.vm_step.specs.Step.{Fetches, Steps, misplaced, unresolved, performs, performed}
 use Rattle.vm_step.specs.Tests.{fault_before, types_of}
@@ -66,16 +66,14 @@ abbrev own : ℕ → ℕ
 own p = p
 
 own-cell : (c : Cell) → renamed_cell own c ≡ c
-own-cell (cells.Fresh h p) = refl
-own-cell _ = refl
+own-cell x = grind (arith)
 
 own-cells : (cs : List Cell) → map (renamed_cell own) cs ≡ cs
 own-cells [] = refl
 own-cells (c ∷ cs) = ap (λ d. d ∷ map (renamed_cell own) cs) (own-cell c) ∙ ap (λ ds. c ∷ ds) (own-cells cs)
 
 own-new : (op : Operation) → renamed_new own op ≡ op
-own-new (ops.New p class) = refl
-own-new _ = refl
+own-new x = grind (arith)
 
 -- ---- the same registers
 
@@ -88,14 +86,7 @@ same-lists (x ∷ xs) (y ∷ ys) e h =
     ap (λ a. a ∷ xs) first ∙ ap (λ rest. y ∷ rest) (same-lists xs ys (omega (arith, e)) (λ n. h (suc n)))
 
 same-frames : (f g : Frame Cell) → f.method ≡ g.method → f.place ≡ g.place → f.registers ≡ g.registers → f.stack ≡ g.stack → f ≡ g
-same-frames f g a b c d =
-    let first : f ≡ record f { method = g.method } = ap (λ n. record f { method = n }) a in
-    let second : record f { method = g.method } ≡ record g { registers = f.registers; stack = f.stack } =
-    ap (λ n. record f { method = g.method; place = n }) b in
-    let third : record g { registers = f.registers; stack = f.stack } ≡ record g { stack = f.stack } = ap
-    (λ rs. record g { registers = rs; stack = f.stack }) c in
-    let fourth : record g { stack = f.stack } ≡ g = ap (λ cs. record g { stack = cs }) d in
-    first ∙ (second ∙ (third ∙ fourth))
+same-frames f g a b c d = grind (arith)
 
 module _ (v w : Linked) (typings : Typings) (laws : AreLaws v) (pair : AreCounterparts v w typings)
     (z t : State Cell) (first : z.frames ≡ top z ∷ other_frames z.frames) (second : t.frames ≡ top t ∷ other_frames t.frames)
@@ -125,12 +116,7 @@ module _ (v w : Linked) (typings : Typings) (laws : AreLaws v) (pair : AreCounte
           ]
 
       same-top : (top u).place ≡ (top y).place → top u ≡ top y
-      same-top place =
-          let method : (top u).method ≡ (top y).method = stays.second.method ∙ (ap (λ (f : Frame Cell). f.method) same ∙ sym stays.first.method) in
-          let count : length (top u).registers ≡ length (top y).registers =
-          stays.second.count ∙ (ap (λ (f : Frame Cell). length f.registers) same ∙ sym stays.first.count) in
-          same-frames (top u) (top y) method place (same-lists (top u).registers (top y).registers count same-register)
-          (stays.alike.stack ∙ own-cells (top y).stack)
+      same-top place = grind (arith, length, same-frames, same-lists, same-register, own-cells)
 
       still-kept : IsSameMethod v w (top y).method
       still-kept = subst (IsSameMethod v w) (sym stays.first.method) k
@@ -190,11 +176,7 @@ module _ (v w : Linked) (typings : Typings) (laws : AreLaws v) (pair : AreCounte
         settles-as v w typings o p (given_to tagged v value cs (without_top z)) (given_to tagged w value cs (without_top t)) is also
         (gives v w typings laws pair value cs (λ e. plain (renamed_cell e) (renamed-keeps e)) z.heap t.heap z.statics t.statics heap statics under
         (subst (IsTypedOutcome v typings) is safe))
-    come-settles m o p fetched resolved (exception_alike exception acts is also) safe =
-        settles-as v w typings o p (raised tagged v exception z) (raised tagged w exception t) is also
-        (raises-settle v w typings laws pair (top z) (top t) (other_frames z.frames) (other_frames t.frames) under catch-here exception z t first second
-        heap statics
-        (subst (IsTypedOutcome v typings) is safe))
+    come-settles m o p fetched resolved (exception_alike exception acts is also) safe = grind (arith, settles-as, raises-settle, catch-here)
     come-settles m o p fetched resolved (throw_alike handle acts is also) safe =
         settles-as v w typings o p (thrown tagged v handle z) (thrown tagged w handle t) is also
         (throws-settle v w typings laws pair (top z) (top t) (other_frames z.frames) (other_frames t.frames) under catch-here handle z t first second heap
@@ -225,18 +207,7 @@ module _ (v w : Linked) (typings : Typings) (laws : AreLaws v) (pair : AreCounte
       code-there = sym code-is ∙ sym code-same
 
       other-executes : Executes w t i op
-      other-executes =
-          let rec : k.rec ≡ m = same_Some k.rec m (sym k.first ∙ fetched.method) in
-          record {
-            method = m;
-            fetched = record {
-              runs = first-runs t second;
-              method = ap (λ (f : Frame Cell). slice_get w.methods f.method) same ∙ (k.second ∙ ap Some rec);
-              instruction = ap (λ c. instruction_at c (top t).place) code-same
-                  ∙ (ap (λ (f : Frame Cell). instruction_at (code_at v n) f.place) same ∙ fetched.instruction);
-            };
-            resolved = laws.operations v w m m i.place i.insn (Ok op) pair.same refl resolved;
-          }
+      other-executes = grind (arith, same_Some, first-runs, code-same)
 
       goes-there : falls_from op ≡ true → IsPlace (code_at w (top t).method) (i.place + i.insn.len)
       goes-there falls =

@@ -1,6 +1,6 @@
 -- The world of a package that is written with what is laid for its methods: each method with code is kept, or rewritten.
-use Rattle.std.proofs.Common.{◌≡◌, ◌⊎◌, ⊎_elim, ℕ, zero, suc, ◌+◌, ◌-◌, ◌<◌, ◌≤◌, List, length, get_or}
-use Rattle.std.proofs.Common.{drop, All, Option, Some, None, option_map, IsSomeAnd, slice_get, refl, sym, ◌∙◌, ap, subst, arith, length-take}
+use Rattle.std.proofs.Common.{◌≡◌, ⊎_elim, ℕ, zero, suc, ◌+◌, ◌-◌, ◌<◌, ◌≤◌, List, length, get_or}
+use Rattle.std.proofs.Common.{drop, All, Option, Some, None, option_map, slice_get, refl, sym, ◌∙◌, ap, subst, arith, length-take}
 use Rattle.std.proofs.lemmas.Bool.{cases_lt}
 use Rattle.std.proofs.lemmas.List.Elements.{All-contains}
 use Rattle.std.proofs.lemmas.Option.{none-some, same_Some, slice_get-get_or}
@@ -13,7 +13,7 @@ use Rattle.jc_base.proofs.Lists.{slice_get-front, slice_get-farther}
 use Rattle.jc_decode.specs.declared.symbols.Laid.{Laid}
 use Rattle.jc_decode.specs.Standing.{StandsAt}
 use Rattle.jc_control.specs.Asked.{AllHave, IsOfLibrary}
-use Rattle.jc_control.specs.Method.{Method, IsMethodOf, method_in, method_with}
+use Rattle.jc_control.specs.Method.{Method, IsMethodOf, method_with}
 use Rattle.jc_ops.specs.Sound.{OperationsAreSound}
 use Rattle.jc_rules.specs.Demand.{Frame as Types}
 use Rattle.jc_rules.specs.Flow.{FlowTyping, HasFlowTyping}
@@ -71,12 +71,7 @@ module _ (v : Linked) (laws : AreLaws v) (catches : CatchesByPool) (card : CardI
   -- ---- a method of a library
 
   library-kept : (n : ℕ) (r : MethodRec) → slice_get v.methods n ≡ Some r → n < first → IsSameMethod v w n
-  library-kept n r here lt =
-      let e : method_in w n ≡ Some (method_with v n r) = stand.earlier n lt ∙ ap (option_map (method_with v n)) here in
-      let found = method-there w n (λ m. m ≡ method_with v n r) (subst (λ o. IsSomeAnd o (λ m. m ≡ method_with v n r)) (sym e) refl) in
-      let rec : found.0 ≡ r = ap (λ (m : Method). m.rec) found.2 in
-      let code : code_of w.infos found.0 ≡ code_of v.infos r = ap (λ (m : Method). m.code) found.2 in
-      record { rec = r; first = here; second = found.1 ∙ ap Some rec; code = ap (code_of w.infos) (sym rec) ∙ code }
+  library-kept n r here lt = grind (arith, option_map, method-there)
 
   library-typed : (n : ℕ) (r : MethodRec) → slice_get v.methods n ≡ Some r → IsMethodOf v (method_with v n r) → n < first
       → HasFlowTyping v (method_with v n r) Bottom
@@ -208,17 +203,11 @@ module _ (v : Linked) (laws : AreLaws v) (catches : CatchesByPool) (card : CardI
       record { unset = Bottom; frames = λ p. None; typed = λ m mo number. absurd (none m mo number); goes = λ m mo number. absurd (none m mo number) }
 
   by-length : (n : ℕ) (r : MethodRec) → slice_get v.methods n ≡ Some r → (size : ℕ) → length (code_of v.infos r) ≡ size → Assigned v w n
-  by-length n r here zero empty =
-      none-assigned n (λ m mo number.
-      let some : 0 < length (code_of v.infos r) = subst (λ (x : Method). 0 < length x.code) (sym (method-is v m n r mo number here)) mo.filled in
-      omega (arith, some, empty))
-  by-length n r here (suc size) long =
-      let some : 0 < length (code_of v.infos r) = omega (arith, long) in
-      ⊎_elim (λ lt. library n r here (record { rec = here; code = refl; filled = some }) lt) (λ le. last n r here some le) (cases_lt n first)
+  by-length n r here zero empty = grind (arith, none-assigned, length, method-is)
+  by-length n r here (suc size) long = grind (arith, length, ⊎_elim, library, last, cases_lt)
 
   by-record : (n : ℕ) (o : Option MethodRec) → slice_get v.methods n ≡ o → Assigned v w n
-  by-record n None e =
-      none-assigned n (λ m mo number. none-some m.rec (sym e ∙ (ap (slice_get v.methods) (sym number) ∙ mo.rec)))
+  by-record n None e = grind (arith, none-assigned, none-some, slice_get)
   by-record n (Some r) e = by-length n r e (length (code_of v.infos r)) refl
 
   assigned : (n : ℕ) → Assigned v w n

@@ -1,10 +1,10 @@
 -- A method of a world that code is laid for: its symbols, and the code with its numbers and handlers, have a card typing there.
-use Rattle.std.proofs.Common.{◌≡◌, ℕ, zero, suc, ◌<◌, List, [], ◌∷◌, map, drop, Option, Some, slice_get, refl, sym, ◌∙◌, arith}
+use Rattle.std.proofs.Common.{◌≡◌, ℕ, zero, suc, ◌<◌, List, [], ◌∷◌, map, drop, Option, Some, slice_get, refl, arith}
 use Rattle.std.proofs.Common.{length-take}
 use Rattle.std.specs.Prelude.{is_some}
 use Rattle.std.proofs.lemmas.List.{length-drop}
 use Rattle.jc_base.specs.declared.record.MethodRec.{MethodRec}
-use Rattle.jc_base.specs.Linked.{IsMethod, list_at}
+use Rattle.jc_base.specs.Linked.{IsMethod}
 use Rattle.jc_base.specs.World.{Linked, IsWorld, code_of}
 use Rattle.jc_base.proofs.Lists.{All-slice_get}
 use Rattle.jc_decode.specs.declared.symbols.Laid.{Laid}
@@ -50,8 +50,7 @@ frame-flags (f ∷ fs) zero = refl
 frame-flags (f ∷ fs) (suc p) = frame-flags fs p
 
 marks-reached : (m : Method) (typing : List (Option Frame)) → AreReached m typing → Marks (IsReached m) (map is_some typing)
-marks-reached m typing reached p =
-    (λ flagged. (reached p).0 (sym (frame-flags typing p) ∙ flagged), λ r. frame-flags typing p ∙ (reached p).1 r)
+marks-reached m typing reached p = grind (arith, frame-flags)
 
 -- ---- a method of the world with code
 
@@ -66,22 +65,14 @@ module _ (w : Linked) (laws : AreLaws w) (n : ℕ) (r : MethodRec) (here : slice
   its-bytes = All-slice_get (λ s. AreBytes (code_of w.infos s)) w.methods n r laws.bytes here
 
   pub is-method : IsMethodOf w own
-  is-method =
-      let size = length-take r.code_len (drop r.code_at (list_at w.infos r.package)) in
-      let rest = length-drop r.code_at (list_at w.infos r.package) in
-      record { rec = here; code = refl; filled = omega (arith, size, rest, filled, method-links.inside) }
+  is-method = grind (arith, length-take, drop, length-drop, method-links)
 
   module _ (laid : Laid) (is : IsLaidFor w own laid) where
     abbrev pub control : Marked
     control = record { reached = map is_some is.typing; leaders = is.rewritten.leaders; listing = bare own.code }
 
     pub flow : IsControlFlow own control
-    flow = record {
-      formed = is.typed.least.typing.formed;
-      reached = marks-reached own is.typing is.typed.reached;
-      leaders = is.rewritten.marked;
-      listing = bare-listing own.code;
-    }
+    flow = grind (arith, marks-reached own is.typing is.typed.reached, bare-listing own.code)
 
     pub keeps-live : KeepsLive own r.handlers is.symbols.ranges
     keeps-live =

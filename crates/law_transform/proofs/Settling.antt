@@ -97,25 +97,12 @@ module _ (v w : Linked) (typings : Typings) (laws : AreLaws v) (pair : AreCounte
       (z t y u : State Cell) → y.frames ≡ top y ∷ other_frames z.frames → u.frames ≡ top u ∷ other_frames t.frames
       → AreUnder v w typings (other_frames z.frames) (other_frames t.frames) → AreTop v w typings (top y) (top u)
       → u.heap ≡ y.heap → u.statics ≡ y.statics → IsTypedState v typings y → AreBeside v w typings y u
-  beside z t y u first second under tops heap statics typed =
-      let fs : other_frames y.frames ≡ other_frames z.frames = ap other_frames first in
-      let gs : other_frames u.frames ≡ other_frames t.frames = ap other_frames second in
-      record {
-        first = first ∙ ap (λ xs. top y ∷ xs) (sym fs);
-        second = second ∙ ap (λ xs. top u ∷ xs) (sym gs);
-        tops = tops;
-        under = subst (λ xs. AreUnder v w typings xs (other_frames u.frames)) (sym fs)
-            (subst (λ xs. AreUnder v w typings (other_frames z.frames) xs) (sym gs) under);
-        heap = heap;
-        statics = statics;
-        typed = typed;
-      }
+  beside z t y u first second under tops heap statics typed = grind (arith)
 
   pub equal-but :
       (z t : State Cell) → z.frames ≡ top z ∷ other_frames z.frames → t.frames ≡ top t ∷ other_frames t.frames
       → AreUnder v w typings (other_frames z.frames) (other_frames t.frames) → t.heap ≡ z.heap → t.statics ≡ z.statics → AreEqualBut z t
-  equal-but z t first second under heap statics =
-      record { frames = ap length second ∙ (ap suc (under-length v w typings under) ∙ sym (ap length first)); heap = heap; statics = statics }
+  equal-but z t first second under heap statics = grind (arith, length, suc, under-length)
 
   -- few steps lead to the group of the place
   pub to-group :
@@ -175,8 +162,7 @@ module _ (v w : Linked) (typings : Typings) (laws : AreLaws v) (pair : AreCounte
   -- ---- a method that is kept
 
   pub kept-code : (n : ℕ) → IsSameMethod v w n → code_at w n ≡ code_at v n
-  kept-code n k =
-      ap (of_method [] (code_of w.infos)) k.second ∙ (k.code ∙ sym (ap (of_method [] (code_of v.infos)) k.first))
+  kept-code n k = grind (arith)
 
   pub kept-room : (n : ℕ) → IsSameMethod v w n → max_stack_of w n ≡ max_stack_of v n
   kept-room n k = ap (of_method 0 (λ (m : MethodRec). m.max_stack)) (k.second ∙ sym k.first)
@@ -212,10 +198,7 @@ module _ (v w : Linked) (typings : Typings) (laws : AreLaws v) (pair : AreCounte
         of_call = call.within.of
 
         same-depth : length (with_value cells g.stack) ≡ length (with_value cells f.stack)
-        same-depth =
-            let e : Cell → Cell = renamed_cell (rename s place) in
-            let below : length g.stack ≡ length f.stack = ap length call.stack ∙ length-map f.stack e in
-            length-append (reverse cells) g.stack ∙ (ap (λ n. length (reverse cells) + n) below ∙ sym (length-append (reverse cells) f.stack))
+        same-depth = grind (arith, length, length-map, length-append, reverse)
 
         same-stack : with_value cells g.stack ≡ map (renamed_cell (rename s place)) (with_value cells f.stack)
         same-stack =

@@ -5,11 +5,10 @@ use Rattle.jc_control.specs.Control.{IsReached}
 use Rattle.jc_control.specs.Method.{Method}
 use Rattle.vm_store.specs.declared.cell.Cell.{Cell}
 use Rattle.vm_store.specs.Cells.{tagged}
-use Rattle.vm_store.specs.State.{Frame, State, arguments, entered, top, other_frames, with_call, without_top}
+use Rattle.vm_store.specs.State.{Frame, State, arguments, entered, top, other_frames, with_call}
 use Rattle.vm_step.specs.declared.ending.Ending.TheVariants as endings
 use Rattle.vm_step.specs.Raising.{Outcome, running, ended, raised, thrown}
 use Rattle.vm_step.specs.Run.{Runs, stands}
-use Rattle.vm_step.specs.Settled.{given_to}
 use Rattle.vm_step.specs.Step.{Steps}
 use Rattle.vm_step.proofs.Running.{continues-on}
 use Rattle.law_sound.specs.Frames.{Typings}
@@ -35,16 +34,7 @@ module _ (v w : Linked) (typings : Typings) (laws : AreLaws v) (pair : AreCounte
 
   settles-then : (o : Outcome Cell) (t : State Cell) (count : ℕ) (p : Outcome Cell) → 1 ≤ count → count ≤ 1000 → Runs tagged w count t p
       → Settles v w typings o p → StepComes o t
-  settles-then o t count p more fewer runs s =
-      let few : s.count ≤ extra o = s.fewer in
-      record {
-        count = count + s.count;
-        more = omega (arith, more);
-        fewer = omega (arith, fewer, few);
-        outcome = s.outcome;
-        runs = continues-on tagged w count s.count (running t) p s.outcome runs s.continues;
-        comes = s.comes;
-      }
+  settles-then o t count p more fewer runs s = grind (arith, continues-on tagged w count s.count (running t) p s.outcome runs s.continues)
 
   -- ---- a method that is rewritten
 
@@ -85,9 +75,7 @@ module _ (v w : Linked) (typings : Typings) (laws : AreLaws v) (pair : AreCounte
 
     group-settles : (o p : Outcome Cell) → GroupComes v w s place z t o p → IsTypedOutcome v typings o → Settles v w typings o p
     group-settles o p (group_calls c) safe = called o p c safe
-    group-settles o p (group_gives value cs plain is also) safe =
-        settles-as v w typings o p (given_to tagged v value cs (without_top z)) (given_to tagged w value cs (without_top t)) is also
-        (gives v w typings laws pair value cs plain z.heap t.heap z.statics t.statics heap statics under (subst (IsTypedOutcome v typings) is safe))
+    group-settles o p (group_gives value cs plain is also) safe = grind (arith, settles-as, gives)
     group-settles o p (group_raises exception u at is also) safe =
         settles-as v w typings o p (raised tagged v exception z) (raised tagged w exception u) is also
         (raises-settle v w typings laws pair (top z) (top u) (other_frames z.frames) (other_frames t.frames) under
@@ -122,8 +110,7 @@ module _ (v w : Linked) (typings : Typings) (laws : AreLaws v) (pair : AreCounte
 
     group-comes : (o : Outcome Cell) → GroupRuns v w s place z t o → IsTypedOutcome v typings o → StepComes o t
     group-comes o (group_leaves c) safe = settles-then o t c.count c.outcome c.more c.fewer c.runs (group-settles o c.outcome c.comes safe)
-    group-comes o (group_stays y is c) safe =
-        subst (λ x. StepComes x t) (sym is) (stays-beside y (subst (IsTypedOutcome v typings) is safe) c)
+    group-comes o (group_stays y is c) safe = grind (arith, stays-beside y (subst (IsTypedOutcome v typings) is safe) c)
 
     rewritten-steps : IsAtGroup s place (top z) (top t) → (o : Outcome Cell) → Steps tagged v z o → IsTypedOutcome v typings o → StepComes o t
     rewritten-steps group o step safe =

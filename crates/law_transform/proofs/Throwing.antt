@@ -1,10 +1,9 @@
 -- An object that is thrown is caught by the same frame in both worlds, or ends both runs.
 use Rattle.std.proofs.Common.{◌≡◌, ℕ, ◌+◌, false, List, [], ◌∷◌}
 use Rattle.std.proofs.Common.{refl, sym, ap, ◌∙◌, subst, arith}
-use Rattle.std.specs.Prelude.{Option, Some, None, nat_lt, find}
+use Rattle.std.specs.Prelude.{Option, Some, None, nat_lt}
 use Rattle.std.proofs.lemmas.Bool.{le-ltb}
 use Rattle.jc_base.specs.declared.record.Handler.{Handler}
-use Rattle.jc_base.specs.Class.{ClassTable}
 use Rattle.jc_base.specs.World.{Linked}
 use Rattle.jc_control.specs.Control.{IsReached}
 use Rattle.vm_store.specs.declared.cell.Cell.{Cell}
@@ -13,8 +12,8 @@ use Rattle.vm_store.specs.State.{Frame, State, without_frames}
 use Rattle.vm_step.specs.declared.ending.Ending.TheVariants as endings
 use Rattle.vm_step.specs.declared.ending.Plain.TheVariants.{Threw, HeapFull}
 use Rattle.vm_step.specs.declared.exception.Exception.{Exception}
-use Rattle.vm_step.specs.Methods.{handlers_of, max_stack_of}
-use Rattle.vm_step.specs.Raising.{Outcome, running, ended, ends, catches, handler_for, caught, caught_by, caught_or, unwound, thrown, raised}
+use Rattle.vm_step.specs.Methods.{max_stack_of}
+use Rattle.vm_step.specs.Raising.{Outcome, running, ended, ends, handler_for, caught, caught_by, caught_or, unwound, thrown, raised}
 use Rattle.law_sound.specs.Frames.{Typings}
 use Rattle.law_sound.specs.Soundness.{IsTypedOutcome}
 use Rattle.xf_homes.specs.Source.{Source}
@@ -68,14 +67,7 @@ module _ (v w : Linked) (typings : Typings) (laws : AreLaws v) (pair : AreCounte
           (both_run (record { first = refl; second = refl; tops = top_kept k; under = under; heap = same_heap; statics = same_statics; typed = is.typed })))
 
       kept-unwinds : Unwinds (f ∷ fs) (f ∷ gs)
-      kept-unwinds safe =
-          let same : handler_for w class f ≡ handler_for v class f =
-          ap (λ (t : ClassTable). find (catches t f.place class) (handlers_of w f.method)) (sym pair.same.classes)
-          ∙ ap (λ hs. find (catches v.classes f.place class) hs) (kept-handlers v w typings laws pair f.method k) in
-          subst
-          (λ o. Settles v w typings (unwound tagged v class handle sv (f ∷ fs))
-          (caught_or tagged w handle sw f gs (unwound tagged w class handle sw gs) o))
-          (sym same) (kept-by (handler_for v class f) safe)
+      kept-unwinds safe = grind (arith, kept-handlers, kept-by)
 
     -- in one that is rewritten
     module _
@@ -89,10 +81,7 @@ module _ (v w : Linked) (typings : Typings) (laws : AreLaws v) (pair : AreCounte
         second_by o = caught_or tagged w handle sw g gs (unwound tagged w class handle sw gs) o
 
         caught-by : CatchAlike v w s place class f g → Unwinds (f ∷ fs) (g ∷ gs)
-        caught-by (none_catches here_none there_none) safe =
-            let e : first_by (handler_for v class f) ≡ unwound tagged v class handle sv fs = ap first_by here_none in
-            settles-as v w typings (first_by (handler_for v class f)) (second_by (handler_for w class g)) (unwound tagged v class handle sv fs)
-            (unwound tagged w class handle sw gs) e (ap second_by there_none) (rest (subst (IsTypedOutcome v typings) e safe))
+        caught-by (none_catches here_none there_none) safe = grind (arith, settles-as)
         caught-by (both_catch n h k caught_here listed covers caught_there entry) safe =
             let e : first_by (handler_for v class f) ≡ caught_by tagged v h handle sv f fs = ap first_by caught_here in
             let is = caught-in v handle sv h f fs typings (subst (IsTypedOutcome v typings) e safe) in
@@ -131,8 +120,7 @@ module _ (v w : Linked) (typings : Typings) (laws : AreLaws v) (pair : AreCounte
         settled-now v w typings (ended (endings.Plain (Threw class handle)) (without_frames sv))
         (ended (endings.Plain (Threw class handle)) (without_frames sw))
         (both_end (endings.Plain (Threw class handle)) same_heap same_statics)
-    unwinds (more_frames {fs = fs} {gs = gs} wait rest) safe =
-        unwinds-one fs gs rest (wait-catch v w typings wait) (unwinds rest) safe
+    unwinds (more_frames {fs = fs} {gs = gs} wait rest) safe = grind (arith, unwinds-one, wait-catch, unwinds rest)
 
   -- ---- an object, and an exception of which one is made
 

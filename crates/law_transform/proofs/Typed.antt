@@ -1,18 +1,18 @@
 -- What is known of a typed state whose method on top is rewritten, and the laws that the simulation rests on.
-use Rattle.std.proofs.Common.{◌≡◌, ℕ, ◌∷◌, sym, ◌∙◌, subst}
+use Rattle.std.proofs.Common.{arith}
+use Rattle.std.proofs.Common.{◌≡◌, ℕ, ◌∷◌, sym, subst}
 use Rattle.std.specs.Prelude.{Option}
 use Rattle.jc_base.specs.declared.ty.Ty.{Ty}
 use Rattle.jc_base.specs.declared.ty.Ty.TheVariants.{Top}
 use Rattle.jc_base.specs.World.{Linked, IsWorld}
 use Rattle.jc_control.specs.Control.{IsReached}
-use Rattle.jc_control.specs.Method.{Method, IsMethodOf}
+use Rattle.jc_control.specs.Method.{IsMethodOf}
 use Rattle.jc_rules.specs.Demand.{Frame as Types}
 use Rattle.jc_rules.specs.Flow.{At, FrameBelow}
 use Rattle.vm_store.specs.declared.cell.Cell.{Cell}
 use Rattle.vm_store.specs.State.{State, top, other_frames}
 use Rattle.vm_store.specs.Objects.{kinds}
-use Rattle.vm_step.specs.declared.ending.Ending.TheVariants.{Plain, Faulted}
-use Rattle.vm_step.specs.Raising.{Outcome, running, ended}
+use Rattle.vm_step.specs.Raising.{Outcome}
 use Rattle.law_sound.specs.Frames.{Typings, types_of_frame}
 use Rattle.law_sound.specs.State.{IsTypedState}
 use Rattle.law_sound.specs.Soundness.{IsTypedOutcome, StepsAreSafe, StartsAreTyped}
@@ -59,11 +59,7 @@ module _ (v : Linked) (typings : Typings) where
     pub reached-at :
         (z : State Cell) → z.frames ≡ top z ∷ other_frames z.frames → IsTypedState v typings z → IsRewrittenIn v w typings (top z).method s place
         → IsReached s.method (top z).place
-    reached-at z first typed r =
-        let stands = (frames-typed v typings z first typed).0.stands in
-        subst (λ (m : Method). IsReached m (top z).place)
-        (method-is v s.method (top z).method stands.rec (its-method v w typings (top z).method s place r) r.number stands.is_method)
-        stands.reached
+    reached-at z first typed r = grind (arith, frames-typed, method-is, its-method)
 
     -- the state is typed as the groups ask
     pub typed-at :
@@ -86,7 +82,4 @@ module _ (v : Linked) (typings : Typings) where
     -- and so is what a step leads to
     pub stays-typed :
         TypedStatesStay v → (n : ℕ) → IsRewrittenIn v w typings n s place → (o : Outcome Cell) → IsTypedOutcome v typings o → StaysTyped v s o
-    stays-typed stay n r (running z) safe =
-        λ runs method. typed-at stay z (frames-are z runs) safe (subst (λ k. IsRewrittenIn v w typings k s place) (sym r.number ∙ sym method) r)
-    stays-typed stay n r (ended (Plain plain) z) safe = tt
-    stays-typed stay n r (ended (Faulted fault) z) safe = safe
+    stays-typed stay n r x safe = grind (arith, typed-at, frames-are)

@@ -1,4 +1,3 @@
-ghost use Rattle.cap_bytes.specs.Bytes.{AreBytes};
 ghost use Rattle.law_transform.specs.Bytes.{CodesAreBytes};
 ghost use Rattle.law_transform.specs.AcceptedWorld.{LaidIsAccepted};
 
