@@ -4,7 +4,6 @@ use Rattle.std.proofs.Common.{◌∙◌, arith}
 use Rattle.std.specs.Prelude.{if◌then◌else◌, unwrap_or}
 use Rattle.std.proofs.lemmas.List.{map-append, append-nil, append_assoc}
 use Rattle.cap_desc.specs.DescriptorFormat.{MethodDescriptor}
-use Rattle.cap_package.specs.Agreement.{or_none}
 use Rattle.cap_package.specs.HeaderChecks.{header_in, is_static}
 use Rattle.cap_package.specs.PackageRecord.{PackageRecord, names_interface}
 use Rattle.cap_package.specs.Parts.{Lent}
@@ -14,7 +13,7 @@ use Rattle.jc_base.specs.declared.record.Sig.{Sig}
 use Rattle.jc_decode.specs.declared.symbols.Laid.{Laid}
 use Rattle.jc_resolve.specs.Numbering.{NumberedMethod, methods_of_classes, methods_after, numbered_methods}
 use Rattle.jc_resolve.specs.References.{class_named}
-use Rattle.jc_resolve.specs.WorldTypes.{signature_in, declared_signature}
+use Rattle.jc_resolve.specs.WorldTypes.{declared_signature}
 use Rattle.jc_resolve.specs.NamedMethods.{is_init, no_body, body_by, body_of, class_described, have_headers, named_method, named_methods}
 use Rattle.law_package.specs.Rewritten.{IsRewritten}
 use Rattle.law_package.proofs.Lists.{Each}
@@ -30,10 +29,7 @@ use Rattle.law_relink.proofs.Known.{IsKnownTwin, known_twins, twins_in, of_class
 
 pub after_split : (k n : ℕ) (ps : List PackageRecord) (q : PackageRecord) → n ≡ k + length ps
     → methods_after k (and_last ps q) ≡ methods_after k ps ++ methods_of_classes n q 0 q.description.items.classes
-after_split k n [] q e =
-    let z : k ≡ n = omega (arith, e) in
-    append-nil (methods_of_classes k q 0 q.description.items.classes)
-    ∙ ap (λ j. methods_of_classes j q 0 q.description.items.classes) z
+after_split k n [] q e = grind (arith, append-nil)
 after_split k n (x ∷ ps) q e =
     let z : n ≡ k + 1 + length ps = omega (arith, e) in
     let own = methods_of_classes k x 0 x.description.items.classes in
@@ -96,11 +92,7 @@ module _ (parts new_parts : List Lent) (ps : List PackageRecord) (p q : PackageR
   signature_stays : (object k : ℕ) (t : Twin) → IsKnownTwin p q laid t → declared_signature was object k q.description t.new.type_offset
       ≡ declared_signature was object k p.description t.old.type_offset
   unfolding declared_signature
-  signature_stays object k t i =
-      let offset : t.new.type_offset ≡ t.old.type_offset = ap (λ (m : MethodDescriptor). m.type_offset) i.bare in
-      ap (λ o. signature_in was object k (or_none o)) (same_types_named (names_interface p.classes) p.description q.description
-      t.new.type_offset r.description)
-      ∙ ap (declared_signature was object k p.description) offset
+  signature_stays object k t i = grind (arith, same_types_named)
 
   class_stays : (k : ℕ) (t : Twin) → IsKnownTwin p q laid t → class_described was k t.new_class ≡ class_described was k t.old_class
   unfolding class_described
@@ -109,21 +101,7 @@ module _ (parts new_parts : List Lent) (ps : List PackageRecord) (p q : PackageR
   old_apart : (k : ℕ) (t : Twin) → IsKnownTwin p q laid t → MayBeLaid was roles k p t
       → apart_from_code (named_method was roles (after_in k q t)) ≡ apart_from_code (named_method was roles (before_in k p t))
   unfolding named_method
-  old_apart k t i may =
-      let throwable = slice_index roles 1 in
-      let new_sig = declared_signature was (slice_index roles 0) k q.description t.new.type_offset in
-      let sig = declared_signature was (slice_index roles 0) k p.description t.old.type_offset in
-      let class = class_described was k t.old_class in
-      ap (λ b. told k t.class_no t.method_no t.new (class_described was k t.new_class) new_sig
-      (body_of was throwable k q t.new new_sig b).is_abstract) (twin_headers was k p q laid t r i)
-      ∙ ap (told k t.class_no t.method_no t.new (class_described was k t.new_class) new_sig) (abstract_same k t sig new_sig i may)
-      ∙ ap (λ s. told k t.class_no t.method_no t.new (class_described was k t.new_class) s
-      (body_of was throwable k p t.old sig (have_headers was k p t.old_class)).is_abstract)
-      (signature_stays (slice_index roles 0) k t i)
-      ∙ ap (λ c. told k t.class_no t.method_no t.new c sig
-      (body_of was throwable k p t.old sig (have_headers was k p t.old_class)).is_abstract) (class_stays k t i)
-      ∙ ap (λ m. told k t.class_no t.method_no m class sig
-      (body_of was throwable k p t.old sig (have_headers was k p t.old_class)).is_abstract) i.bare
+  old_apart k t i may = grind (arith, slice_index, twin_headers, abstract_same, signature_stays, class_stays)
 
   pub twin_apart : (k : ℕ) (t : Twin) → IsKnownTwin p q laid t → MayBeLaid was roles k p t
       → apart_from_code (named_method (and_last ps q) roles (after_in k q t))
@@ -136,10 +114,7 @@ module _ (parts new_parts : List Lent) (ps : List PackageRecord) (p q : PackageR
       → map apart_from_code (map (named_method (and_last ps q) roles) (map (after_in k q) ts))
       ≡ map apart_from_code (map (named_method was roles) (map (before_in k p) ts))
   twins_apart k [] i may = refl
-  twins_apart k (t ∷ ts) i may =
-      ap (λ m. m ∷ map apart_from_code (map (named_method (and_last ps q) roles) (map (after_in k q) ts)))
-      (twin_apart k t i.0 may.0)
-      ∙ ap (λ ms. apart_from_code (named_method was roles (before_in k p t)) ∷ ms) (twins_apart k ts i.1 may.1)
+  twins_apart k (t ∷ ts) i may = grind (arith, map, twin_apart, twins_apart k ts i.1 may.1)
 
   pub methods_apart : StandsFor parts p → StandsFor new_parts q → Each (MayBeLaid was roles (length ps) p) (twins_in p q laid)
       → map apart_from_code (named_methods (and_last ps q) roles) ≡ map apart_from_code (named_methods was roles)

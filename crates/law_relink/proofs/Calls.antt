@@ -4,13 +4,11 @@ use Rattle.std.proofs.Common.{None, option_map, slice_index, ◌⊎◌, inl, inr
 use Rattle.std.specs.Prelude.{if◌then◌else◌, ◌==◌}
 use Rattle.std.proofs.lemmas.Bool.{false≢true, and_parts, eqb-true}
 use Rattle.byteorder.specs.Endian.{big_bytes}
-use Rattle.byteorder.specs.Numbers.{big_number-reads_back}
 use Rattle.cap_desc.specs.DescriptorFormat.{ClassDescriptor, MethodDescriptor}
 use Rattle.cap_desc.specs.Members.{methods_but}
 use Rattle.cap_pool.specs.PoolFormat.{Entry}
 use Rattle.cap_pool.specs.declared.pool_reference.PoolReference.{PoolReference}
-use Rattle.cap_pool.specs.declared.pool_reference.PoolReference.TheVariants.{StaticMethod}
-use Rattle.cap_pool.specs.declared.pool_reference.StaticReference.TheVariants.{Internal, External}
+use Rattle.cap_pool.specs.declared.pool_reference.StaticReference.TheVariants.{Internal}
 use Rattle.cap_pool.specs.PoolReference.{referred}
 use Rattle.cap_package.specs.PackageRecord.{PackageRecord, names_interface}
 use Rattle.cap_package.specs.Parts.{Lent}
@@ -29,7 +27,6 @@ use Rattle.jc_resolve.specs.declared.place.RecordPlace.{RecordPlace}
 use Rattle.jc_resolve.specs.Numbering.{NumberedMethod, methods_of_class, methods_of_classes, methods_after, numbered_methods, place_of_method, method_places}
 use Rattle.jc_resolve.specs.Numbering.{is_at, is_placed, method_at}
 use Rattle.law_package.specs.Changes.{Change, changes, now_at}
-use Rattle.law_package.specs.Written.{IsMethodWritten}
 use Rattle.law_package.specs.Rewritten.{IsRewritten}
 use Rattle.law_package.proofs.Lists.{Each, Has, each_at}
 use Rattle.cap_package.proofs.Agreed.{agrees}
@@ -100,11 +97,7 @@ has_end (y ∷ xs) ys x h = inr (has_end xs ys x h)
 record_has : (k : ℕ) (p : PackageRecord) (i : ℕ) (c : ClassDescriptor) (j : ℕ) (ms : List MethodDescriptor) (m : NumberedMethod)
     → Has (methods_of_class k p i c j ms) m → Has ms m.record_of × (m.placed ≡ is_placed p c)
 record_has k p i c j [] m h = absurd h
-record_has k p i c j (x ∷ ms) m (inl s) = (
-  inl (ap (λ (y : NumberedMethod). y.record_of) s),
-  ap (λ (y : NumberedMethod). y.placed)
-      s,
-)
+record_has k p i c j (x ∷ ms) m (inl s) = grind (arith)
 record_has k p i c j (x ∷ ms) m (inr h) = let t = record_has k p i c (j + 1) ms m h in (inr t.0, t.1)
 
 described_has : (k : ℕ) (p : PackageRecord) (i : ℕ) (cs : List ClassDescriptor) (m : NumberedMethod) → Has (methods_of_classes k p i cs) m
@@ -122,11 +115,7 @@ described_has k p i (c ∷ cs) m h e =
         → (Has (methods_of_classes k p (i + 1) cs) m → Has (methods_but (names_interface p.classes) cs) m.record_of)
         → Has (if b then methods_but (names_interface p.classes) cs else c.methods ++ methods_but (names_interface p.classes) cs)
         m.record_of
-    by true f (inl g) more = absurd (not_placed f (record_has k p i c 0 c.methods m g).1)
-    by true f (inr g) more = more g
-    by false f (inl g) more = has_front c.methods (methods_but (names_interface p.classes) cs) m.record_of
-        (record_has k p i c 0 c.methods m g).0
-    by false f (inr g) more = has_end c.methods (methods_but (names_interface p.classes) cs) m.record_of (more g)
+    by x f x2 more = grind (arith, record_has, has_front, has_end)
 
 -- a change of the method that stands at an offset of the last package
 pub record ChangesAt (cs : List Change) (o : ℕ) : Type 0 where
@@ -162,9 +151,7 @@ changes_at ps p q laid o n r e =
 -- ---- an entry with a renewed offset
 
 two_bytes : (x : ℕ) → x < 65536 → slice_index (big_bytes 2 x) 0 * 256 + slice_index (big_bytes 2 x) 1 ≡ x
-two_bytes x lt =
-    let e = big_number-reads_back 2 x [] lt in
-    omega (arith, e)
+two_bytes x lt = grind (arith)
 
 module _ (parts : List Lent) (ps : List PackageRecord) (p q : PackageRecord) (laid : List (Option Laid)) (s : StandsFor parts p)
     (r : IsRewritten p laid q) (short : length q.methods.info ≤ 65535) where
@@ -179,11 +166,7 @@ module _ (parts : List Lent) (ps : List PackageRecord) (p q : PackageRecord) (la
 
   -- a change's new offset is that of a method in the info
   low_offset : (c : Change) → Has (changes p laid q) c → c.now.method_offset < 65536
-  low_offset c h =
-      let cs = changes p laid q in
-      let ends = ends_inside p q cs c (each_at (IsMethodWritten p q cs) cs c (all_written p q laid r) h) h r.long in
-      let size = sizes_end q.methods.info c.now in
-      omega (arith, ends, size, short)
+  low_offset c h = grind (arith, all_written p q laid r, sizes_end q.methods.info c.now, ends_inside, each_at)
 
   own_call : (o n : ℕ) → method_at old (record { «package» = length ps; offset = o }) ≡ Some n
       → method_at now (record {
@@ -219,9 +202,7 @@ module _ (parts : List Lent) (ps : List PackageRecord) (p q : PackageRecord) (la
   renewed_call o m c = let there = call_told o m c in ap (option_map StaticCall) (own_call o there.0 there.1)
 
   not_own : (x : PoolReference) → own_offset x ≡ None → IsSameCall ps p q laid r (length ps) x
-  not_own (StaticMethod (Internal o)) none = absurd cc
-  not_own (StaticMethod (External asked class token)) none = other_call ps p q laid r (length ps) asked class token (omega arith)
-  not_own other none = tt {0}
+  not_own other none = grind (arith, other_call, length)
 
   -- an entry that names a member names it still when its offset is renewed
   pub renewed_member : (t : ClassTable) (statics : List StaticRec) (e : Entry) (m : Member) → member_of old t statics (length ps) e ≡ Some m

@@ -8,8 +8,6 @@ use Rattle.cap_desc.specs.DescriptorFormat.{MethodDescriptor}
 use Rattle.cap_method.specs.declared.handler.HandlerInfo.{HandlerInfo}
 use Rattle.cap_pool.specs.PoolFormat.{Entry}
 use Rattle.cap_pool.specs.declared.pool_reference.PoolReference.{PoolReference}
-use Rattle.cap_pool.specs.declared.pool_reference.PoolReference.TheVariants.{Class as ClassEntry}
-use Rattle.cap_pool.specs.PoolReference.{referred}
 use Rattle.cap_package.specs.PackageRecord.{PackageRecord, handlers_of}
 use Rattle.cap_package.specs.Parts.{Lent}
 use Rattle.cap_package.specs.StandsFor.{StandsFor}
@@ -26,7 +24,7 @@ use Rattle.jc_link.specs.Catches.{class_caught, class_caught_by, thrown_by, catc
 use Rattle.jc_link.specs.Catches.{bad_catches}
 use Rattle.jc_resolve.specs.declared.fault.LinkFault.TheVariants.{BadCatch}
 use Rattle.jc_resolve.specs.NamedMethods.{handler_named}
-use Rattle.law_package.specs.Changes.{Change, changes, now_at}
+use Rattle.law_package.specs.Changes.{Change, changes}
 use Rattle.law_package.specs.Written.{IsAs, IsMethodWritten, handlers_in, block_of}
 use Rattle.law_package.specs.Rewritten.{IsRewritten}
 use Rattle.law_package.proofs.Lists.{Each, each_at, none_each, each_none, append_none}
@@ -52,12 +50,10 @@ module _ (ps : List PackageRecord) (p q : PackageRecord) (laid : List (Option La
     old = and_last ps p
 
     caught_same : (k : ℕ) (x : PoolReference) → class_caught now k x ≡ class_caught old k x
-    caught_same k (ClassEntry c) = class_same ps p q laid r k c
-    caught_same k other = refl
+    caught_same k other = grind (arith, class_same)
 
     by_same : (k : ℕ) (o : Option Entry) → class_caught_by now k o ≡ class_caught_by old k o
-    by_same k None = refl
-    by_same k (Some e) = caught_same k (referred e)
+    by_same k x = grind (arith, caught_same)
 
     catches_same : (k : ℕ) (pool : List Entry) (index : ℕ) → catches_throwable now t k pool index ≡ catches_throwable old t k pool index
     unfolding catches_throwable
@@ -69,13 +65,7 @@ module _ (ps : List PackageRecord) (p q : PackageRecord) (laid : List (Option La
 
     catches_renewed : (k index : ℕ) → catches_throwable now t k q.pool index ≡ catches_throwable old t k p.pool index
     unfolding catches_throwable
-    catches_renewed k index =
-        let to = now_at (changes p laid q) in
-        ap (λ c. index == 0 || thrown_by t c)
-        (by_same k (slice_get q.pool index)
-        ∙ ap (λ es. class_caught_by old k (slice_get es index)) r.pool
-        ∙ ap (class_caught_by old k) (slice_get-map (renewed_entry to) p.pool index)
-        ∙ by_renewed k to (slice_get p.pool index))
+    catches_renewed k index = grind (arith, by_same, slice_get, slice_get-map, by_renewed)
 
     -- ---- the handlers of a package
 
@@ -83,8 +73,7 @@ module _ (ps : List PackageRecord) (p q : PackageRecord) (laid : List (Option La
     Catches xs k pool h = catches_throwable xs t k pool h.index ≡ true
 
     fault_not : (b : Bool) (k n : ℕ) → (if b then None else Some (BadCatch k n)) ≡ None → b ≡ true
-    fault_not true k n e = refl
-    fault_not false k n e = absurd cc
+    fault_not x k n e = grind (arith)
 
     each_catches : (xs : List PackageRecord) (k : ℕ) (pool : List Entry) (n : ℕ) (hs : List HandlerInfo)
         → filter_map (catch_fault xs t) (handlers_from k pool n hs) ≡ [] → Each (Catches xs k pool) hs
@@ -201,11 +190,7 @@ module _ (ps : List PackageRecord) (p q : PackageRecord) (laid : List (Option La
     own_catches : (k : ℕ) (xs : List PackageRecord) → k + length xs ≡ length ps
         → filter_map (catch_fault old t) (handlers_after k (and_last xs p)) ≡ []
         → Each (Catches old (length ps) p.pool) p.methods.handlers
-    own_catches k [] e none =
-        let z : k ≡ length ps = omega (arith, e) in
-        let own = handlers_from k p.pool 0 p.methods.handlers in
-        let both = both_empty (filter_map (catch_fault old t) own) [] (sym (filter_map-append (catch_fault old t) own []) ∙ none) in
-        subst (λ j. Each (Catches old j p.pool) p.methods.handlers) z (each_catches old k p.pool 0 p.methods.handlers both.0)
+    own_catches k [] e none = grind (arith, length, both_empty, filter_map, filter_map-append, each_catches)
     own_catches k (x ∷ xs) e none =
         let own = handlers_from k x.pool 0 x.methods.handlers in
         let both = both_empty (filter_map (catch_fault old t) own)

@@ -2,7 +2,7 @@
 use Rattle.std.proofs.Common.{◌≡◌, ◌≤◌, ◌<◌, ◌+◌, ℕ, List, [], ◌∷◌, ◌++◌, length, map, flat_map, Bool, true, false, Option}
 use Rattle.std.proofs.Common.{Some, None, option_map, inl, inr, refl, sym, ap, subst, ◌∙◌, arith}
 use Rattle.std.specs.Prelude.{if◌then◌else◌, ◌==◌, ◌||◌}
-use Rattle.std.specs.List.{list_any, cons_option}
+use Rattle.std.specs.List.{list_any}
 use Rattle.std.proofs.lemmas.Bool.{false≢true, eqb-true}
 use Rattle.cap_class.specs.ClassFormat.{Class, Interface}
 use Rattle.cap_desc.specs.declared.type_item.TypeItem.{TypeItem}
@@ -23,7 +23,7 @@ use Rattle.jc_decode.specs.declared.symbols.Laid.{Laid}
 use Rattle.jc_resolve.specs.Numbering.{numbered_class, method_at}
 use Rattle.jc_resolve.specs.References.{class_named}
 use Rattle.jc_resolve.specs.WorldTypes.{class_or_object, type_class, type_of}
-use Rattle.jc_resolve.specs.NamedClasses.{fields_described, instance_fields, by_token, cells_by, cells_of_field, cells_of_fields, dispatch_entry}
+use Rattle.jc_resolve.specs.NamedClasses.{fields_described, instance_fields, cells_by, cells_of_field, cells_of_fields, dispatch_entry}
 use Rattle.jc_resolve.specs.NamedClasses.{interface_named, implemented_interfaces, parent_named, named_class, named_classes}
 use Rattle.jc_resolve.proofs.Pairwise.{each-split}
 use Rattle.law_package.specs.Changes.{Change, changes, now_at}
@@ -58,8 +58,7 @@ type_same ps p q laid object k t r = rw (type_class_same ps p q laid object k t.
 
 cells_by_same : (ps : List PackageRecord) (p q : PackageRecord) (laid : List (Option Laid)) (object k : ℕ) (o : Option TypeItem)
     → IsRewritten p laid q → cells_by (and_last ps q) object k o ≡ cells_by (and_last ps p) object k o
-cells_by_same ps p q laid object k None r = refl
-cells_by_same ps p q laid object k (Some t) r = rw (type_same ps p q laid object k t r) refl
+cells_by_same ps p q laid object k x r = grind (arith, type_same)
 
 pub flat_same : {X Y : Type 0} (f g : X → List Y) (xs : List X) → ((x : X) → f x ≡ g x) → flat_map f xs ≡ flat_map g xs
 flat_same f g [] h = refl
@@ -75,9 +74,7 @@ cells_same : (ps : List PackageRecord) (p q : PackageRecord) (laid : List (Optio
     (fields : List FieldDescriptor) → IsRewritten p laid q → ((f : FieldDescriptor) → field_type e f.ty ≡ field_type d f.ty)
     → cells_of_fields (and_last ps q) object k e fields ≡ cells_of_fields (and_last ps p) object k d fields
 unfolding cells_of_fields cells_of_field
-cells_same ps p q laid object k d e fields r h = flat_same (λ (f : FieldDescriptor). cells_by (and_last ps q) object k (field_type e f.ty))
-    (λ (f : FieldDescriptor). cells_by (and_last ps p) object k (field_type d f.ty)) (by_token fields)
-    (λ f. ap (cells_by (and_last ps q) object k) (h f) ∙ cells_by_same ps p q laid object k (field_type d f.ty) r)
+cells_same ps p q laid object k d e fields r h = grind (arith, flat_same, cells_by_same)
 
 instances_same : (p q : PackageRecord) (laid : List (Option Laid)) (offset : ℕ) → IsRewritten p laid q
     → instance_fields q.description.items.classes offset ≡ instance_fields p.description.items.classes offset
@@ -93,15 +90,12 @@ instances_same p q laid offset r =
 interface_same : (ps : List PackageRecord) (p q : PackageRecord) (laid : List (Option Laid)) (k : ℕ) (i : Interface)
     → IsRewritten p laid q → interface_named (and_last ps q) k i ≡ interface_named (and_last ps p) k i
 unfolding interface_named
-interface_same ps p q laid k i r = ap (option_map (λ c. record { class = c; tokens = i.tokens }))
-    (named_same ps p q laid k i.class_ref r)
+interface_same ps p q laid k i r = grind (arith, option_map, named_same)
 
 interfaces_same : (ps : List PackageRecord) (p q : PackageRecord) (laid : List (Option Laid)) (k : ℕ) (is : List Interface)
     → IsRewritten p laid q → implemented_interfaces (and_last ps q) k is ≡ implemented_interfaces (and_last ps p) k is
 interfaces_same ps p q laid k [] r = refl
-interfaces_same ps p q laid k (i ∷ is) r =
-    ap (λ o. cons_option o (implemented_interfaces (and_last ps q) k is)) (interface_same ps p q laid k i r)
-    ∙ ap (cons_option (interface_named (and_last ps p) k i)) (interfaces_same ps p q laid k is r)
+interfaces_same ps p q laid k (i ∷ is) r = grind (arith, interface_same, interfaces_same ps p q laid k is r)
 
 parent_same : (ps : List PackageRecord) (p q : PackageRecord) (laid : List (Option Laid)) (k reference : ℕ) → IsRewritten p laid q
     → parent_named (and_last ps q) k reference ≡ parent_named (and_last ps p) k reference
@@ -117,8 +111,7 @@ earlier_entry ps p q laid k o r lt = ap (λ m. if o == 0xFFFF then None else m) 
 earlier_entries : (ps : List PackageRecord) (p q : PackageRecord) (laid : List (Option Laid)) (k : ℕ) (os : List ℕ)
     → IsRewritten p laid q → k < length ps → map (dispatch_entry (and_last ps q) k) os ≡ map (dispatch_entry (and_last ps p) k) os
 earlier_entries ps p q laid k [] r lt = refl
-earlier_entries ps p q laid k (o ∷ os) r lt = ap (λ e. e ∷ map (dispatch_entry (and_last ps q) k) os) (earlier_entry ps p q laid k o r lt)
-    ∙ ap (λ es. dispatch_entry (and_last ps p) k o ∷ es) (earlier_entries ps p q laid k os r lt)
+earlier_entries ps p q laid k (o ∷ os) r lt = grind (arith, map, earlier_entry, earlier_entries ps p q laid k os r lt)
 
 pub has_any : (t : Change → Bool) (cs : List Change) → list_any t cs ≡ true → (c : Change) × Has cs c × (t c ≡ true)
 has_any t [] e = absurd (false≢true e)
@@ -148,11 +141,7 @@ last_entry parts ps p q laid o s r short e = by (o == 0xFFFF) refl
     by : (b : Bool) → (o == 0xFFFF) ≡ b → (if now_at (changes p laid q) o == 0xFFFF then None else method_at (and_last ps q)
         (record { «package» = length ps; offset = now_at (changes p laid q) o }))
         ≡ (if o == 0xFFFF then None else method_at (and_last ps p) (record { «package» = length ps; offset = o }))
-    by true h =
-        let z : now_at (changes p laid q) o ≡ 0xFFFF = ap (now_at (changes p laid q)) (is_last o h)
-        ∙ last_stays parts p q laid s r in
-        ap (λ n. if n == 0xFFFF then None else method_at (and_last ps q) (record { «package» = length ps; offset = n })) z
-        ∙ sym (ap (λ b. if b then None else method_at (and_last ps p) (record { «package» = length ps; offset = o })) h)
+    by true h = grind (arith, last_stays parts p q laid s r, length ps)
     by false h =
         let cs = changes p laid q in
         let k = ap (λ b. if b then None else (if is_method_at (class_methods p) o then None else Some (NoMethodAt o))) (sym h)
@@ -195,15 +184,7 @@ earlier_class : (ps : List PackageRecord) (p q : PackageRecord) (laid : List (Op
     (c : Class) → IsRewritten p laid q → j < length ps
     → named_class (and_last ps q) object (numbered_class j x c) ≡ named_class (and_last ps p) object (numbered_class j x c)
 unfolding named_class
-earlier_class ps p q laid object j x c r lt =
-    rw (
-      interfaces_same ps p q laid j c.interfaces r,
-      parent_same ps p q laid j c.super_ref r,
-      earlier_entries ps p q laid j c.public r lt,
-      earlier_entries ps p q laid j c.visible r lt,
-      cells_same ps p q laid object j x.description x.description (instance_fields x.description.items.classes c.offset) r
-          (λ f. refl),
-    ) refl
+earlier_class ps p q laid object j x c r lt = grind (arith, interfaces_same, parent_same, earlier_entries, cells_same)
 
 last_class : (parts : List Lent) (ps : List PackageRecord) (p q : PackageRecord) (laid : List (Option Laid)) (object : ℕ)
     (c : Class) → StandsFor parts p → IsRewritten p laid q → length q.methods.info ≤ 65535

@@ -38,27 +38,13 @@ many_in_class k p n c i (m ∷ ms) = ap suc (many_in_class k p n c (i + 1) ms)
 many_in_classes : (k : ℕ) (p : PackageRecord) (n : ℕ) (cs : List ClassDescriptor)
     → length (methods_of_classes k p n cs) ≡ length (methods_of cs)
 many_in_classes k p n [] = refl
-many_in_classes k p n (c ∷ cs) =
-    let a = length-append (methods_of_class k p n c 0 c.methods) (methods_of_classes k p (n + 1) cs) in
-    let b = many_in_class k p n c 0 c.methods in
-    let d = many_in_classes k p (n + 1) cs in
-    let e = length-append c.methods (methods_of cs) in
-    omega (arith, a, b, d, e)
+many_in_classes k p n (c ∷ cs) = grind (arith, length-append, many_in_class, many_in_classes k p (n + 1) cs)
 
 many_methods_after : (k : ℕ) (ps : List PackageRecord) (p q : PackageRecord)
     → length (methods_of q.description.items.classes) ≡ length (methods_of p.description.items.classes)
     → length (methods_after k (and_last ps q)) ≡ length (methods_after k (and_last ps p))
-many_methods_after k [] p q e =
-    let a = length-append (methods_of_classes k q 0 q.description.items.classes) [] in
-    let b = length-append (methods_of_classes k p 0 p.description.items.classes) [] in
-    let c = many_in_classes k q 0 q.description.items.classes in
-    let d = many_in_classes k p 0 p.description.items.classes in
-    omega (arith, a, b, c, d, e)
-many_methods_after k (r ∷ ps) p q e =
-    let a = length-append (methods_of_classes k r 0 r.description.items.classes) (methods_after (k + 1) (and_last ps q)) in
-    let b = length-append (methods_of_classes k r 0 r.description.items.classes) (methods_after (k + 1) (and_last ps p)) in
-    let c = many_methods_after (k + 1) ps p q e in
-    omega (arith, a, b, c)
+many_methods_after k [] p q e = grind (arith, length-append, many_in_classes)
+many_methods_after k (r ∷ ps) p q e = grind (arith, length-append, many_methods_after (k + 1) ps p q e)
 
 many_methods : (ps : List PackageRecord) (p q : PackageRecord) (laid : List (Option Laid)) → IsRewritten p laid q
     → length (numbered_methods (and_last ps q)) ≡ length (numbered_methods (and_last ps p))

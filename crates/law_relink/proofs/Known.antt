@@ -62,8 +62,7 @@ all_known parts new_parts p q laid s t r =
 
 changes_are : (p q : PackageRecord) (laid : List (Option Laid)) → IsRewritten p laid q
     → changes p laid q ≡ changes_of (sources p laid) (methods_but (names_interface p.classes) q.description.items.classes)
-changes_are p q laid r = ap (changes_of (sources p laid)) (but_same (names_interface q.classes) (names_interface p.classes)
-    q.description.items.classes (to_set p q laid r))
+changes_are p q laid r = grind (arith, but_same, to_set)
 
 abbrev pub twins_in : PackageRecord → PackageRecord → List (Option Laid) → List Twin
 twins_in p q laid = twins 0 p.description.items.classes q.description.items.classes laid
@@ -89,8 +88,7 @@ twin_changes p q laid P r h =
 -- ---- headers
 
 placed_by : (b c : Bool) → not b && c ≡ true → b ≡ false
-placed_by true c e = absurd (false≢true e)
-placed_by false c e = refl
+placed_by x c e = grind (arith, false≢true)
 
 -- a method that has a header is one of a class
 pub of_class : (ps : List PackageRecord) (k : ℕ) (p : PackageRecord) (c : ClassDescriptor) → have_headers ps k p c ≡ true
@@ -101,9 +99,7 @@ of_class ps k p c e = placed_by (names_interface p.classes c.class_ref) (is_clas
 pub twin_headers : (ps : List PackageRecord) (k : ℕ) (p q : PackageRecord) (laid : List (Option Laid)) (t : Twin)
     → IsRewritten p laid q → IsKnownTwin p q laid t → have_headers ps k q t.new_class ≡ have_headers ps k p t.old_class
 unfolding have_headers
-twin_headers ps k p q laid t r i =
-    ap (λ n. not (names_interface q.classes n) && is_class ps (class_named ps k n)) i.ref
-    ∙ ap (λ b. not b && is_class ps (class_named ps k t.old_class.class_ref)) (to_set p q laid r t.old_class.class_ref)
+twin_headers ps k p q laid t r i = grind (arith, not, to_set)
 
 -- ---- a method that code is laid for
 
@@ -171,8 +167,7 @@ abstract_of (Some h) = is_abstract h
 
 abstract_body : (ps : List PackageRecord) (throwable k : ℕ) (x : PackageRecord) (m : MethodDescriptor) (sig : Sig) (o : Option Header)
     → (body_by ps throwable k x m sig o).is_abstract ≡ abstract_of o
-abstract_body ps throwable k x m sig None = refl
-abstract_body ps throwable k x m sig (Some h) = refl
+abstract_body ps throwable k x m sig x2 = grind (arith)
 
 header_as : (p q : PackageRecord) (all : List Change) (n : ℕ) (t : Twin) (k : IsKnown p q all (change_of n t)) (o : Option Laid)
     → IsAs p q t.old o t.new → ((l : Laid) → o ≡ Some l → is_abstract k.was.header ≡ false)
@@ -201,6 +196,4 @@ pub abstract_bodies : (ps qs : List PackageRecord) (throwable k : ℕ) (x y : Pa
     → abstract_of (header_in y.methods.info n.method_offset) ≡ abstract_of (header_in x.methods.info m.method_offset)
     → (body_by qs throwable k y n sig' (header_in y.methods.info n.method_offset)).is_abstract
     ≡ (body_by ps throwable k x m sig (header_in x.methods.info m.method_offset)).is_abstract
-abstract_bodies ps qs throwable k x y m n sig sig' e =
-    abstract_body qs throwable k y n sig' (header_in y.methods.info n.method_offset) ∙ e
-    ∙ sym (abstract_body ps throwable k x m sig (header_in x.methods.info m.method_offset))
+abstract_bodies ps qs throwable k x y m n sig sig' e = grind (arith, abstract_body)

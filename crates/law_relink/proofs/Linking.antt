@@ -9,12 +9,11 @@ use Rattle.cap_package.specs.StandsFor.{StandsFor}
 use Rattle.cap_package.proofs.InfoLaws.{info-short}
 use Rattle.cap_renewal.specs.ClassEdits.{renewed_class}
 use Rattle.first_fault.specs.First.{AllEmpty}
-use Rattle.jc_base.specs.declared.record.ArrayRec.{ArrayRec}
 use Rattle.jc_base.specs.declared.record.MethodRec.{MethodRec}
 use Rattle.jc_base.specs.World.{Linked}
 use Rattle.jc_base.proofs.Eaching.{Each-from_All}
 use Rattle.jc_decode.specs.declared.symbols.Laid.{Laid}
-use Rattle.jc_resolve.specs.declared.fault.LinkFault.TheVariants.{TooManyStatics, NoRoom}
+use Rattle.jc_resolve.specs.declared.fault.LinkFault.TheVariants.{TooManyStatics}
 use Rattle.jc_resolve.specs.Named.{infos_of}
 use Rattle.jc_resolve.specs.Numbering.{NumberedMethod, numbered_methods}
 use Rattle.jc_resolve.specs.NamedMethods.{named_method, offset_in_info}
@@ -24,13 +23,13 @@ use Rattle.jc_classes.specs.LineConditions as lineage
 use Rattle.jc_classes.specs.Outline.{outline}
 use Rattle.jc_classes.specs.TableConditions as classes
 use Rattle.jc_classes.specs.Tables.{class_tables}
-use Rattle.jc_link.specs.Arrays.{array_records, initial_cells}
+use Rattle.jc_link.specs.Arrays.{array_records}
 use Rattle.jc_link.specs.Room.{statics_fault, arrays_fault}
 use Rattle.jc_link.specs.Catches.{bad_catches}
 use Rattle.jc_link.specs.Pools.{pools, missing_members}
 use Rattle.jc_link.specs.Roles.{abstract_roles}
 use Rattle.cap_index.specs.Indexes.{indexes_of}
-use Rattle.jc_link.specs.World.{classes_of, lineage_of, table_of, methods_of, statics_of, first_classes, table_conditions, member_conditions, IsLinked}
+use Rattle.jc_link.specs.World.{classes_of, table_of, methods_of, statics_of, first_classes, table_conditions, member_conditions, IsLinked}
 use Rattle.law_package.specs.Changes.{changes, now_at}
 use Rattle.law_package.specs.Rewritten.{IsRewritten}
 use Rattle.law_package.proofs.Lists.{Each}
@@ -66,24 +65,15 @@ last_all n ps roles (m ∷ ms) h = (h.0, last_all n ps roles ms h.1)
 -- the methods of the earlier packages are these
 pub earlier_homes : (ps : List PackageRecord) (p : PackageRecord) (roles : List ℕ)
     → Each (λ (r : MethodRec). r.package < length ps) (map (named_method (and_last ps p) roles) (numbered_methods ps))
-earlier_homes ps p roles = before_all (length ps) (and_last ps p) roles (numbered_methods ps)
-    (homes_after 0 (length ps) ps (omega arith))
+earlier_homes ps p roles = grind (arith, before_all, length, homes_after)
 
 one_split : (n : ℕ) (xs ys us vs : List MethodRec) → xs ++ ys ≡ us ++ vs → Each (λ (r : MethodRec). r.package < n) xs
     → Each (λ (r : MethodRec). r.package ≡ n) ys
     → Each (λ (r : MethodRec). r.package + 1 < n + 1) us → Each (λ (r : MethodRec). r.package + 1 ≡ n + 1) vs
     → (us ≡ xs) × (vs ≡ ys)
 one_split n [] ys [] vs e a b c d = (refl, sym e)
-one_split n [] ys (u ∷ us) vs e a b c d =
-    let h = subst (Each (λ (r : MethodRec). r.package ≡ n)) e b in
-    let f = h.0 in
-    let g = c.0 in
-    absurd (omega (arith, f, g))
-one_split n (x ∷ xs) ys [] vs e a b c d =
-    let h = subst (Each (λ (r : MethodRec). r.package + 1 ≡ n + 1)) (sym e) d in
-    let f = h.0 in
-    let g = a.0 in
-    absurd (omega (arith, f, g))
+one_split n [] ys (u ∷ us) vs e a b c d = grind (arith)
+one_split n (x ∷ xs) ys [] vs e a b c d = grind (arith)
 one_split n (x ∷ xs) ys (u ∷ us) vs e a b c d =
     let s : x ≡ u = cc in
     let t : xs ++ ys ≡ us ++ vs = cc in
@@ -165,24 +155,13 @@ module _ (parts new_parts : List Lent) (ps : List PackageRecord) (p q : PackageR
 
   table_conditions_same : map apart_from_code (methods_of now roles) ≡ map apart_from_code (methods_of old roles)
       → table_conditions now roles ≡ table_conditions old roles
-  table_conditions_same apart =
-      ap (λ xs. xs ++ (lineage.conditions (classes_of now roles) (first_classes now) roles ++ classes.conditions
-      (lineage_of now roles) (classes_of now roles) (methods_of now roles))) (conditions_same ps p q laid r)
-      ∙ ap (λ n. names.conditions old ++ (lineage.conditions (classes_of now roles) n roles ++ classes.conditions
-      (lineage_of now roles) (classes_of now roles) (methods_of now roles))) first_same
-      ∙ ap (λ cs. names.conditions old ++ (lineage.conditions cs (first_classes old) roles ++ classes.conditions (outline cs roles)
-      cs (methods_of now roles))) classes_same
-      ∙ ap (λ xs. names.conditions old ++ (lineage.conditions (classes_of old roles) (first_classes old) roles ++ xs))
-      (class_conditions_same (lineage_of old roles) (classes_of old roles) (methods_of now roles) (methods_of old roles) apart)
+  table_conditions_same apart = grind (arith, conditions_same, first_same, classes_same, class_conditions_same)
 
   statics_room : statics_fault now ≡ statics_fault old
   statics_room = ap (λ n. if nat_lt 32768 n then Some (TooManyStatics n) else None) (cells_same ps p q laid r)
 
   arrays_room : arrays_fault now ≡ arrays_fault old
-  arrays_room =
-      ap (λ (as_ : List ArrayRec). if nat_lt 4096 (length as_) then Some
-      (NoRoom (length as_)) else (if nat_lt 32768 (initial_cells as_) then Some (NoRoom (initial_cells as_)) else None))
-      (arrays_same ps p q laid r)
+  arrays_room = grind (arith, length, arrays_same)
 
   -- each handler that is laid catches all, or a class below throwable
   all_catch : bad_catches old (table_of old roles) ≡ [] → Each (MayBeLaid old roles (length ps) p) (twins_in p q laid)

@@ -1,7 +1,6 @@
 -- Lists that are the same seen by a view.
 use Rattle.std.proofs.Common.{◌≡◌, ◌<◌, ◌+◌, ℕ, zero, suc, List, [], ◌∷◌, ◌++◌, length, take, drop, map, flat_map, slice_get, get_or}
-use Rattle.std.proofs.Common.{position, Bool, true, cond, not, Option, Some, None, ◌⊎◌, inl, inr, option_and_then, refl, ap, ◌∙◌, arith}
-use Rattle.std.specs.Prelude.{nat_lt}
+use Rattle.std.proofs.Common.{position, Bool, true, cond, not, Option, Some, ◌⊎◌, inl, inr, option_and_then, refl, ap, ◌∙◌, arith}
 use Rattle.std.specs.List.{position_or_len}
 use Rattle.std.proofs.lemmas.List.Quantifiers.{position-Some}
 use Rattle.law_package.proofs.Lists.{Each, Has}
@@ -40,10 +39,7 @@ first_alike p q (x ∷ xs) (y ∷ ys) e =
 
 pub position_alike : {X Y : Type 0} (p : X → Bool) (q : Y → Bool) (xs : List X) (ys : List Y) → map p xs ≡ map q ys
     → position p xs ≡ position q ys
-position_alike p q xs ys e =
-    let r = first_alike p q xs ys e in
-    ap (λ n. cond (nat_lt n (length xs)) (Some n) None) r.0
-    ∙ ap (λ n. cond (nat_lt (position_or_len q ys) n) (Some (position_or_len q ys)) None) r.1
+position_alike p q xs ys e = grind (arith, first_alike, cond, length)
 
 pub flat_last : {X Y : Type 0} (f : X → List Y) (ps : List X) (p q : X) → f q ≡ f p
     → flat_map f (ps ++ q ∷ []) ≡ flat_map f (ps ++ p ∷ [])

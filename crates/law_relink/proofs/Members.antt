@@ -1,41 +1,33 @@
 -- Pool entries name the same members.
-use Rattle.std.proofs.Common.{◌≡◌, ◌≤◌, ◌<◌, ◌+◌, ◌-◌, ℕ, List, [], ◌∷◌, ◌++◌, length, take, map, flat_map}
+use Rattle.std.proofs.Common.{◌≡◌, ◌≤◌, ◌<◌, ◌+◌, ℕ, List, [], ◌∷◌, length, take, map, flat_map}
 use Rattle.std.proofs.Common.{Option, Some, None, option_map, option_and_then, position, refl, sym, ap, ◌∙◌, arith, length-take}
 use Rattle.std.specs.Prelude.{if◌then◌else◌}
 use Rattle.cap_bytes.specs.declared.class_reference.ClassReference.{ClassReference}
 use Rattle.cap_class.specs.ClassFormat.{Class, is_interface}
 use Rattle.cap_desc.specs.declared.type_item.TypeItem.{TypeItem}
 use Rattle.cap_desc.specs.DescriptorFormat as described
-use Rattle.cap_pool.specs.Export.{field_offset_in, method_offset_in}
 use Rattle.cap_pool.specs.PoolFormat.{Entry}
 use Rattle.cap_pool.specs.declared.pool_reference.PoolReference.{PoolReference}
-use Rattle.cap_pool.specs.declared.pool_reference.PoolReference.TheVariants.{Class as ClassEntry, InstanceField, VirtualMethod, SuperMethod, StaticField}
 use Rattle.cap_pool.specs.declared.pool_reference.PoolReference.TheVariants.{StaticMethod}
 use Rattle.cap_pool.specs.declared.pool_reference.StaticReference.{StaticReference}
-use Rattle.cap_pool.specs.declared.pool_reference.StaticReference.TheVariants.{Internal, External}
+use Rattle.cap_pool.specs.declared.pool_reference.StaticReference.TheVariants.{External}
 use Rattle.cap_pool.specs.PoolReference.{referred}
-use Rattle.cap_package.specs.Agreement.{or_none}
 use Rattle.cap_package.specs.Descriptions.{Description, field_type}
 use Rattle.cap_package.specs.HeaderChecks.{is_static}
 use Rattle.cap_package.specs.PackageRecord.{PackageRecord, names_interface}
 use Rattle.cap_renewal.specs.ClassEdits.{renewed_class}
-use Rattle.jc_base.specs.declared.record.Member.TheVariants.{ClassOf, StaticCall}
+use Rattle.jc_base.specs.declared.record.Member.TheVariants.{ClassOf}
 use Rattle.jc_base.specs.declared.record.StaticRec.{StaticRec}
-use Rattle.jc_base.specs.Class.{ClassTable, object}
+use Rattle.jc_base.specs.Class.{ClassTable}
 use Rattle.jc_decode.specs.declared.symbols.Laid.{Laid}
 use Rattle.jc_link.specs.Entries.{place_in, exported_field, exported_method, exported_place, field_place, method_place}
-use Rattle.cap_desc.specs.DescriptorFormat.{instance_token}
 use Rattle.jc_resolve.specs.OwnFields.{field_with, own_field, fields_in, own_fields}
-use Rattle.jc_link.specs.Fields.{class_sites, sites_of_classes, sites_after, field_sites}
-use Rattle.jc_link.specs.Members.{class_member, proper_by, proper_referred, virtual_by, virtual_member, super_of, super_member, static_at, static_member}
-use Rattle.jc_link.specs.Members.{call_member, field_of, field_member, member_referred, member_of}
+use Rattle.jc_link.specs.Fields.{sites_of_classes, sites_after}
+use Rattle.jc_link.specs.Members.{class_member, proper_by, proper_referred, virtual_by, virtual_member, super_of, super_member, static_member}
+use Rattle.jc_link.specs.Members.{call_member, field_member, member_referred, member_of}
 use Rattle.jc_resolve.specs.declared.place.RecordPlace.{RecordPlace}
-use Rattle.jc_resolve.specs.NamedClasses.{describes}
-use Rattle.jc_resolve.specs.Numbering.{method_at}
 use Rattle.jc_resolve.specs.References.{meets_import, import_of, met_by, class_referred}
-use Rattle.jc_resolve.specs.WorldTypes.{kind_of}
 use Rattle.jc_resolve.proofs.NumberLaws.{position_below}
-use Rattle.law_package.specs.Changes.{changes, now_at}
 use Rattle.law_package.specs.Rewritten.{bare_class, IsRewritten}
 use Rattle.law_package.proofs.Lists.{faults_same}
 use Rattle.law_package.proofs.Bare.{same_field}
@@ -77,8 +69,7 @@ module _ (ps : List PackageRecord) (p q : PackageRecord) (laid : List (Option La
 
   field_by : (n k : ℕ) (f : described.FieldDescriptor) (o : Option TypeItem) → option_map (field_with now n k f) o
       ≡ option_map (field_with old n k f) o
-  field_by n k f None = refl
-  field_by n k f (Some t) = ap (λ u. Some (record { token = instance_token f; kind = kind_of t; ty = u })) (type_same ps p q laid n k t r)
+  field_by n k f x = grind (arith, type_same)
 
   field_same : (n k : ℕ) (d : Description) (f : described.FieldDescriptor) → own_field now n k d f ≡ own_field old n k d f
   unfolding own_field
@@ -86,25 +77,19 @@ module _ (ps : List PackageRecord) (p q : PackageRecord) (laid : List (Option La
 
   fields_same : (n k : ℕ) (d : Description) (offset : ℕ) (c : described.ClassDescriptor)
       → fields_in now n k d offset c ≡ fields_in old n k d offset c
-  fields_same n k d offset c = ap (λ fs. if describes offset c then fs else [])
-      (faults_same (own_field now n k d) (own_field old n k d) c.fields (field_same n k d))
+  fields_same n k d offset c = grind (arith, faults_same, field_same)
 
   own_same : (n k : ℕ) (x : PackageRecord) (c : Class) → own_fields now n k x c ≡ own_fields old n k x c
   unfolding own_fields
-  own_same n k x c =
-      ap (λ fs. if is_interface c.flags then [] else fs)
-      (flat_same (fields_in now n k x.description c.offset) (fields_in old n k x.description c.offset) x.description.items.classes
-      (fields_same n k x.description c.offset))
+  own_same n k x c = grind (arith, flat_same, fields_same)
 
   field_stays : (n k : ℕ) (f : described.FieldDescriptor) → own_field old n k q.description f ≡ own_field old n k p.description f
   unfolding own_field
-  field_stays n k f = ap (λ o. if is_static f.flags then None else option_map (field_with old n k f) o)
-      (same_field (names_interface p.classes) p.description q.description f.ty r.description)
+  field_stays n k f = grind (arith, option_map, same_field)
 
   fields_stay : (n k offset : ℕ) (c : described.ClassDescriptor) → fields_in old n k q.description offset c
       ≡ fields_in old n k p.description offset c
-  fields_stay n k offset c = ap (λ fs. if describes offset c then fs else [])
-      (faults_same (own_field old n k q.description) (own_field old n k p.description) c.fields (field_stays n k))
+  fields_stay n k offset c = grind (arith, faults_same, field_stays)
 
   own_stays : (n k : ℕ) (f : ℕ → ℕ) (c : Class) → own_fields old n k q (renewed_class f c) ≡ own_fields old n k p c
   unfolding own_fields
@@ -120,32 +105,21 @@ module _ (ps : List PackageRecord) (p q : PackageRecord) (laid : List (Option La
   earlier_sites : (t : ClassTable) (k : ℕ) (x : PackageRecord) (c : ℕ) (rs : List Class)
       → sites_of_classes now t k x c rs ≡ sites_of_classes old t k x c rs
   earlier_sites t k x c [] = refl
-  earlier_sites t k x c (y ∷ rs) =
-      ap (λ fs. class_sites t c fs ++ sites_of_classes now t k x (c + 1) rs) (own_same (object t) k x y)
-      ∙ ap (λ ss. class_sites t c (own_fields old (object t) k x y) ++ ss) (earlier_sites t k x (c + 1) rs)
+  earlier_sites t k x c (y ∷ rs) = grind (arith, own_same, earlier_sites t k x (c + 1) rs)
 
   last_sites : (t : ClassTable) (k c : ℕ) (f : ℕ → ℕ) (rs : List Class) → sites_of_classes now t k q c (map (renewed_class f) rs)
       ≡ sites_of_classes old t k p c rs
   last_sites t k c f [] = refl
-  last_sites t k c f (y ∷ rs) =
-      ap (λ fs. class_sites t c fs ++ sites_of_classes now t k q (c + 1) (map (renewed_class f) rs))
-      (own_same (object t) k q (renewed_class f y) ∙ own_stays (object t) k f y)
-      ∙ ap (λ ss. class_sites t c (own_fields old (object t) k p y) ++ ss) (last_sites t k (c + 1) f rs)
+  last_sites t k c f (y ∷ rs) = grind (arith, map, own_same, own_stays, last_sites t k (c + 1) f rs)
 
   all_sites : (t : ClassTable) (c k : ℕ) (xs : List PackageRecord) → sites_after now t c k (and_last xs q)
       ≡ sites_after old t c k (and_last xs p)
-  all_sites t c k [] =
-      ap (λ cs. sites_of_classes now t k q c cs ++ []) r.classes
-      ∙ ap (λ ss. ss ++ []) (last_sites t k c (now_at (changes p laid q)) p.classes)
-  all_sites t c k (x ∷ xs) =
-      ap (λ ss. ss ++ sites_after now t (c + length x.classes) (k + 1) (and_last xs q)) (earlier_sites t k x c x.classes)
-      ∙ ap (λ ss. sites_of_classes old t k x c x.classes ++ ss) (all_sites t (c + length x.classes) (k + 1) xs)
+  all_sites t c k [] = grind (arith, last_sites)
+  all_sites t c k (x ∷ xs) = grind (arith, length, earlier_sites, all_sites t (c + length x.classes) (k + 1) xs)
 
   instance_same : (t : ClassTable) (k : ℕ) (c : ClassReference) (token : ℕ) → field_member now t k c token ≡ field_member old t k c token
   unfolding field_member
-  instance_same t k c token =
-      ap (λ ss. option_and_then (field_of ss t token) (proper_referred now t k c)) (all_sites t 0 0 ps)
-      ∙ ap (option_and_then (field_of (field_sites old t) t token)) (proper_same t k c)
+  instance_same t k c token = grind (arith, option_and_then, all_sites, proper_same)
 
   -- ---- what other packages export
 
@@ -174,28 +148,20 @@ module _ (ps : List PackageRecord) (p q : PackageRecord) (laid : List (Option La
 
       by : (o : Option ℕ) → met_by old k asked ≡ o → option_and_then f (option_and_then (λ j. option_map (place_in j) (a j class token)) o)
           ≡ option_and_then g (option_and_then (λ j. option_map (place_in j) (b j class token)) o)
-      by None m = refl
-      by (Some j) m =
-          let lt = met_earlier k asked j le m in
-          ap (λ o. option_and_then f (option_map (place_in j) o)) (same j class token lt) ∙ at j (b j class token) lt
+      by x m = grind (arith, met_earlier, option_and_then, option_map)
 
   fields_exported : (j class token : ℕ) → j < length ps → exported_field now j class token ≡ exported_field old j class token
-  fields_exported j class token lt = ap (option_and_then (λ (x : PackageRecord). field_offset_in (or_none x.export) class token))
-      (get_earlier ps p q j lt)
+  fields_exported j class token lt = grind (arith, option_and_then, get_earlier)
 
   methods_exported : (j class token : ℕ) → j < length ps → exported_method now j class token ≡ exported_method old j class token
-  methods_exported j class token lt = ap (option_and_then (λ (x : PackageRecord). method_offset_in (or_none x.export) class token))
-      (get_earlier ps p q j lt)
+  methods_exported j class token lt = grind (arith, option_and_then, get_earlier)
 
   -- ---- static fields
 
   static_same : (statics : List StaticRec) (k : ℕ) (x : StaticReference) → k ≤ length ps
       → static_member now statics k x ≡ static_member old statics k x
   unfolding static_member field_place
-  static_same statics k (Internal offset) le = refl
-  static_same statics k (External asked class token) le =
-      exported_same (exported_field now) (exported_field old) (static_at statics) (static_at statics) k asked class token le
-      fields_exported (λ j offset lt. refl)
+  static_same statics k x le = grind (arith, exported_same, fields_exported)
 
   -- ---- methods without dispatch
 
@@ -203,15 +169,11 @@ module _ (ps : List PackageRecord) (p q : PackageRecord) (laid : List (Option La
   pub other_call : (k asked class token : ℕ) → k ≤ length ps
       → call_member now k (External asked class token) ≡ call_member old k (External asked class token)
   unfolding call_member method_place
-  other_call k asked class token le =
-      ap (option_map StaticCall)
-      (exported_same (exported_method now) (exported_method old) (method_at now) (method_at old) k asked class token le methods_exported
-      (λ j offset lt. earlier_method ps p q laid j offset r lt))
+  other_call k asked class token le = grind (arith, option_map, exported_same, methods_exported, earlier_method)
 
   earlier_call : (k : ℕ) (x : StaticReference) → k < length ps → call_member now k x ≡ call_member old k x
   unfolding call_member method_place
-  earlier_call k (Internal offset) lt = ap (option_map StaticCall) (earlier_method ps p q laid k offset r lt)
-  earlier_call k (External asked class token) lt = other_call k asked class token (omega arith)
+  earlier_call k x lt = grind (arith, option_map, earlier_method, other_call)
 
   -- ---- all kinds
 
@@ -222,12 +184,7 @@ module _ (ps : List PackageRecord) (p q : PackageRecord) (laid : List (Option La
 
   referred_same_by : (t : ClassTable) (statics : List StaticRec) (k : ℕ) (x : PoolReference) → k ≤ length ps → IsSameCall k x
       → member_referred now t statics k x ≡ member_referred old t statics k x
-  referred_same_by t statics k (ClassEntry c) le call = class_member_same k c
-  referred_same_by t statics k (InstanceField c token) le call = instance_same t k c token
-  referred_same_by t statics k (VirtualMethod c token) le call = virtual_same t k c token
-  referred_same_by t statics k (SuperMethod c token) le call = super_same t k c token
-  referred_same_by t statics k (StaticField x) le call = static_same statics k x le
-  referred_same_by t statics k (StaticMethod x) le call = call
+  referred_same_by t statics k x le call = grind (arith, class_member_same, instance_same, virtual_same, super_same, static_same)
 
   pub members_same : (t : ClassTable) (statics : List StaticRec) (k : ℕ) (e : Entry) → k ≤ length ps
       → IsSameCall k (referred e) → member_of now t statics k e ≡ member_of old t statics k e
@@ -235,8 +192,7 @@ module _ (ps : List PackageRecord) (p q : PackageRecord) (laid : List (Option La
   members_same t statics k e le call = referred_same_by t statics k (referred e) le call
 
   calls_same : (k : ℕ) (x : PoolReference) → k < length ps → IsSameCall k x
-  calls_same k (StaticMethod x) lt = earlier_call k x lt
-  calls_same k other lt = tt {0}
+  calls_same k other lt = grind (arith, earlier_call)
 
   pub earlier_member : (t : ClassTable) (statics : List StaticRec) (k : ℕ) (e : Entry) → k < length ps
       → member_of now t statics k e ≡ member_of old t statics k e

@@ -14,7 +14,7 @@ use Rattle.cap_renewal.specs.ClassEdits.{renewed_class}
 use Rattle.cap_renewal.specs.ExportEdits.{renewed_exported}
 use Rattle.jc_decode.specs.declared.symbols.Laid.{Laid}
 use Rattle.jc_resolve.specs.declared.place.RecordPlace.{RecordPlace}
-use Rattle.jc_resolve.specs.Numbering.{NumberedClass, numbered_class, numbered_classes_of, classes_after, numbered_classes, place_of_class, class_places}
+use Rattle.jc_resolve.specs.Numbering.{NumberedClass, numbered_class, numbered_classes_of, classes_after, class_places}
 use Rattle.jc_resolve.specs.Numbering.{class_at, same_place, flagged_interface, is_interface_number}
 use Rattle.jc_resolve.specs.References.{meets_import, import_of, met_by, exported_offset, exported_place, place_referred, class_referred, class_named}
 use Rattle.law_package.specs.Changes.{changes, now_at}
@@ -56,15 +56,13 @@ of_last : {Y : Type 0} (now was : NumberedClass → Y) (f : ℕ → ℕ) (k : �
     → Each (λ (c : Class). now (numbered_class k q (renewed_class f c)) ≡ was (numbered_class k p c)) cs
     → map now (map (numbered_class k q) (map (renewed_class f) cs)) ≡ map was (map (numbered_class k p) cs)
 of_last now was f k p q [] h = refl
-of_last now was f k p q (c ∷ cs) h = ap (λ y. y ∷ map now (map (numbered_class k q) (map (renewed_class f) cs))) h.0
-    ∙ ap (λ ys. was (numbered_class k p c) ∷ ys) (of_last now was f k p q cs h.1)
+of_last now was f k p q (c ∷ cs) h = grind (arith, map, of_last now was f k p q cs h.1)
 
 of_others : {Y : Type 0} (now was : NumberedClass → Y) (k : ℕ) (p : PackageRecord) (cs : List Class)
     → ((c : Class) → now (numbered_class k p c) ≡ was (numbered_class k p c))
     → map now (map (numbered_class k p) cs) ≡ map was (map (numbered_class k p) cs)
 of_others now was k p [] h = refl
-of_others now was k p (c ∷ cs) h = ap (λ y. y ∷ map now (map (numbered_class k p) cs)) (h c)
-    ∙ ap (λ ys. was (numbered_class k p c) ∷ ys) (of_others now was k p cs h)
+of_others now was k p (c ∷ cs) h = grind (arith, map, of_others now was k p cs h)
 
 -- what is told of the classes of all packages is the same where it is so of those of the last one, and of those of the others
 pub classes_alike : {Y : Type 0} (now was : NumberedClass → Y) (f : ℕ → ℕ) (k : ℕ) (ps : List PackageRecord) (p q : PackageRecord)
@@ -91,9 +89,7 @@ classes_alike now was f k (r ∷ ps) p q e others last =
 
 pub places_same : (f : ℕ → ℕ) (ps : List PackageRecord) (p q : PackageRecord) → q.classes ≡ map (renewed_class f) p.classes
     → class_places (and_last ps q) ≡ class_places (and_last ps p)
-places_same f ps p q e = classes_alike place_of_class place_of_class f 0 ps p q e (λ j r c lt. refl)
-    (each_of (λ (c : Class). place_of_class (numbered_class (0 + length ps) q (renewed_class f c))
-    ≡ place_of_class (numbered_class (0 + length ps) p c)) p.classes (λ c h. refl))
+places_same f ps p q e = grind (arith, classes_alike, each_of, length)
 
 pub class_at_same : (f : ℕ → ℕ) (ps : List PackageRecord) (p q : PackageRecord) (place : RecordPlace)
     → q.classes ≡ map (renewed_class f) p.classes → class_at (and_last ps q) place ≡ class_at (and_last ps p) place
@@ -116,12 +112,7 @@ flag_told (x ∷ xs) (suc k) = flag_told xs k
 pub interface_number_same : (f : ℕ → ℕ) (ps : List PackageRecord) (p q : PackageRecord) (c : ℕ)
     → q.classes ≡ map (renewed_class f) p.classes → is_interface_number (and_last ps q) c ≡ is_interface_number (and_last ps p) c
 unfolding is_interface_number flag_of
-interface_number_same f ps p q c e =
-    flag_told (numbered_classes (and_last ps q)) c ∙ ap (λ bs. told (slice_get bs c))
-    (classes_alike flag_of flag_of f 0 ps p q e (λ j r d lt. refl)
-    (each_of (λ (d : Class). flag_of (numbered_class (0 + length ps) q (renewed_class f d))
-    ≡ flag_of (numbered_class (0 + length ps) p d)) p.classes (λ d h. refl)))
-    ∙ sym (flag_told (numbered_classes (and_last ps p)) c)
+interface_number_same f ps p q c e = grind (arith, flag_told, slice_get, classes_alike, flag_of, each_of, length)
 
 -- ---- class references
 
@@ -163,8 +154,7 @@ referred_same ps p q laid k reference r =
     exported : (class : ℕ) (o : Option ℕ) → option_and_then (λ j. exported_place (and_last ps q) j class) o
         ≡ option_and_then (λ j. exported_place (and_last ps p) j class) o
     exported class None = refl
-    exported class (Some j) = ap (option_map (λ offset. record { «package» = j; offset = offset }))
-        (exported_same (now_at (changes p laid q)) ps p q j class r.export)
+    exported class (Some j) = grind (arith, exported_same (now_at (changes p laid q)) ps p q j class r.export, option_map)
 
     place_same : (reference : ClassReference) → place_referred (and_last ps q) k reference ≡ place_referred (and_last ps p) k reference
     place_same (Internal offset) = refl

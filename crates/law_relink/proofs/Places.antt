@@ -35,18 +35,13 @@ flagged test interfaces (c ∷ cs) = map (λ (m : MethodDescriptor). if not (int
 
 at_by : (n k o x : ℕ) (b : Bool) → is_at (record { «package» = n; offset = o })
     (if b then Some (record { «package» = k; offset = x }) else None) ≡ (if b then n == k && o == x else false)
-at_by n k o x true = refl
-at_by n k o x false = refl
+at_by n k o x x2 = grind (arith)
 
 in_class : (n k o : ℕ) (p : PackageRecord) (i : ℕ) (c : ClassDescriptor) (j : ℕ) (ms : List MethodDescriptor)
     → map (is_at (record { «package» = n; offset = o })) (map place_of_method (methods_of_class k p i c j ms))
     ≡ map (λ (m : MethodDescriptor). if not (names_interface p.classes c.class_ref) then n == k && o == m.method_offset else false) ms
 in_class n k o p i c j [] = refl
-in_class n k o p i c j (m ∷ ms) =
-    ap (λ b. b ∷ map (is_at (record { «package» = n; offset = o })) (map place_of_method (methods_of_class k p i c (j + 1) ms)))
-    (at_by n k o m.method_offset (not (names_interface p.classes c.class_ref)))
-    ∙ ap (λ bs. (if not (names_interface p.classes c.class_ref) then n == k && o == m.method_offset else false) ∷ bs)
-    (in_class n k o p i c (j + 1) ms)
+in_class n k o p i c j (m ∷ ms) = grind (arith, map, at_by, not, in_class n k o p i c (j + 1) ms)
 
 in_classes : (n k o : ℕ) (p : PackageRecord) (i : ℕ) (cs : List ClassDescriptor)
     → map (is_at (record { «package» = n; offset = o })) (map place_of_method (methods_of_classes k p i cs))
@@ -67,10 +62,7 @@ in_classes n k o p i (c ∷ cs) =
 interfaces_same : (test : ℕ → Bool) (s t : ℕ → Bool) (cs : List ClassDescriptor) → ((r : ℕ) → s r ≡ t r)
     → flagged test s cs ≡ flagged test t cs
 interfaces_same test s t [] h = refl
-interfaces_same test s t (c ∷ cs) h =
-    ap (λ b. map (λ (m : MethodDescriptor). if not b then test m.method_offset else false) c.methods ++ flagged test s cs) (h c.class_ref)
-    ∙ ap (λ bs. map (λ (m : MethodDescriptor). if not (t c.class_ref) then test m.method_offset else false) c.methods ++ bs)
-    (interfaces_same test s t cs h)
+interfaces_same test s t (c ∷ cs) h = grind (arith, map, not, interfaces_same test s t cs h)
 
 both_parts : (xs ys us vs : List Bool) → length xs ≡ length ys → xs ++ us ≡ ys ++ vs → (xs ≡ ys) × (us ≡ vs)
 both_parts [] [] us vs l e = (refl, e)
@@ -152,9 +144,7 @@ equal_if a b x y there apart_now = by (a == b) refl (x == y) refl
 
 find_has : (cs : List Change) (c : Change) → Has cs c → Distinct offset_of cs → find (stood_at (offset_of c)) cs ≡ Some c
 find_has [] c h d = absurd h
-find_has (x ∷ cs) c (inl s) d =
-    ap (λ b. cond b (Some x) (find (stood_at (offset_of c)) cs)) (ap (λ y. stood_at (offset_of c) y) (sym s)
-    ∙ eq-eqb (offset_of c) (offset_of c) refl) ∙ ap Some (sym s)
+find_has (x ∷ cs) c (inl s) d = grind (arith, cond, find, eq-eqb)
 find_has (x ∷ cs) c (inr h) d =
     let ne = each_at (λ (y : Change). offset_of y ≡ offset_of x → ⊥) cs c d.0 h in
     ap (λ b. cond b (Some x) (find (stood_at (offset_of c)) cs)) (ne_eqb (offset_of x) (offset_of c) (λ s. ne (sym s)))
@@ -167,10 +157,7 @@ now_has cs c h d = ap (offset_by (offset_of c)) (find_has cs c h d)
 -- an offset is that of a described method exactly where the renewed one is
 asked_alike : (p q : PackageRecord) (cs : List Change) (d c : Change) → Each (IsMethodWritten p q cs) cs → Distinct offset_of cs
     → Has cs d → Has cs c → (now_at cs (offset_of d) == c.now.method_offset) ≡ (offset_of d == c.source.method.method_offset)
-asked_alike p q cs d c ws apart_cs hd hc =
-    let is = now_has cs d hd apart_cs in
-    equal_if (offset_of d) (offset_of c) (now_at cs (offset_of d)) c.now.method_offset (λ e. ap (now_at cs) e
-    ∙ now_has cs c hc apart_cs) (λ ne e. differ_now p q cs d c ws hd hc ne (sym is ∙ e))
+asked_alike p q cs d c ws apart_cs hd hc = grind (arith, now_has, equal_if, differ_now)
 
 pub map_each_same : {X Y : Type 0} (f g : X → Y) (xs : List X) → Each (λ x. f x ≡ g x) xs → map f xs ≡ map g xs
 map_each_same f g [] h = refl
@@ -191,8 +178,7 @@ pub record SameFlags (now was : RecordPlace) (ps : List PackageRecord) (k : ℕ)
 
 two_maps : (place : RecordPlace) (xs ys : List NumberedMethod) → map (is_at place) (map place_of_method (xs ++ ys))
     ≡ map (is_at place) (map place_of_method xs) ++ map (is_at place) (map place_of_method ys)
-two_maps place xs ys = ap (map (is_at place)) (map-append place_of_method xs ys)
-    ∙ map-append (is_at place) (map place_of_method xs) (map place_of_method ys)
+two_maps place xs ys = grind (arith, map, map-append)
 
 all_flags : (now was : RecordPlace) (k : ℕ) (ps : List PackageRecord) (p q : PackageRecord) → SameFlags now was ps k p q
     → map (is_at now) (map place_of_method (methods_after k (and_last ps q)))

@@ -25,8 +25,7 @@ use Rattle.law_relink.proofs.Calls.{renewed_member}
 use Rattle.std.proofs.lemmas.List.Elements.{filter_map-append}
 
 named_some : (o : Option Member) (k n : ℕ) → (if is_none o then Some (NoMember k n) else None) ≡ None → (m : Member) × (o ≡ Some m)
-named_some None k n e = absurd cc
-named_some (Some m) k n e = (m, refl)
+named_some x k n e = grind (arith)
 
 is_there : (o : Option Member) (k n : ℕ) (m : Member) → o ≡ Some m → (if is_none o then Some (NoMember k n) else None) ≡ None
 is_there o k n m e = ap (λ x. if is_none x then Some (NoMember k n) else None) e
@@ -48,18 +47,12 @@ module _ (parts : List Lent) (ps : List PackageRecord) (p q : PackageRecord) (la
       ≡ filter_map (member_fault old t statics) (places_from k n es)
   unfolding member_fault
   earlier_faults k n [] lt = refl
-  earlier_faults k n (e ∷ es) lt =
-      ap (λ o. cons_option (if is_none o then Some (NoMember k n) else None)
-      (filter_map (member_fault now t statics) (places_from k (n + 1) es))) (earlier_member ps p q laid r t statics k e lt)
-      ∙ ap (cons_option (if is_none (member_of old t statics k e) then Some (NoMember k n) else None))
-      (earlier_faults k (n + 1) es lt)
+  earlier_faults k n (e ∷ es) lt = grind (arith, filter_map, earlier_member, earlier_faults k (n + 1) es lt)
 
   earlier_pool : (k : ℕ) (es : List Entry) → k < length ps → filter_map (member_of now t statics k) es
       ≡ filter_map (member_of old t statics k) es
   earlier_pool k [] lt = refl
-  earlier_pool k (e ∷ es) lt =
-      ap (λ o. cons_option o (filter_map (member_of now t statics k) es)) (earlier_member ps p q laid r t statics k e lt)
-      ∙ ap (cons_option (member_of old t statics k e)) (earlier_pool k es lt)
+  earlier_pool k (e ∷ es) lt = grind (arith, filter_map, earlier_member, earlier_pool k es lt)
 
   record AreSamePool (n : ℕ) (es : List Entry) : Type 0 where
     pub none : filter_map (member_fault now t statics) (places_from (length ps) n (map (renewed_entry to) es)) ≡ []

@@ -1,27 +1,24 @@
 -- The record of a method reads of the packages only what they name.
-use Rattle.std.proofs.Common.{◌≡◌, ◌+◌, ◌-◌, ℕ, List, [], ◌∷◌, ◌++◌, Bool, true, false, not, Option, Some, None, slice_get}
-use Rattle.std.proofs.Common.{slice_index, refl, ap, ◌∙◌}
-use Rattle.std.specs.Prelude.{if◌then◌else◌, unwrap_or, ◌==◌, ◌&&◌}
+use Rattle.std.proofs.Common.{arith}
+use Rattle.std.proofs.Common.{◌≡◌, ◌+◌, ℕ, List, [], ◌∷◌, Bool, true, false, not, Option, Some, None, slice_get}
+use Rattle.std.proofs.Common.{slice_index, refl, ap}
+use Rattle.std.specs.Prelude.{if◌then◌else◌, unwrap_or, ◌==◌}
 use Rattle.cap_desc.specs.declared.type_item.TypeItem.{TypeItem}
 use Rattle.cap_desc.specs.DescriptorFormat.{ClassDescriptor, MethodDescriptor}
 use Rattle.cap_method.specs.declared.handler.HandlerInfo.{HandlerInfo}
 use Rattle.cap_method.specs.MethodFormat.{Header}
 use Rattle.cap_package.specs.Descriptions.{Description}
 use Rattle.cap_package.specs.HeaderChecks.{header_in}
-use Rattle.cap_package.specs.PackageRecord.{PackageRecord, handlers_of}
+use Rattle.cap_package.specs.PackageRecord.{PackageRecord}
 use Rattle.cap_pool.specs.PoolFormat.{Entry}
 use Rattle.cap_pool.specs.declared.pool_reference.PoolReference.{PoolReference}
-use Rattle.cap_pool.specs.declared.pool_reference.PoolReference.TheVariants.{Class as ClassEntry}
-use Rattle.cap_pool.specs.PoolReference.{referred}
 use Rattle.jc_base.specs.declared.record.Sig.{Sig}
 use Rattle.jc_base.specs.declared.ty.Ty.TheVariants.{IntHigh, IntLow}
 use Rattle.jc_decode.specs.declared.symbols.Laid.{Laid}
-use Rattle.jc_resolve.specs.Numbering.{NumberedMethod, numbered_method, is_placed}
-use Rattle.jc_resolve.specs.References.{class_named}
+use Rattle.jc_resolve.specs.Numbering.{NumberedMethod, numbered_method}
 use Rattle.jc_resolve.specs.WorldTypes.{cells_of_type, arguments_before, result_after, signature_in, types_named, declared_signature}
 use Rattle.jc_resolve.specs.NamedMethods.{class_or_none, class_in_entry, caught_class, offset_in_info, handler_named, no_body, body_after, body_by, body_of}
-use Rattle.jc_resolve.specs.NamedMethods.{class_described, is_class, have_headers, method_with, method_as, named_method}
-use Rattle.law_package.specs.Changes.{changes, now_at}
+use Rattle.jc_resolve.specs.NamedMethods.{class_described, is_class, have_headers, method_with, named_method}
 use Rattle.law_package.specs.Rewritten.{IsRewritten}
 use Rattle.law_package.proofs.FromWriting.{map_same}
 use Rattle.law_relink.specs.Last.{and_last}
@@ -43,19 +40,14 @@ module _ (ps : List PackageRecord) (p q : PackageRecord) (laid : List (Option La
   arguments_same : (object k : ℕ) (t : TypeItem) (us : List TypeItem)
       → arguments_before now object k t us ≡ arguments_before was object k t us
   arguments_same object k t [] = refl
-  arguments_same object k t (u ∷ us) =
-      ap (λ cs. cs ++ arguments_before now object k u us) (cells_same object k t)
-      ∙ ap (λ cs. cells_of_type was object k t ++ cs) (arguments_same object k u us)
+  arguments_same object k t (u ∷ us) = grind (arith, cells_same, arguments_same object k u us)
 
   result_same : (object k : ℕ) (t : TypeItem) (us : List TypeItem) → result_after now object k t us ≡ result_after was object k t us
   result_same object k t [] = ap (λ u. if t.nibble == 1 then None else Some u) (type_same ps p q laid object k t r)
   result_same object k t (u ∷ us) = result_same object k u us
 
   signatures_same : (object k : ℕ) (ts : List TypeItem) → signature_in now object k ts ≡ signature_in was object k ts
-  signatures_same object k [] = refl
-  signatures_same object k (t ∷ ts) =
-      ap (λ as_. record { args = as_; result = result_after now object k t ts }) (arguments_same object k t ts)
-      ∙ ap (λ o. record { args = arguments_before was object k t ts; result = o }) (result_same object k t ts)
+  signatures_same object k x = grind (arith, arguments_same, result_same)
 
   signature_same : (object k : ℕ) (d : Description) (offset : ℕ) → declared_signature now object k d offset
       ≡ declared_signature was object k d offset
@@ -65,12 +57,10 @@ module _ (ps : List PackageRecord) (p q : PackageRecord) (laid : List (Option La
   -- ---- handlers, headers and code
 
   reference_same : (k : ℕ) (x : PoolReference) → class_or_none now k x ≡ class_or_none was k x
-  reference_same k (ClassEntry c) = ap (λ o. unwrap_or o 0) (referred_same ps p q laid k c r)
-  reference_same k other = refl
+  reference_same k other = grind (arith, referred_same)
 
   entry_same : (k : ℕ) (o : Option Entry) → class_in_entry now k o ≡ class_in_entry was k o
-  entry_same k None = refl
-  entry_same k (Some e) = reference_same k (referred e)
+  entry_same k x = grind (arith, reference_same)
 
   pub caught_same : (throwable k : ℕ) (pool : List Entry) (index : ℕ)
       → caught_class now throwable k pool index ≡ caught_class was throwable k pool index
@@ -79,30 +69,16 @@ module _ (ps : List PackageRecord) (p q : PackageRecord) (laid : List (Option La
   handler_same : (throwable k : ℕ) (pool : List Entry) (code_at : ℕ) (h : HandlerInfo)
       → handler_named now throwable k pool code_at h ≡ handler_named was throwable k pool code_at h
   unfolding handler_named
-  handler_same throwable k pool code_at h =
-      ap (λ c. record {
-        start = h.start - code_at;
-        end = offset_in_info (h.start + h.length) - code_at;
-        entry =
-            h.entry - code_at;
-        index = h.index;
-        class = c;
-      }) (caught_same throwable k pool h.index)
+  handler_same throwable k pool code_at h = grind (arith, caught_same)
 
   body_same : (throwable k : ℕ) (x : PackageRecord) (m : MethodDescriptor) (sig : Sig) (o : Option Header)
       → body_by now throwable k x m sig o ≡ body_by was throwable k x m sig o
-  body_same throwable k x m sig None = refl
-  body_same throwable k x m sig (Some h) =
-      let code_at = offset_in_info (m.method_offset + h.size) in
-      ap (λ hs. record (body_after now throwable k x m h code_at) { handlers = hs })
-      (map_same (handler_named now throwable k x.pool code_at) (handler_named was throwable k x.pool code_at) (handlers_of x m)
-      (handler_same throwable k x.pool code_at))
+  body_same throwable k x m sig x2 = grind (arith, map_same, handler_same)
 
   bodies_same : (throwable k : ℕ) (x : PackageRecord) (m : MethodDescriptor) (sig : Sig) (b : Bool)
       → body_of now throwable k x m sig b ≡ body_of was throwable k x m sig b
   unfolding body_of
-  bodies_same throwable k x m sig b = ap (λ o. if b then o else no_body m.flags sig)
-      (body_same throwable k x m sig (header_in x.methods.info m.method_offset))
+  bodies_same throwable k x m sig b = grind (arith, body_same)
 
   -- ---- classes
 
@@ -111,30 +87,17 @@ module _ (ps : List PackageRecord) (p q : PackageRecord) (laid : List (Option La
   class_same k c = ap (λ o. unwrap_or o 0) (named_same ps p q laid k c.class_ref r)
 
   is_class_same : (o : Option ℕ) → is_class now o ≡ is_class was o
-  is_class_same None = refl
-  is_class_same (Some c) = ap not (interface_number_same (now_at (changes p laid q)) ps p q c r.classes)
+  is_class_same x = grind (arith, not, interface_number_same)
 
   pub headers_same : (k : ℕ) (x : PackageRecord) (c : ClassDescriptor) → have_headers now k x c ≡ have_headers was k x c
   unfolding have_headers
-  headers_same k x c =
-      ap (λ o. is_placed x c && is_class now o) (named_same ps p q laid k c.class_ref r)
-      ∙ ap (λ b. is_placed x c && b) (is_class_same (class_named was k c.class_ref))
+  headers_same k x c = grind (arith, named_same, is_class_same)
 
   -- ---- methods
 
   pub named_method_same : (roles : List ℕ) (m : NumberedMethod) → named_method now roles m ≡ named_method was roles m
   unfolding named_method
-  named_method_same roles m =
-      let throwable = slice_index roles 1 in
-      let sig = declared_signature was (slice_index roles 0) m.home m.of_package.description m.record_of.type_offset in
-      let class = class_described was m.home m.class in
-      ap (method_as now throwable m) (signature_same (slice_index roles 0) m.home m.of_package.description m.record_of.type_offset)
-      ∙ ap (λ c. method_with m c sig (body_of now throwable m.home m.of_package m.record_of sig
-      (have_headers now m.home m.of_package m.class))) (class_same m.home m.class)
-      ∙ ap (λ b. method_with m class sig (body_of now throwable m.home m.of_package m.record_of sig b))
-      (headers_same m.home m.of_package m.class)
-      ∙ ap (method_with m class sig) (bodies_same throwable m.home m.of_package m.record_of sig
-      (have_headers was m.home m.of_package m.class))
+  named_method_same roles m = grind (arith, slice_index, signature_same, class_same, headers_same, bodies_same)
 
 -- ---- the record of a method that has a header, and of one that has none
 
@@ -147,13 +110,7 @@ pub with_header : (ps : List PackageRecord) (roles : List ℕ) (k : ℕ) (x : Pa
     (declared_signature ps (slice_index roles 0) k x.description m.type_offset)
     (body_after ps (slice_index roles 1) k x m h (offset_in_info (m.method_offset + h.size)))
 unfolding named_method body_of
-with_header ps roles k x i c j m h headers there =
-    let throwable = slice_index roles 1 in
-    let sig = declared_signature ps (slice_index roles 0) k x.description m.type_offset in
-    let class = class_described ps k c in
-    ap (λ b. method_with (numbered_method k x i c j m) class sig (if b then body_by ps throwable k x m sig
-    (header_in x.methods.info m.method_offset) else no_body m.flags sig)) headers
-    ∙ ap (λ o. method_with (numbered_method k x i c j m) class sig (body_by ps throwable k x m sig o)) there
+with_header ps roles k x i c j m h headers there = grind (arith, slice_index)
 
 pub without_header : (ps : List PackageRecord) (roles : List ℕ) (k : ℕ) (x : PackageRecord) (i : ℕ) (c : ClassDescriptor) (j : ℕ) (m : MethodDescriptor)
     → have_headers ps k x c ≡ false
@@ -162,9 +119,4 @@ pub without_header : (ps : List PackageRecord) (roles : List ℕ) (k : ℕ) (x :
     (declared_signature ps (slice_index roles 0) k x.description m.type_offset)
     (no_body m.flags (declared_signature ps (slice_index roles 0) k x.description m.type_offset))
 unfolding named_method body_of
-without_header ps roles k x i c j m headers =
-    let throwable = slice_index roles 1 in
-    let sig = declared_signature ps (slice_index roles 0) k x.description m.type_offset in
-    let class = class_described ps k c in
-    ap (λ b. method_with (numbered_method k x i c j m) class sig (if b then body_by ps throwable k x m sig
-    (header_in x.methods.info m.method_offset) else no_body m.flags sig)) headers
+without_header ps roles k x i c j m headers = grind (arith, slice_index)

@@ -1,6 +1,6 @@
 -- In the new world each method has what is laid for it.
 use Rattle.std.proofs.Common.{◌≡◌, ◌≤◌, ◌<◌, ◌+◌, ◌-◌, ℕ, zero, suc, List, [], ◌∷◌, ◌++◌, length, take, drop, map, min}
-use Rattle.std.proofs.Common.{Bool, true, false, Option, Some, None, option_map, slice_get, slice_index, inl, inr, refl, sym, ap, subst, ◌∙◌, arith}
+use Rattle.std.proofs.Common.{Bool, true, false, Option, Some, None, option_map, slice_get, slice_index, refl, sym, ap, subst, ◌∙◌, arith}
 use Rattle.std.specs.Prelude.{if◌then◌else◌, IsSomeAnd, nat_le, nat_lt, ◌==◌, ◌&&◌}
 use Rattle.std.proofs.lemmas.Bool.{false≢true, leb-true, eqb-true, eqb-false}
 use Rattle.std.proofs.lemmas.Option.{slice_get-map}
@@ -85,46 +85,30 @@ twin_at : (f : Twin → MethodRec) (ts : List Twin) (n : ℕ) (r : MethodRec) (l
     → slice_get (map laid_in ts) n ≡ Some l → IsAt f ts n r l
 twin_at f [] n r l e g = absurd cc
 twin_at f (t ∷ ts) zero r l e g = record { twin = t; there = refl; method = cc; laid_is = cc }
-twin_at f (t ∷ ts) (suc n) r l e g = let a = twin_at f ts n r l e g in
-    record { twin = a.twin; there = a.there; method = a.method; laid_is = a.laid_is }
+twin_at f (t ∷ ts) (suc n) r l e g = grind (arith, twin_at f ts n r l e g)
 
 -- ---- handlers lie in the code of their method
 
 numbered_get : {X : Type 0} (P : ℕ × X → Type 0) (n : ℕ) (xs : List X) (i : ℕ) (x : X) → Each P (enumerate_from n xs)
     → slice_get xs i ≡ Some x → P (n + i, x)
 numbered_get P n [] i x h e = absurd cc
-numbered_get P n (y ∷ xs) zero x h e =
-    let s : y ≡ x = cc in
-    let z : n ≡ n + 0 = omega arith in
-    subst (λ k. P (k, x)) z (subst (λ v. P (n, v)) s h.0)
-numbered_get P n (y ∷ xs) (suc i) x h e =
-    let z : n + 1 + i ≡ n + suc i = omega arith in
-    subst (λ k. P (k, x)) z (numbered_get P (n + 1) xs i x h.1 e)
+numbered_get P n (y ∷ xs) zero x h e = grind (arith)
+numbered_get P n (y ∷ xs) (suc i) x h e = grind (arith, suc, numbered_get P (n + 1) xs i x h.1 e)
 
 one_home : (info : List ℕ) (h : HandlerInfo) (ms : List MethodDescriptor) (m : MethodDescriptor) → has_home info h ms ≡ true → Has ms m
     → is_within info h m ≡ true
-one_home info h [] m e k = absurd k
-one_home info h (x ∷ []) m e (inl s) = ap (is_within info h) s ∙ e
-one_home info h (x ∷ []) m e (inr k) = absurd k
-one_home info h (x ∷ y ∷ ms) m e k = absurd (false≢true e)
+one_home info h x m e k = grind (arith, false≢true)
 
 entry_within : (q : PackageRecord) (m : MethodDescriptor) (n : ℕ) (h : HandlerInfo) → handler_fault q.methods.info (described_methods q) n h ≡ None
     → Has (described_methods q) m → claims n m ≡ true → is_within q.methods.info h m ≡ true
 unfolding handler_fault owners
-entry_within q m n h e k c =
-    one_home q.methods.info h (owners n (described_methods q)) m (is_told (has_home q.methods.info h (owners n (described_methods q))) _ e)
-    (has_filter (claims n) (described_methods q) m k c)
+entry_within q m n h e k c = grind (arith, one_home, is_told, has_filter)
 
 four_parts : (a b c d : Bool) → a && b && c && d ≡ true → (b ≡ true)
-four_parts true true c d e = refl
-four_parts true false c d e = absurd (false≢true e)
-four_parts false b c d e = absurd (false≢true e)
+four_parts x b c d e = grind (arith, false≢true)
 
 claimed : (m : MethodDescriptor) (j : ℕ) → j < m.handler_count → claims (m.handler_index + j) m ≡ true
-claimed m j lt =
-    let a : nat_le m.handler_index (m.handler_index + j) ≡ true = grind arith in
-    let b : nat_lt (m.handler_index + j) (m.handler_index + m.handler_count) ≡ true = grind arith in
-    rw (a, b) refl
+claimed m j lt = grind (arith)
 
 -- the handlers of a described method end in the info
 pub handlers_end : (parts : List Lent) (q : PackageRecord) (m : MethodDescriptor) → Agrees parts q → Has (described_methods q) m
@@ -235,9 +219,7 @@ module _ (parts new_parts : List Lent) (ps : List PackageRecord) (p q : PackageR
   begins : (m : MethodDescriptor) (h : Header) → h.size ≡ size_by (number_at 1 m.method_offset q.methods.info)
       → code_end q.methods.info m ≤ length q.methods.info → offset_in_info (m.method_offset + h.size) ≡ code_start q.methods.info m
   unfolding code_end code_start
-  begins m h size within =
-      ap (λ n. offset_in_info (m.method_offset + n)) size
-      ∙ min-eq_left {n = m.method_offset + size_by (number_at 1 m.method_offset q.methods.info)} {m = 65535} (omega (arith, within, short))
+  begins m h size within = grind (arith, min-eq_left, short)
 
   -- the record and the code of a method that code is laid for
   pub laid_stands : (new : Linked) (number : ℕ) (x : Twin) (l : Laid) → IsLinked now roles new → IsKnownTwin p q laid x

@@ -1,5 +1,6 @@
 -- The static fields and the initial arrays are the same.
-use Rattle.std.proofs.Common.{◌≡◌, ◌+◌, ℕ, List, [], ◌∷◌, ◌++◌, length, map, filter_map, sum_by, Option, refl, ap, ◌∙◌}
+use Rattle.std.proofs.Common.{arith}
+use Rattle.std.proofs.Common.{◌≡◌, ◌+◌, ℕ, List, [], ◌∷◌, length, map, filter_map, sum_by, Option, refl, ap, ◌∙◌}
 use Rattle.cap_desc.specs.declared.type_item.TypeItem.{TypeItem}
 use Rattle.cap_desc.specs.DescriptorFormat.{FieldDescriptor}
 use Rattle.cap_method.specs.StaticFormat.{Statics}
@@ -11,7 +12,7 @@ use Rattle.jc_base.specs.declared.ty.Ty.{Ty}
 use Rattle.jc_decode.specs.declared.symbols.Laid.{Laid}
 use Rattle.jc_resolve.specs.WorldTypes.{type_of}
 use Rattle.jc_link.specs.Arrays.{array_record, array_records}
-use Rattle.jc_link.specs.Statics.{StaticSite, site, sites, sites_after, cells_at, static_cells, static_record, records_from, static_records}
+use Rattle.jc_link.specs.Statics.{StaticSite, sites_after, cells_at, static_cells, records_from, static_records}
 use Rattle.law_package.specs.Rewritten.{HasSameDescription, IsRewritten}
 use Rattle.law_package.proofs.Lists.{faults_same}
 use Rattle.law_package.proofs.Bare.{alike, same_field}
@@ -45,23 +46,15 @@ cells_same ps p q laid r = ap (sum_by cells_at) (flat_last static_places ps p q 
 
 sites_same : (home first : ℕ) (ps : List PackageRecord) (p q : PackageRecord) (laid : List (Option Laid)) → IsRewritten p laid q
     → sites_after home first (and_last ps q) ≡ sites_after home first (and_last ps p)
-sites_same home first [] p q laid r =
-    ap (λ s. map (site home first s) (static_places q) ++ []) r.statics
-    ∙ ap (λ places. map (site home first p.statics) places ++ []) (places_same p q laid r)
-sites_same home first (x ∷ ps) p q laid r = ap (λ ss. map (site home first x.statics) (static_places x) ++ ss)
-    (sites_same (home + 1) (first + length x.statics.arrays) ps p q laid r)
+sites_same home first [] p q laid r = grind (arith, map, places_same)
+sites_same home first (x ∷ ps) p q laid r = grind (arith, sites_same (home + 1) (first + length x.statics.arrays) ps p q laid r, map)
 
 records_same : (now old : ℕ → TypeItem → Ty) (slot : ℕ) (ss : List StaticSite) → ((k : ℕ) (t : TypeItem) → now k t ≡ old k t)
     → records_from now slot ss ≡ records_from old slot ss
 records_same now old slot [] h = refl
-records_same now old slot (s ∷ ss) h =
-    ap (λ ty. static_record slot s ty ∷ records_from now (slot + cells_at s.place) ss) (h s.home s.place.ty)
-    ∙ ap (λ rs. static_record slot s (old s.home s.place.ty) ∷ rs) (records_same now old (slot + cells_at s.place) ss h)
+records_same now old slot (s ∷ ss) h = grind (arith, records_same now old (slot + cells_at s.place) ss h)
 
 pub statics_same : (ps : List PackageRecord) (p q : PackageRecord) (laid : List (Option Laid)) (object : ℕ) → IsRewritten p laid q
     → static_records (type_of (and_last ps q) object) (and_last ps q)
     ≡ static_records (type_of (and_last ps p) object) (and_last ps p)
-statics_same ps p q laid object r =
-    ap (records_from (type_of (and_last ps q) object) 0) (sites_same 0 1 ps p q laid r)
-    ∙ records_same (type_of (and_last ps q) object) (type_of (and_last ps p) object) 0 (sites (and_last ps p))
-    (λ k t. type_same ps p q laid object k t r)
+statics_same ps p q laid object r = grind (arith, sites_same, records_same, type_same)

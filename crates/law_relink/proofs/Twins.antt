@@ -59,8 +59,7 @@ bare_by false (m ∷ ms) = ap (λ ns. bare_method m ∷ ns) (bare_by false ms)
 
 same_bares : (set : ℕ → Bool) (c d : ClassDescriptor) → bare_class set d ≡ bare_class set c
     → map bare_method d.methods ≡ map bare_method c.methods
-same_bares set c d s = sym (bare_by (set d.class_ref) d.methods) ∙ ap (λ (x : ClassDescriptor). map bare_method x.methods) s
-    ∙ bare_by (set c.class_ref) c.methods
+same_bares set c d s = grind (arith, bare_by, map)
 
 as_many : (ms ns : List MethodDescriptor) → map bare_method ns ≡ map bare_method ms → length ns ≡ length ms
 as_many ms ns e = sym (length-map ns bare_method) ∙ ap length e ∙ length-map ms bare_method
@@ -68,17 +67,11 @@ as_many ms ns e = sym (length-map ns bare_method) ∙ ap length e ∙ length-map
 -- the elements that are laid for the methods of the first class
 many_taken : (c : ClassDescriptor) (cs : List ClassDescriptor) (laid : List (Option Laid)) → length laid ≡ length (methods_of (c ∷ cs))
     → length (take (length c.methods) laid) ≡ length c.methods
-many_taken c cs laid e =
-    let a = length-append c.methods (methods_of cs) in
-    let b = length-take (length c.methods) laid in
-    omega (arith, a, b, e)
+many_taken c cs laid e = grind (arith, length-append, length-take, length)
 
 many_left : (c : ClassDescriptor) (cs : List ClassDescriptor) (laid : List (Option Laid)) → length laid ≡ length (methods_of (c ∷ cs))
     → length (drop (length c.methods) laid) ≡ length (methods_of cs)
-many_left c cs laid e =
-    let a = length-append c.methods (methods_of cs) in
-    let b = length-drop (length c.methods) laid in
-    omega (arith, a, b, e)
+many_left c cs laid e = grind (arith, length-append, length-drop, length)
 
 -- ---- the three lists
 
@@ -88,8 +81,7 @@ module _ (k : ℕ) (p q : PackageRecord) where
   before_class i c d j [] ns ls e f = refl
   before_class i c d j (m ∷ ms) [] ls e f = absurd (omega arith)
   before_class i c d j (m ∷ ms) (n ∷ ns) [] e f = absurd (omega arith)
-  before_class i c d j (m ∷ ms) (n ∷ ns) (l ∷ ls) e f = ap (λ xs. numbered_method k p i c j m ∷ xs)
-      (before_class i c d (j + 1) ms ns ls (omega arith) (omega arith))
+  before_class i c d j (m ∷ ms) (n ∷ ns) (l ∷ ls) e f = grind (arith, before_class i c d (j + 1) ms ns ls (omega arith) (omega arith))
 
   after_class : (i : ℕ) (c d : ClassDescriptor) (j : ℕ) (ms ns : List MethodDescriptor) (ls : List (Option Laid)) → length ns ≡ length ms
       → length ls ≡ length ms → map (after_in k q) (twins_of_class i c d j ms ns ls) ≡ methods_of_class k q i d j ns
@@ -97,8 +89,7 @@ module _ (k : ℕ) (p q : PackageRecord) where
   after_class i c d j [] (n ∷ ns) ls e f = absurd (omega arith)
   after_class i c d j (m ∷ ms) [] ls e f = absurd (omega arith)
   after_class i c d j (m ∷ ms) (n ∷ ns) [] e f = absurd (omega arith)
-  after_class i c d j (m ∷ ms) (n ∷ ns) (l ∷ ls) e f = ap (λ xs. numbered_method k q i d j n ∷ xs)
-      (after_class i c d (j + 1) ms ns ls (omega arith) (omega arith))
+  after_class i c d j (m ∷ ms) (n ∷ ns) (l ∷ ls) e f = grind (arith, after_class i c d (j + 1) ms ns ls (omega arith) (omega arith))
 
 laid_class : (i : ℕ) (c d : ClassDescriptor) (j : ℕ) (ms ns : List MethodDescriptor) (ls : List (Option Laid)) → length ns ≡ length ms
     → length ls ≡ length ms → map laid_in (twins_of_class i c d j ms ns ls) ≡ ls
@@ -106,8 +97,7 @@ laid_class i c d j [] ns [] e f = refl
 laid_class i c d j [] ns (l ∷ ls) e f = absurd (omega arith)
 laid_class i c d j (m ∷ ms) [] ls e f = absurd (omega arith)
 laid_class i c d j (m ∷ ms) (n ∷ ns) [] e f = absurd (omega arith)
-laid_class i c d j (m ∷ ms) (n ∷ ns) (l ∷ ls) e f = ap (λ xs. l ∷ xs)
-    (laid_class i c d (j + 1) ms ns ls (omega arith) (omega arith))
+laid_class i c d j (m ∷ ms) (n ∷ ns) (l ∷ ls) e f = grind (arith, laid_class i c d (j + 1) ms ns ls (omega arith) (omega arith))
 
 -- the twins are those of these methods and of what is laid
 pub record AreTwins (k : ℕ) (p q : PackageRecord) (i : ℕ) (cs ds : List ClassDescriptor) (laid : List (Option Laid)) : Type 0 where
@@ -166,9 +156,7 @@ told_class : (P : Change → Type 0) (n i : ℕ) (c d : ClassDescriptor) (j : �
     (rest : List MethodDescriptor) (lrest : List (Option Laid)) (nrest : List MethodDescriptor) → length ns ≡ length ms → length ls ≡ length ms
     → Each P (changes_of (sources_from n (ms ++ rest) (ls ++ lrest)) (ns ++ nrest))
     → AreTold P (n + length ms) (twins_of_class i c d j ms ns ls) rest lrest nrest
-told_class P n i c d j [] [] [] rest lrest nrest e f h =
-    let z : n ≡ n + 0 = omega arith in
-    (tt, subst (λ k. Each P (changes_of (sources_from k rest lrest) nrest)) z h)
+told_class P n i c d j [] [] [] rest lrest nrest e f h = grind (arith)
 told_class P n i c d j [] [] (l ∷ ls) rest lrest nrest e f h = absurd (omega arith)
 told_class P n i c d j [] (m ∷ ns) ls rest lrest nrest e f h = absurd (omega arith)
 told_class P n i c d j (m ∷ ms) [] ls rest lrest nrest e f h = absurd (omega arith)
