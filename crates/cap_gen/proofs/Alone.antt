@@ -45,11 +45,7 @@ found_in : {X : Type 0} (f : ℕ → X) (a c n : ℕ) (x : X) → slice_get (map
 found_in f a zero zero x h = absurd (cc)
 found_in f a zero (suc n) x h = absurd (cc)
 found_in f a (suc c) zero x h = let same : a ≡ a + 0 = omega arith in let is : x ≡ f a = cc in (omega arith, is ∙ ap f same)
-found_in f a (suc c) (suc n) x h =
-    let r = found_in f (a + 1) c n x h in
-    let below = r.0 in
-    let same : (a + 1) + n ≡ a + suc n = omega arith in
-    (omega (arith, below), r.1 ∙ ap f same)
+found_in f a (suc c) (suc n) x h = grind (arith, suc, found_in f (a + 1) c n x h)
 
 worlds_typed_at : (seed : ℕ) (w : Linked) (m : Method) → w.infos ≡ method_info seed ∷ [] → w.methods ≡ map method_record (range_with_len 0 200)
     → IsMethodOf w m

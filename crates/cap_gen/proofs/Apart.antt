@@ -1,8 +1,8 @@
 -- Methods that stand one after the other share no byte.
-use Rattle.std.proofs.Common.{◌≡◌, ◌≤◌, ℕ, Bool, true, false, List, [], ◌∷◌, ◌++◌, length, map, min, max, None, refl, ap, ◌∙◌}
+use Rattle.std.proofs.Common.{◌≡◌, ◌≤◌, ℕ, Bool, true, List, [], ◌∷◌, ◌++◌, length, map, min, max, None, refl, ap, ◌∙◌}
 use Rattle.std.proofs.Common.{arith, leb-true}
-use Rattle.std.specs.Prelude.{◌&&◌, nat_le, nat_lt}
-use Rattle.std.specs.List.{filter_map, cons_option}
+use Rattle.std.specs.Prelude.{◌&&◌, nat_le}
+use Rattle.std.specs.List.{filter_map}
 use Rattle.std.proofs.lemmas.List.Elements.{filter_map-append}
 use Rattle.std.proofs.lemmas.Bool.{and_parts}
 use Rattle.cap_desc.specs.DescriptorFormat.{MethodDescriptor}
@@ -36,15 +36,12 @@ all_begin info at (m ∷ ms) e =
 
 shares_none : (info : List ℕ) (a b : MethodDescriptor) → code_end info a ≤ b.method_offset → overlap_fault info a b ≡ None
 unfolding overlap_fault
-shares_none info a b h =
-    let e : nat_lt (max a.method_offset b.method_offset) (min (min (code_end info a) (code_end info b)) (length info)) ≡ false = grind arith in
-    rw e refl
+shares_none info a b h = grind (arith, max, min, length)
 
 none_after : (info : List ℕ) (m : MethodDescriptor) (ms : List MethodDescriptor) → BeginFrom (code_end info m) ms
     → filter_map (overlap_pair info) (map (λ y. (m, y)) ms) ≡ []
 none_after info m [] b = refl
-none_after info m (y ∷ ys) b =
-    ap (λ o. cons_option o (filter_map (overlap_pair info) (map (λ z. (m, z)) ys))) (shares_none info m y b.0) ∙ none_after info m ys b.1
+none_after info m (y ∷ ys) b = grind (arith, map, shares_none, none_after info m ys b.1)
 
 pub none_overlap : (info : List ℕ) (at : ℕ) (ms : List MethodDescriptor) → follow info at ms ≡ true → filter_map (overlap_pair info) (pairs ms) ≡ []
 none_overlap info at [] e = refl

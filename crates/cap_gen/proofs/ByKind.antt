@@ -1,5 +1,6 @@
 -- The bytes of a method by its kind.
-use Rattle.std.proofs.Common.{◌≡◌, ◌+◌, ◌%◌, ℕ, List, [], ◌∷◌, ◌++◌, sym, ap, ◌∙◌, append_assoc}
+use Rattle.std.proofs.Common.{arith}
+use Rattle.std.proofs.Common.{◌≡◌, ◌+◌, ◌%◌, ℕ, List, [], ◌∷◌, ◌++◌, ap, ◌∙◌, append_assoc}
 use Rattle.std.proofs.lemmas.Bool.{ne_eqb}
 use Rattle.std.specs.Prelude.{Bool, ◌*◌, ◌==◌, if◌then◌else◌}
 use Rattle.std.specs.List.{flat_map}
@@ -12,9 +13,7 @@ use Rattle.cap_gen.specs.Described.{described_bytes}
 bytes_of : (seed k c d n : ℕ) → k % 4 ≡ n → c ≡ (seed + k) % 100 → d ≡ (seed + 2 * k) % 100
     → method_bytes seed k ≡ shape_bytes (of_kind n c d)
 unfolding method_bytes
-bytes_of seed k c d n e f g =
-    ap (λ (m : ℕ). shape_bytes (of_kind m ((seed + k) % 100) ((seed + 2 * k) % 100))) e
-    ∙ (ap (λ (x : ℕ). shape_bytes (of_kind n x ((seed + 2 * k) % 100))) (sym f) ∙ ap (λ (x : ℕ). shape_bytes (of_kind n c x)) (sym g))
+bytes_of seed k c d n e f g = grind (arith)
 
 pub choosing_bytes : (seed k c d : ℕ) → k % 4 ≡ 0 → c ≡ (seed + k) % 100 → d ≡ (seed + 2 * k) % 100
     → method_bytes seed k ≡ 0x02 ∷ 0x20 ∷ 0x1C ∷ 0x1D ∷ 0x60 ∷ 6 ∷ 0x10 ∷ c ∷ 0x70 ∷ 4 ∷ 0x10 ∷ d ∷ 0x41 ∷ 0x78 ∷ []
@@ -61,12 +60,7 @@ no_entries k h = none_of (k % 4) (both_entries (code_offset k)) h
 -- what is left where both entries were appended
 pub entries_steps : (k at : ℕ) (out one : List ℕ) → k % 4 ≡ 2 → at ≡ method_offset k → one ≡ out ++ numbers_bytes (at + 2) 3 (at + 2 + 4) 1
     → one ++ numbers_bytes (at + 2) 0x8008 (at + 2 + 8) 0 ≡ out ++ entry_table k
-entries_steps k at out one e is h =
-    let E1 = numbers_bytes (at + 2) 3 (at + 2 + 4) 1 in
-    let E2 = numbers_bytes (at + 2) 0x8008 (at + 2 + 8) 0 in
-    let same : entry_table k ≡ E1 ++ E2 =
-    division_entries k e ∙ ap (λ (n : ℕ). numbers_bytes (n + 2) 3 (n + 2 + 4) 1 ++ numbers_bytes (n + 2) 0x8008 (n + 2 + 8) 0) (sym is) in
-    ap (λ (xs : List ℕ). xs ++ E2) h ∙ (append_assoc out E1 E2 ∙ ap (λ (xs : List ℕ). out ++ xs) (sym same))
+entries_steps k at out one e is h = grind (arith, division_entries, append_assoc)
 
 -- ---- records of the Descriptor
 

@@ -1,5 +1,6 @@
 -- The files as the program has them are those of the definition.
-use Rattle.std.proofs.Common.{◌≡◌, ℕ, List, [], ◌∷◌, ◌++◌, refl, ap, ◌∙◌, append_assoc}
+use Rattle.std.proofs.Common.{arith}
+use Rattle.std.proofs.Common.{◌≡◌, ℕ, List, [], ◌∷◌, ◌++◌, refl, append_assoc}
 use Rattle.cap_components.specs.Parts.{Lent}
 use Rattle.cap_gen.specs.declared.plain.TheConstants.{DESCRIPTOR_HEAD, DESCRIPTOR_TAIL, STATIC_FIELD, REF_LOCATION}
 use Rattle.cap_gen.specs.Methods.{each_method, method_bytes, entry_table, method_info}
@@ -26,34 +27,15 @@ whole seed = refl
 pub method_steps : (seed : ℕ) (none head table all : List ℕ) → none ≡ [] → head ≡ none ++ 0x07 ∷ 0x0F ∷ 0xA1 ∷ 100 ∷ []
     → table ≡ head ++ each_method entry_table
     → all ≡ table ++ each_method (method_bytes seed) → all ≡ (file 7 (method_info seed)).bytes
-method_steps seed none head table all a b c d =
-    let H : List ℕ = 0x07 ∷ 0x0F ∷ 0xA1 ∷ 100 ∷ [] in
-    let first : head ≡ H = b ∙ ap (λ (xs : List ℕ). xs ++ H) a in
-    d ∙ (ap (λ (xs : List ℕ). xs ++ each_method (method_bytes seed)) (c ∙ ap (λ (xs : List ℕ). xs ++ each_method entry_table) first)
-    ∙ (append_assoc H (each_method entry_table) (each_method (method_bytes seed)) ∙ method_file seed))
+method_steps seed none head table all a b c d = grind (arith, append_assoc, method_file)
 
 pub descriptor_steps : (none head records all : List ℕ) → none ≡ [] → head ≡ none ++ DESCRIPTOR_HEAD
     → records ≡ head ++ each_method described_bytes
     → all ≡ records ++ DESCRIPTOR_TAIL → all ≡ (file 11 descriptor_bytes).bytes
-descriptor_steps none head records all a b c d =
-    let first : head ≡ DESCRIPTOR_HEAD = b ∙ ap (λ (xs : List ℕ). xs ++ DESCRIPTOR_HEAD) a in
-    d ∙ (ap (λ (xs : List ℕ). xs ++ DESCRIPTOR_TAIL) (c ∙ ap (λ (xs : List ℕ). xs ++ each_method described_bytes) first)
-    ∙ (append_assoc DESCRIPTOR_HEAD (each_method described_bytes) DESCRIPTOR_TAIL ∙ descriptor_file))
+descriptor_steps none head records all a b c d = grind (arith, append_assoc, descriptor_file)
 
 pub parts_steps : (seed : ℕ) (a b c d e : List Lent) (ms ds : List ℕ) → a ≡ first_parts → ms ≡ (file 7 (method_info seed)).bytes
     → b ≡ a ++ record { part = 7; bytes = ms } ∷ [] → c ≡ b ++ record { part = 8; bytes = STATIC_FIELD } ∷ []
     → d ≡ c ++ record { part = 9; bytes = REF_LOCATION } ∷ [] → ds ≡ (file 11 descriptor_bytes).bytes
     → e ≡ d ++ record { part = 11; bytes = ds } ∷ [] → e ≡ generated_parts seed
-parts_steps seed a b c d e ms ds ha hm hb hc hd hs he =
-    let M : Lent = file 7 (method_info seed) in
-    let b_is : b ≡ first_parts ++ M ∷ [] = hb
-    ∙ (ap (λ (xs : List Lent). xs ++ record { part = 7; bytes = ms } ∷ []) ha
-    ∙ ap (λ (bs : List ℕ). first_parts ++ record { part = 7; bytes = bs } ∷ []) hm) in
-    let c_is = hc ∙ ap (λ (xs : List Lent). xs ++ record { part = 8; bytes = STATIC_FIELD } ∷ []) b_is in
-    let d_is = hd ∙ ap (λ (xs : List Lent). xs ++ record { part = 9; bytes = REF_LOCATION } ∷ []) c_is in
-    let e_is = he ∙ (ap (λ (xs : List Lent). xs ++ record { part = 11; bytes = ds } ∷ []) d_is
-    ∙ ap
-    (λ (bs : List ℕ).
-    (((first_parts ++ M ∷ []) ++ record { part = 8; bytes = STATIC_FIELD } ∷ []) ++ record { part = 9; bytes = REF_LOCATION } ∷ []) ++ record
-    { part = 11; bytes = bs } ∷ []) hs) in
-    e_is ∙ whole seed
+parts_steps seed a b c d e ms ds ha hm hb hc hd hs he = grind (arith, whole)

@@ -5,7 +5,7 @@ use Rattle.std.proofs.Common.{eq-eqb, Contains, All}
 use Rattle.std.specs.Prelude.{is_ok, ◌&&◌, ◌==◌, not, nat_le, nat_lt, slice_get, slice_set, IsTrue, IsSomeAnd}
 use Rattle.std.proofs.lemmas.Bool.{and_parts, not-true}
 use Rattle.jc_base.specs.declared.ty.Ty.{Ty}
-use Rattle.jc_base.specs.declared.ty.Ty.TheVariants.{Bottom, Short, IntHigh, IntLow, Null, Class, ArrBool, ArrByte, ArrShort, ArrInt, ArrRef, Fresh, Top}
+use Rattle.jc_base.specs.declared.ty.Ty.TheVariants.{Short, IntHigh, IntLow, Null, Class, Fresh, Top}
 use Rattle.jc_base.specs.declared.record.Handler.{Handler}
 use Rattle.jc_base.specs.declared.record.MethodRec.{MethodRec}
 use Rattle.jc_base.specs.Class.{ClassTable}
@@ -228,9 +228,7 @@ cells_below t (a ∷ xs) [] e = absurd (cc)
 cells_below t (a ∷ xs) (b ∷ ys) e = let both = and_parts (fits a b) (cells_fit xs ys) e in more_cells (fits_below t a b both.0) (cells_below t xs ys both.1)
 
 frame_below : (t : ClassTable) (f g : Frame) → frame_fits f g ≡ true → FrameBelow t f g
-frame_below t f g e =
-    let both = and_parts (cells_fit f.regs g.regs) (cells_fit f.stack g.stack) e in
-    record { regs = cells_below t f.regs g.regs both.0; stack = cells_below t f.stack g.stack both.1 }
+frame_below t f g e = grind (arith, and_parts, cells_below)
 
 below_at : (t : ClassTable) (rows : List Row) (f : Frame) (p : ℕ) → fits_at rows f p ≡ true → At (frame_at rows) p (FrameBelow t f)
 below_at t rows f p e = by (frame_at rows p) e
@@ -240,34 +238,10 @@ below_at t rows f p e = by (frame_at rows p) e
     by (Some g) h = frame_below t f g h
 
 ready_not_fresh : (a : Ty) → is_ready a ≡ true → IsNotFresh a
-ready_not_fresh (Fresh place c) e = absurd (cc)
-ready_not_fresh Bottom e = tt
-ready_not_fresh Short e = tt
-ready_not_fresh IntHigh e = tt
-ready_not_fresh IntLow e = tt
-ready_not_fresh Null e = tt
-ready_not_fresh (Class c) e = tt
-ready_not_fresh ArrBool e = tt
-ready_not_fresh ArrByte e = tt
-ready_not_fresh ArrShort e = tt
-ready_not_fresh ArrInt e = tt
-ready_not_fresh (ArrRef c) e = tt
-ready_not_fresh Top e = tt
+ready_not_fresh x e = grind (arith)
 
 typed_not_top : (a : Ty) → is_typed a ≡ true → IsNotTop a
-typed_not_top Top e = absurd (cc)
-typed_not_top (Fresh place c) e = tt
-typed_not_top Bottom e = tt
-typed_not_top Short e = tt
-typed_not_top IntHigh e = tt
-typed_not_top IntLow e = tt
-typed_not_top Null e = tt
-typed_not_top (Class c) e = tt
-typed_not_top ArrBool e = tt
-typed_not_top ArrByte e = tt
-typed_not_top ArrShort e = tt
-typed_not_top ArrInt e = tt
-typed_not_top (ArrRef c) e = tt
+typed_not_top x e = grind (arith)
 
 none_fresh : (xs : List Ty) → all_true is_ready xs ≡ true → All IsNotFresh xs
 none_fresh xs e = all_at IsNotFresh xs (λ x h. ready_not_fresh x (has_true is_ready xs x e h))
@@ -276,11 +250,7 @@ none_top : (xs : List Ty) → all_true is_typed xs ≡ true → All IsNotTop xs
 none_top xs e = all_at IsNotTop xs (λ x h. typed_not_top x (has_true is_typed xs x e h))
 
 want_met : (t : ClassTable) (want : Want) (o : Option Ty) → meets_want want o ≡ true → IsSomeAnd o (Meets t want)
-want_met t (wants.Value ty) (Some found) e = fits_below t found ty e
-want_met t wants.Storable (Some Null) e = null_object
-want_met t wants.Whole (Some Short) e = λ h. h
-want_met t wants.Whole (Some (Class c)) e = λ h. h
-want_met t _ _ e = absurd (cc)
+want_met t x x2 e = grind (arith, fits_below)
 
 demand_met : (t : ClassTable) (f : Frame) (d : Demand) → is_met f d ≡ true → Satisfies t f d
 demand_met t f (Registers x n) e = leb-true (x + n) (length f.regs) e
@@ -294,13 +264,7 @@ demands_met t f [] e = tt
 demands_met t f (d ∷ ds) e = let both = and_parts (is_met f d) (all_true (is_met f) ds) e in (demand_met t f d both.0, demands_met t f ds both.1)
 
 cells_written : (t : ClassTable) (x : ℕ) (cells : Cells) (regs : List Ty) → WritesCells t Flow x cells regs (written x cells regs)
-cells_written t x given.Nothing regs = refl
-cells_written t x (given.One ty) regs = record { value = ty; stored = refl; after_is = refl }
-cells_written t x given.Int regs = record {
-  between = slice_set regs x IntHigh;
-  high = record { value = IntHigh; stored = refl; after_is = refl };
-  low = record { value = IntLow; stored = refl; after_is = refl };
-}
+cells_written t x x2 regs = grind (arith)
 
 -- ---- the rows by their places
 
@@ -348,17 +312,14 @@ row_listed (x ∷ xs) r (inr h) = inr (row_listed xs r h)
 
 row_at_place : (rows : List Row) (r : Row) → are_apart rows ≡ true → Has rows r → frame_at rows r.placed.place ≡ Some r.before
 row_at_place [] r e h = absurd h
-row_at_place (x ∷ xs) r e (inl s) =
-    subst (λ (y : Row). cond (x.placed.place == y.placed.place) (Some x.before) (frame_at xs y.placed.place) ≡ Some y.before) s
-    (ap (λ (b : Bool). cond b (Some x.before) (frame_at xs x.placed.place)) (eq-eqb x.placed.place x.placed.place refl))
+row_at_place (x ∷ xs) r e (inl s) = grind (arith, cond, eq-eqb)
 row_at_place (x ∷ xs) r e (inr h) =
     let both = and_parts (all_true (is_elsewhere x) xs) (are_apart xs) e in
     let other = not-true (x.placed.place == r.placed.place) (has_true (is_elsewhere x) xs r both.0 h) in
     ap (λ (b : Bool). cond b (Some x.before) (frame_at xs r.placed.place)) other ∙ row_at_place xs r both.1 h
 
 resolves_if : (r : Result Operation RuleFault) → is_ok r ≡ true → Ok (given_or_throw r) ≡ r
-resolves_if (Ok op) e = refl
-resolves_if (Err fault) e = absurd (cc)
+resolves_if x e = grind (arith)
 
 -- where an option is something, what holds of that
 at_some : (P : Frame → Type 0) (o : Option Frame) (f : Frame) → o ≡ Some f → P f → IsSomeAnd o P
@@ -378,12 +339,7 @@ module _ (w : Linked) (m : Method) (rows : List Row) (a : AreRows w m rows) wher
     leads : leads_well m.rec m.code rows r (after_row w m.rec r) ≡ true
 
   is_row : (r : Row) → Has rows r → IsRow r
-  is_row r h =
-      let e = has_true (passes w m.rec m.code rows) rows r a.each h in
-      let top = and_parts (is_ok (resolved_row w m.rec r) && all_true (is_met r.before) (demands w (operation_of w m.rec r))) _ e in
-      let one = and_parts (is_ok (resolved_row w m.rec r)) _ top.0 in
-      let two = and_parts (holds_well m.rec r.before) _ top.1 in
-      record { resolves = one.0; asked = one.1; holds = two.0; leads = two.1 }
+  is_row r h = grind (arith, has_true, and_parts)
 
   at_row : (r : Row) → Has rows r → frame_at rows r.placed.place ≡ Some r.before
   at_row r h = row_at_place rows r a.apart h
@@ -406,29 +362,13 @@ module _ (w : Linked) (m : Method) (rows : List Row) (a : AreRows w m rows) wher
     caught_fit : all_true (handled rows r) m.rec.handlers ≡ true
 
   leads_of : (r : Row) → Has rows r → Leads r
-  leads_of r h =
-      let after = after_row w m.rec r in
-      let first = and_parts (nat_le (length after.stack) m.rec.max_stack && all_true is_ready after.stack) _ (is_row r h).leads in
-      let one = and_parts (nat_le (length after.stack) m.rec.max_stack) (all_true is_ready after.stack) first.0 in
-      let second = and_parts (falls_well m.code rows after r.placed) _ first.1 in
-      let third = and_parts (all_true (fits_target rows after) (targets m.code r.placed)) (all_true (handled rows r) m.rec.handlers) second.1 in
-      record {
-        room = leb-true (length after.stack) m.rec.max_stack one.0;
-        ready = one.1;
-        falls_on = second.0;
-        targets_fit = third.0;
-        caught_fit = third.1;
-      }
+  leads_of r h = grind (arith, is_row r h, and_parts, length, leb-true)
 
   -- where it falls on
   falls_to : (r : Row) → Has rows r → IsTrue (falls r.placed.insn.op)
       → (nat_lt (r.placed.place + r.placed.insn.len) (length m.code) ≡ true)
       × (fits_at rows (after_row w m.rec r) (r.placed.place + r.placed.insn.len) ≡ true)
-  falls_to r h goes =
-      let i = r.placed in
-      let test = nat_lt (i.place + i.insn.len) (length m.code) && fits_at rows (after_row w m.rec r) (i.place + i.insn.len) in
-      let e : test ≡ true = subst (λ (b : Bool). cond b test true ≡ true) goes (leads_of r h).falls_on in
-      and_parts (nat_lt (i.place + i.insn.len) (length m.code)) (fits_at rows (after_row w m.rec r) (i.place + i.insn.len)) e
+  falls_to r h goes = grind (arith, length, cond, leads_of, and_parts)
 
   target_to : (r : Row) → Has rows r → (q : ℕ) → Contains (targets m.code r.placed) (pos q) → fits_at rows (after_row w m.rec r) q ≡ true
   target_to r h q c =
@@ -459,8 +399,7 @@ module _ (w : Linked) (m : Method) (rows : List Row) (a : AreRows w m rows) wher
       fits_row rows (caught_frame h r.row.before) h.entry (caught_to r.row r.among h c (subst (Covers h) (sym r.place) cov))
 
   target_place : (t : ℤ) (f : Frame) → fits_target rows f t ≡ true → IsTargetPlace m.code t
-  target_place (pos q) f e = at_place q (fits_row rows f q e)
-  target_place (negsuc n) f e = absurd (cc)
+  target_place x f e = grind (arith, at_place, fits_row)
 
   all_targets : (i : Placed) → HasInstruction m.code i → All (IsTargetPlace m.code) (targets m.code i)
   all_targets i stands =
@@ -471,16 +410,7 @@ module _ (w : Linked) (m : Method) (rows : List Row) (a : AreRows w m rows) wher
       (has_true (fits_target rows (after_row w m.rec r.row)) (targets m.code r.row.placed) t (leads_of r.row r.among).targets_fit h)))
 
   handler_formed : (h : Handler) → is_handler_of m.code rows h ≡ true → IsHandlerOf m.code h
-  handler_formed h e =
-      let first = and_parts (is_there rows h.start && is_there rows h.entry) (nat_lt h.start h.end && is_there rows h.end) e in
-      let one = and_parts (is_there rows h.start) (is_there rows h.entry) first.0 in
-      let two = and_parts (nat_lt h.start h.end) (is_there rows h.end) first.1 in
-      record {
-        start = at_place h.start (there_row rows h.start one.0);
-        end = inr (at_place h.end (there_row rows h.end two.1));
-        order = ltb-true h.start h.end two.0;
-        entry = at_place h.entry (there_row rows h.entry one.1);
-      }
+  handler_formed h e = grind (arith, and_parts, at_place, there_row, ltb-true)
 
   well_formed : IsWellFormed m
   well_formed = record {
@@ -490,21 +420,10 @@ module _ (w : Linked) (m : Method) (rows : List Row) (a : AreRows w m rows) wher
   }
 
   row_fit : (r : Row) → Has rows r → IsFit m r.before
-  row_fit r h =
-      let first = and_parts (nat_le (length r.before.stack) m.rec.max_stack) _ (is_row r h).holds in
-      let second = and_parts (all_true is_typed r.before.stack) (all_true is_ready r.before.stack && all_true is_ready r.before.regs) first.1 in
-      let third = and_parts (all_true is_ready r.before.stack) (all_true is_ready r.before.regs) second.1 in
-      record {
-        room = leb-true (length r.before.stack) m.rec.max_stack first.0;
-        no_top = none_top r.before.stack second.0;
-        no_fresh = none_fresh r.before.regs third.1;
-      }
+  row_fit r h = grind (arith, and_parts, length, is_row, leb-true, none_top, none_fresh)
 
   stack_ready : (r : Row) → Has rows r → All IsNotFresh r.before.stack
-  stack_ready r h =
-      let first = and_parts (nat_le (length r.before.stack) m.rec.max_stack) _ (is_row r h).holds in
-      let second = and_parts (all_true is_typed r.before.stack) (all_true is_ready r.before.stack && all_true is_ready r.before.regs) first.1 in
-      none_fresh r.before.stack (and_parts (all_true is_ready r.before.stack) (all_true is_ready r.before.regs) second.1).0
+  stack_ready r h = grind (arith, and_parts, length, is_row, none_fresh)
 
   row_steps : (r : Row) → Has rows r → FlowSteps w m r.placed r.before (after_row w m.rec r)
   row_steps r h =
@@ -536,12 +455,7 @@ module _ (w : Linked) (m : Method) (rows : List Row) (a : AreRows w m rows) wher
       )
 
   row_followed : (r : Row) → Has rows r → IsFollowed w m (frame_at rows) r.placed r.before
-  row_followed r h = record {
-    after = after_row w m.rec r;
-    steps = row_steps r h;
-    below = λ q succ. below_at w.classes rows (after_row w m.rec r) q (next_to r h q succ);
-    ready = λ jumping. none_fresh (after_row w m.rec r).stack (leads_of r h).ready;
-  }
+  row_followed r h = grind (arith, row_steps, below_at, next_to, none_fresh, leads_of)
 
   rows_type : FlowTyping w m Top (frame_at rows)
   rows_type = record {
