@@ -13,8 +13,7 @@ use Rattle.jc_control.specs.WellFormed.{HasInstruction}
 use Rattle.jc_ops.specs.declared.operation.Operation.{Operation}
 use Rattle.jc_ops.specs.Next.{falls_from}
 use Rattle.jc_rules.specs.Demand.{Frame as Types}
-use Rattle.jc_rules.specs.Flow.{CellsBelow, FrameBelow, IsFit, no_cells, more_cells}
-use Rattle.jc_rules.specs.Flow.{At}
+use Rattle.jc_rules.specs.Flow.{FrameBelow, IsFit}
 use Rattle.law_sound.proofs.Going.{goes-on}
 use Rattle.vm_store.specs.declared.cell.Cell.{Cell}
 use Rattle.vm_store.specs.Cells.{tagged}

@@ -1,6 +1,6 @@
 -- A conditional branch or a switch with no cells under its operands: its step in laid code, and where that leads.
-use Rattle.std.proofs.Common.{◌≡◌, ℕ, zero, suc, ◌+◌, ◌-◌, ◌≤◌, false, List, ◌∙◌}
-use Rattle.std.proofs.Common.{[], ◌∷◌, ◌++◌, refl, ap, arith}
+use Rattle.std.proofs.Common.{◌≡◌, ℕ, zero, suc, ◌+◌, ◌≤◌, false, List, ◌∙◌}
+use Rattle.std.proofs.Common.{[], ◌∷◌, refl, ap, arith}
 use Rattle.std.specs.Prelude.{ℤ, Option, Some, None, Ok, nat_lt, slice_get}
 use Rattle.std.specs.List.{filter}
 use Rattle.std.proofs.lemmas.Bool.Decides.{nat_tests}
@@ -20,13 +20,9 @@ use Rattle.xf_homes.specs.Value.{value_in_cells}
 use Rattle.xf_homes.specs.Walk.{operands_of}
 use Rattle.xf_homes.specs.Source.{Source}
 use Rattle.xf_homes.specs.Plan.{stack_homes, cells_from, depth, home_of, stack_of, with_home_of}
-use Rattle.xf_emission.specs.declared.origin.Origin.TheVariants.{After}
-use Rattle.xf_emission.specs.Edge.{cell_copies, copies}
 use Rattle.xf_emission.specs.Group.{body}
 use Rattle.xf_emission.specs.Jump.{branch, has_under, jump_to, lead, leads, operands_slot}
-use Rattle.xf_emission.specs.Jump.{branch_copies, under, way_of}
-use Rattle.xf_emission.specs.Group.{branch_by}
-use Rattle.xf_emission.specs.Jump.{spill_if}
+use Rattle.xf_emission.specs.Jump.{under, way_of}
 
 -- ---- the body
 

@@ -1,6 +1,5 @@
 -- One step of the target for one of the source at a conditional branch or a switch.
 use Rattle.std.proofs.Common.{◌≡◌, ℕ, ◌+◌, ◌<◌, ◌≤◌, ◌⊎◌, inl, inr, Bool, true, List, [], length, map, refl}
-use Rattle.std.proofs.Common.{false}
 use Rattle.std.proofs.Common.{sym, ap, ◌∙◌, subst, arith}
 use Rattle.std.specs.Prelude.{ℤ, pos, All, Contains, Option, Some, None, Ok, option_map, slice_get, ⊤}
 use Rattle.std.proofs.lemmas.Bool.{cases_lt}

@@ -60,9 +60,6 @@ module _ (t : ClassTable) (k : Types) where
       → IsSomeAnd (slice_get k.regs 0) (λ u. Below t u (Class c))
   last-held x c h = grind (arith)
 
-pub size-one : (T : Ty) → IsNoHalf T → value_size T ≡ 1
-size-one x n = grind (arith)
-
 pub asked-this : (T : Ty) (c : ℕ) → registers_asked (Registers 0 1 ∷ (value_wanted T ++ Held 0 (Class c) ∷ [])) ≡ 1
 asked-this x c = grind (arith)
 
@@ -118,7 +115,7 @@ module _ (t : ClassTable) (are : AreClasses t) (types : IsOrderOfTypes t) (ks : 
   one-swaps : (ty : Ty) (stack : List Cell) → IsOne ty → IsSomeAnd (slice_get (least_types t Bottom ks stack) 0) (λ u. Below t u ty)
       → Swaps t ks 1 (λ cs. nth tagged cs 0 ∷ []) ty class e regs c stack (map (renamed_cell e) stack)
   one-swaps ty [] one h = absurd h
-  one-swaps ty (a ∷ r) one h = grind (arith, value-stays, never-low, one-gives, size-one)
+  one-swaps ty (a ∷ r) one h = grind (arith, value-stays, never-low, one-gives)
 
   two-swaps : (stack : List Cell)
       → IsSomeAnd (slice_get (least_types t Bottom ks stack) 0) (λ u. Below t u IntLow) → IsSomeAnd (slice_get (least_types t Bottom ks stack) 1)

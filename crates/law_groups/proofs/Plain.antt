@@ -1,7 +1,7 @@
 -- One step of the target for one of the source, where the steps of both are plain instructions that are equal but for registers.
 use Rattle.std.proofs.Common.{◌≡◌, ℕ, ◌+◌, ◌<◌, ◌≤◌, true, false, List, [], ◌∷◌}
 use Rattle.std.proofs.Common.{length, drop, refl, sym, ap, ◌∙◌, subst, arith}
-use Rattle.std.specs.Prelude.{ℤ, All, Some, Ok, slice_get}
+use Rattle.std.specs.Prelude.{All, Some, Ok, slice_get}
 use Rattle.std.proofs.lemmas.List.{drop-map}
 use Rattle.std.proofs.lemmas.Option.{slice_get_within, same_Some}
 use Rattle.std.proofs.lemmas.Bool.{false≢true}
@@ -31,8 +31,8 @@ use Rattle.vm_step.specs.Run.{stands}
 use Rattle.vm_step.specs.Step.{Steps}
 use Rattle.law_erasure.specs.Erasure.{IsNoFault}
 use Rattle.law_alike.specs.Alike.{AreAlike, StayAlike, renamed_cell, renamed_new}
-use Rattle.law_alike.specs.Running.{ComeAlike, HaveKeys, call_alike, end_alike, exception_alike}
-use Rattle.law_alike.specs.Running.{keys_at, next_alike, return_alike, RunAlike}
+use Rattle.law_alike.specs.Running.{ComeAlike, call_alike, end_alike, exception_alike}
+use Rattle.law_alike.specs.Running.{next_alike, return_alike, RunAlike}
 use Rattle.law_alike.specs.Running.{target_alike}
 use Rattle.law_alike.specs.Running.{throw_alike, top_code}
 use Rattle.law_alike.specs.Likeness.{StepsAreAlike}
@@ -78,10 +78,6 @@ frames-are t runs = by t.frames runs
 
 no-targets : (code : List ℕ) (j : Placed) → targets code j ≡ [] → All (IsTargetPlace code) (targets code j)
 no-targets code j e = subst (λ ts. All (IsTargetPlace code) ts) (sym e) (λ k d lt. absurd (omega (arith, lt)))
-
--- keys are asked of switches alone
-no-keys : (op : Operation) (keys others : List ℤ) → jumps_from op ≡ false → HaveKeys op keys others
-no-keys x keys others e = grind (arith)
 
 module _
     {v w : Linked} {s : Source} {place : ℕ → ℕ} (laid : IsLaidIn v w s place)
@@ -166,7 +162,7 @@ module _
 
     pub codes : jumps_from op ≡ false → CodesAgree v w z t i ex.instruction op own
     codes still = record {
-      keys = no-keys op (keys_at v z i) (keys_at w t ex.instruction) still;
+      keys = (grind (arith));
       targets = no-targets (top_code w t) ex.instruction ex.is.leads;
       next = λ falls.
           subst (IsPlace (top_code w t)) (sym ex.ends)

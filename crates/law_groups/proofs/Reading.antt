@@ -78,9 +78,6 @@ pub record IsHomeOf (s : Source) (p x : ℕ) (letter : Sort) : Type 0 where
 pub reference-letter : (a : Ty) → load_op a ≡ aload → letter_of a ≡ sorts.Reference
 reference-letter x e = grind (arith)
 
-given-width : (v : Linked) (letter : Sort) (x : ℕ) → (footprint v (ops.Load letter x)).given ≡ size letter
-given-width v y x = grind (arith)
-
 module _
     {v w : Linked} {s : Source} {place : ℕ → ℕ} (laid : IsLaidIn v w s place)
     (types : IsOrderOfTypes v.classes) (whole : DerivedAreWhole v) where
@@ -198,7 +195,7 @@ module _
       let held : HoldsValue s (top z).registers (top t) h =
       among-each (HoldsValue s (top z).registers (top t)) (needed s i.place x) h (b.held.locals x) home.among in
       let wide_enough : type_width h.ty ≡ (footprint v op).given =
-      wide home.ty ∙ (ap size home.letter_is ∙ sym (given-width v letter x)) in
+      wide home.ty ∙ (ap size home.letter_is ∙ sym (grind (arith))) in
       let run = loads-run-alike (renamed_cell (rename s place)) (rename s place) v w z t i there.instruction s h letter
       (alike laid b) agree held wide_enough in
       runs laid b insn other are resolves refl

@@ -54,7 +54,6 @@ use Rattle.law_laid.proofs.SameBut.{operations-are-kept}
 use Rattle.xf_homes.specs.Source.{Source}
 use Rattle.xf_homes.specs.Plan.{needed}
 use Rattle.xf_emission.specs.Group.{body, stays, swap_words}
-use Rattle.xf_emission.specs.Group.{field_written, itself}
 use Rattle.xf_emission.specs.Move.{load, with_byte}
 use Rattle.xf_emission.specs.Mnemonics.{from_write, swap_x}
 use Rattle.law_rewritten_typing.proofs.Rows.{write-on-stack}

@@ -1,5 +1,5 @@
 -- A goto: the stack goes into the homes of its target, locals are copied, and control goes there.
-use Rattle.std.proofs.Common.{◌≡◌, ℕ, ◌+◌, true, List, [], ◌∷◌, ◌++◌, length, refl, ap}
+use Rattle.std.proofs.Common.{◌≡◌, ℕ, true, List, [], ◌∷◌, ◌++◌, length, refl, ap}
 use Rattle.std.proofs.Common.{◌∙◌, subst, arith}
 use Rattle.std.specs.Prelude.{ℤ, pos, All, Contains}
 use Rattle.std.proofs.lemmas.Bool.{false≢true}
