@@ -40,10 +40,6 @@ first-step source all (Switch i at ls) xs st is e = ap insn_at (sym e)
     insn_at None = i
     insn_at (Some y) = y.insn
 
-later-step : (source : List ℕ) (all : List Item) (x : Item) (xs : List Item) (k : ℕ) → is_instruction x ≡ true
-    → slice_get (steps_in source all (x ∷ xs)) (suc k) ≡ slice_get (steps_in source all xs) k
-later-step source all x xs k is = grind (arith)
-
 pub among-above : (low high l : ℕ) (xs : List ℕ) → Rises low high xs → IsAmong l xs → low ≤ l
 among-above low high l [] r a = absurd a
 among-above low high l (y ∷ ys) r (inl e) = omega (arith, r.0, e)
@@ -178,7 +174,7 @@ module _ (w : Linked) (r : MethodRec) (regs : List Ty) (asks : ℕ → Asked) wh
         beyond = λ low high l rise among. (subst (IsAmong l) (sym (labels-step x xs is)) among, omega (arith, place-step l x xs is));
       }
   turned-at source all (flow_step {n = n} {a = a} {b = b} {x = x} {xs = xs} is t f) (suc k) st e =
-      let u = turned-at source all f k st (sym (later-step source all x xs k is) ∙ e) in
+      let u = turned-at source all f k st (sym (grind (arith)) ∙ e) in
       let far : n < u.place = omega (arith, u.is) in
       record {
         place = u.place;

@@ -1,8 +1,7 @@
 -- Conditional branches and switches in rewritten code.
 use Rattle.std.proofs.Common.{◌≡◌, ℕ, ◌+◌, ◌<◌, ◌≤◌, Bool, true, false, if◌then◌else◌, inr, List, [], ◌∷◌, ◌++◌, length}
-use Rattle.std.proofs.Common.{map, replicate, All, Option, Some, Ok, IsSomeAnd, IfSome, refl, sym, ◌∙◌, ap, subst, arith, length-append}
+use Rattle.std.proofs.Common.{map, All, Option, Some, Ok, IsSomeAnd, IfSome, refl, sym, ◌∙◌, ap, subst, arith, length-append}
 use Rattle.std.specs.Prelude.{nat_lt}
-use Rattle.std.specs.List.{range_with_len}
 use Rattle.std.proofs.lemmas.Bool.Decides.{nat_tests}
 use Rattle.std.proofs.lemmas.List.{length-reverse, append-nil, nil_from_length}
 use Rattle.std.proofs.lemmas.List.Elements.{All-head, All-tail}
@@ -59,12 +58,6 @@ use Rattle.jc_rules.proofs.CellLists.{cells-same}
 
 abbrev small_wide : ℕ → Bool
 small_wide op = nat_lt (wide op) 256
-
-small-all : map small_wide (range_with_len 0 256) ≡ replicate 256 true
-small-all = refl
-
-wide-small : (op : ℕ) → op < 256 → wide op < 256
-wide-small op lt = let e = passed-at small_wide small-all op lt in grind (arith, nat_tests, e)
 
 -- ---- stacks
 
@@ -128,7 +121,7 @@ module _ (new : ℕ → ℕ) (apart : (a b : ℕ) → new a ≡ new b → a ≡ 
     jump-flows i (ops.Branch b) f after stack n labels run is room does =
         flow_step {x = Branch (wide i.insn.op) (first_label labels)} refl
         (turn-of n (jump (wide i.insn.op)) (ops.Branch b) stack (wide-is s.world s.method.rec r i.place n i.insn b run.small run.resolves)
-        (wide-small i.insn.op run.small) room (does r.max_stack))
+        (grind (arith, passed-at, nat_tests)) room (does r.max_stack))
         flow_end
     jump-flows i (ops.Switch width) f after stack n labels run is room does =
         let here = kept-resolves (λ x. x) (λ a b e. e) s.world l.rules l.falls l.keeps l.none l.rests l.entry s.method.rec r i.place i.place i.insn

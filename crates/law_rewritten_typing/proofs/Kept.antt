@@ -7,8 +7,6 @@ use Rattle.jc_base.proofs.Lists.{All-slice_get, All-reverse}
 use Rattle.jc_base.specs.Each.{Each}
 use Rattle.jc_base.specs.declared.ty.Ty.{Ty}
 use Rattle.jc_base.specs.declared.ty.Ty.TheVariants.{Short, Null}
-use Rattle.jc_base.specs.declared.ty.Kind.{Kind}
-use Rattle.jc_base.specs.declared.ty.Ty.TheVariants.{Bottom, IntHigh, IntLow, Class, ArrBool, ArrByte, ArrShort, ArrInt, ArrRef, Fresh, Top}
 use Rattle.jc_base.specs.declared.ty.Kind.TheVariants as kinds
 use Rattle.jc_base.specs.declared.record.MethodRec.{MethodRec}
 use Rattle.jc_base.specs.Cell.{IsDeclared}
@@ -37,14 +35,12 @@ use Rattle.jc_rules.specs.Effect.{changed, in_stack_order, StoresInRegisters}
 use Rattle.jc_rules.specs.Flow.{IsNotFresh}
 use Rattle.jc_rules.specs.FlowLaws.{AreRules}
 use Rattle.jc_rules.specs.Apply.{OperationApplies}
-use Rattle.jc_rules.specs.Rule.{demands, effect, replacing, number, value_wanted, value_size, cells_wanted, receiver_wanted, return_demands}
-use Rattle.jc_rules.specs.Rule.{result_given, result_at, args_at, array_wanted, seen}
+use Rattle.jc_rules.specs.Rule.{demands, effect, replacing, value_wanted, value_size, cells_wanted, receiver_wanted}
+use Rattle.jc_rules.specs.Rule.{result_given, result_at, args_at, seen}
 use Rattle.jc_rules.proofs.Types.{declared-not_fresh}
 use Rattle.law_rewritten_typing.proofs.Moves.{applies-by}
-use Rattle.law_rewritten_typing.proofs.Renames.{named, named_op, same-named, IsSteady, IsSteadyWant}
+use Rattle.law_rewritten_typing.proofs.Renames.{named, named_op, same-named, IsSteady}
 use Rattle.law_rewritten_typing.proofs.Renames.{all-named, replaced, value-same, result-same, under-named}
-use Rattle.jc_rules.specs.Rule.{cell, value_given}
-use Rattle.jc_rules.specs.Rule.{element}
 use Rattle.law_rewritten_typing.proofs.Renames.{exchange-named, cell-named, element-same, element-ready, call-named}
 
 -- names no register to load or store

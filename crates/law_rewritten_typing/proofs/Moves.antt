@@ -32,7 +32,6 @@ use Rattle.jc_rules.specs.Apply.{OperationApplies}
 use Rattle.jc_rules.specs.Flow.{CellsBelow, no_cells, more_cells}
 use Rattle.xf_emission.specs.Move.{with_byte, load_op, store_op}
 use Rattle.law_rewritten_typing.proofs.Walks.{holding, Asked, Turn}
-use Rattle.law_rewritten_typing.proofs.Walks.{left}
 use Rattle.jc_rules.proofs.CellLists.{cells-same}
 
 -- ---- registers

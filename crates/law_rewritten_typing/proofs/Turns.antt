@@ -24,7 +24,7 @@ use Rattle.jc_rules.specs.FlowLaws.{AreRules}
 use Rattle.jc_rules.specs.Footprint.{registers_asked, OperationNamesNone}
 use Rattle.jc_rules.specs.Laws.{IsNotBottom, OperationFalls, OperationKeeps, OperationRests}
 use Rattle.jc_rules.specs.Apply.{OperationApplies}
-use Rattle.jc_rules.specs.Rule.{demands, value_wanted, cells_wanted, return_demands}
+use Rattle.jc_rules.specs.Rule.{demands, cells_wanted}
 use Rattle.jc_rules.proofs.Footprints.{receiver-registers}
 use Rattle.xf_emission.proofs.RowByRow.{moved_to, resolved-elsewhere}
 use Rattle.law_rewritten_typing.proofs.Renames.{named, named_op}
@@ -48,18 +48,12 @@ none-append ds es a b = both ds es a b
     both (Cell n want ∷ ds) es a b = both ds es a b
     both (Cut n ∷ ds) es a b = both ds es a b
 
-value-none : (ty : Ty) → registers_asked (value_wanted ty) ≡ 0
-value-none ty = grind (arith)
-
 cells-none : (n : ℕ) (tys : List Ty) → registers_asked (cells_wanted n tys) ≡ 0
 cells-none n [] = refl
 cells-none n (ty ∷ tys) = cells-none (n + 1) tys
 
-return-none : (result : Option Ty) → registers_asked (return_demands result) ≡ 0
-return-none x = grind (arith, value-none)
-
 pub none-asked : (w : Linked) (op : Operation) → NamesNone op → registers_asked (demands w op) ≡ 0
-none-asked w y h = grind (arith, value-none, none-append, slice_get, reverse, cells-none, receiver-registers, return-none)
+none-asked w y h = grind (arith, none-append, slice_get, reverse, cells-none, receiver-registers)
 
 -- ---- the turn
 

@@ -14,8 +14,8 @@ use Rattle.jc_decode.specs.declared.insn.Placed.{Placed}
 use Rattle.jc_ops.specs.Sound.{IsSound, OperationsAreSound}
 use Rattle.jc_control.specs.Method.{Method, IsMethodOf}
 use Rattle.jc_rules.specs.Demand.{Frame}
-use Rattle.jc_rules.specs.Flow.{CellsBelow, no_cells as no_below, more_cells, CellsJoin, none_joined}
-use Rattle.jc_rules.specs.Flow.{more_joined, FlowSteps, start_frame, receiver_of}
+use Rattle.jc_rules.specs.Flow.{CellsBelow, no_cells as no_below, more_cells}
+use Rattle.jc_rules.specs.Flow.{FlowSteps, start_frame, receiver_of}
 use Rattle.jc_rules.specs.Flow.{IsNotTop, IsDerived, derived_start, derived_caught, derived_next, derived_joined}
 use Rattle.jc_rules.specs.FlowLaws.{AreRules}
 use Rattle.jc_rules.specs.Laws.{IsNotBottom}
