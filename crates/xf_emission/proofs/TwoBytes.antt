@@ -7,15 +7,13 @@ use Rattle.std.proofs.lemmas.Bool.Decides.{nat_tests}
 use Rattle.std.proofs.Math.Nat.{add-mul}
 use Rattle.std.proofs.lemmas.List.{length-map}
 use Rattle.std.proofs.lemmas.List.FromFn.{length-map-range_with_len}
-use Rattle.jc_decode.specs.declared.layout.Cases.{Cases}
 use Rattle.jc_decode.specs.declared.layout.Layout.{Layout}
 use Rattle.jc_decode.specs.declared.insn.CodeEnd.{CodeEnd}
-use Rattle.jc_decode.specs.declared.insn.Insn.{Insn}
 use Rattle.jc_decode.specs.declared.insn.Placed.{Placed}
 use Rattle.jc_decode.specs.Layout.{total_width, layout_of, opcode}
 use Rattle.cap_bytes.specs.Bytes.{AreBytes}
 use Rattle.jc_decode.specs.Decoding.{decoded, end_of_cases}
-use Rattle.jc_decode.specs.Cases.{cases, cases_in}
+use Rattle.jc_decode.specs.Cases.{cases}
 use Rattle.jc_decode.specs.Listing.{jumps, target, targets}
 use Rattle.jc_decode.proofs.Decoded.{Begins-decoded, range_end-ok, pairs_end-ok}
 use Rattle.jc_decode.proofs.Passed.{passed-at, or-rest}
@@ -34,16 +32,10 @@ has_operand-all : map has_operand (range_with_len 0 256) ≡ replicate 256 true
 unfolding layout_of opcode
 has_operand-all = refl
 
--- how long an instruction is, with its cases
-cases-long : (c : Cases) (l : Layout) (xs : List ℕ) (table at : ℕ) (i : Insn) → table ≡ at + 1 + total_width l
-    → end_of_cases c l.z xs table i.y i.z ≡ Ok (at + i.len)
-    → 1 + total_width l + 2 * length (cases_in c xs table i) ≤ i.len
-cases-long x l xs table at i e h = grind (arith, range_end-ok, length-map-range_with_len, pairs_end-ok, add-mul)
-
 module _ (xs : List ℕ) (p : Placed) (bytes : AreBytes xs) (h : decoded xs p.place ≡ Ok p.insn) (l : Layout) (is : layout_of p.insn.op ≡ Ok l)
     (ends : end_of_cases l.cases l.z xs (p.place + 1 + total_width l) p.insn.y p.insn.z ≡ Ok (p.place + p.insn.len)) where
   long : 1 + total_width l + 2 * length (cases xs p.place p.insn) ≤ p.insn.len
-  long = rw (cases-by xs p.place p.insn l l.cases is refl) (cases-long l.cases l xs (p.place + 1 + total_width l) p.place p.insn refl ends)
+  long = rw (cases-by xs p.place p.insn l l.cases is refl) (grind (arith, range_end-ok, length-map-range_with_len, pairs_end-ok, add-mul))
 
   by-jump : (j : Bool) → jumps p.insn.op ≡ j
       → 2 * length (if j then target p.place p.insn.x ∷ map (λ c. target p.place c.offset) (cases xs p.place p.insn) else []) ≤ p.insn.len
