@@ -80,8 +80,7 @@ module _ (v w : Linked) (b : IsBegun v w) where
       none = None
 
       nothing : (x : Bool) → (if x then none else none) ≡ none
-      nothing true = refl
-      nothing false = refl
+      nothing x = grind (arith)
 
   pub entry_there : (c token n : ℕ) → entry_at v.classes c token ≡ Some n → entry_at w.classes c token ≡ Some n
   entry_there c token n e = by (nat_lt c count) refl
@@ -99,8 +98,7 @@ module _ (v w : Linked) (b : IsBegun v w) where
   -- ---- what an interface describes
 
   range_both : (a n k : ℕ) → range_with_len a (n + k) ≡ range_with_len a n ++ range_with_len (a + n) k
-  range_both a zero k =
-      ap (range_with_len a) (let e : 0 + k ≡ k = omega arith in e) ∙ ap (λ i. range_with_len i k) (let e : a ≡ a + 0 = omega arith in e)
+  range_both a zero k = grind (arith)
   range_both a (suc n) k =
       ap (range_with_len a) (let e : suc n + k ≡ suc (n + k) = omega arith in e)
       ∙ ap (λ xs. a ∷ xs) (range_both (a + 1) n k)
@@ -122,9 +120,7 @@ module _ (v w : Linked) (b : IsBegun v w) where
   method_front n lt = ap (λ ms. slice_get ms n) b.methods ∙ slice_get-left v.methods b.added n lt
 
   method_after : (n : ℕ) → length v.methods ≤ n → IfSome (slice_get w.methods n) (λ m. count ≤ m.class)
-  method_after n le =
-      subst (λ ms. IfSome (slice_get ms n) (λ m. count ≤ m.class)) (sym b.methods)
-      (each_after (λ (m : MethodRec). count ≤ m.class) v.methods b.added b.apart n le)
+  method_after n le = grind (arith, slice_get, each_after)
 
   abbrev describes : ℕ → ℕ → Linked → ℕ → Bool
   describes c token x n = passes_test (is_described c token) (slice_get x.methods n)

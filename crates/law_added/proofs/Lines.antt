@@ -1,5 +1,5 @@
 -- Classes of the packages before keep their superclasses, and so their dispatch lists and cells.
-use Rattle.std.proofs.Common.{◌≡◌, ◌<◌, ◌≤◌, ◌+◌, ℕ, zero, suc, List, [], ◌∷◌, ◌++◌, length, map, slice_get, get_or, Bool, true, false}
+use Rattle.std.proofs.Common.{◌≡◌, ◌<◌, ◌≤◌, ◌+◌, ℕ, zero, suc, List, [], ◌∷◌, ◌++◌, length, map, slice_get, get_or, Bool}
 use Rattle.std.proofs.Common.{Option, Some, None, IfSome, refl, sym, ap, subst, ◌∙◌, arith, All, cond}
 use Rattle.std.specs.Prelude.{if◌then◌else◌, ◌==◌}
 use Rattle.std.specs.Prelude.{take}
@@ -21,7 +21,7 @@ use Rattle.jc_classes.specs.LineConditions as lineage
 use Rattle.jc_classes.specs.Outline.{LineTable, AreLines, line_of, outline, package_of, package_in_line, parent_of, parent_in_line, chain}
 use Rattle.jc_classes.specs.Layout.{public_table, visible_table, own_of, of_class, home_run, public_entries, visible_entries, instance_cells, class_layout}
 use Rattle.jc_classes.specs.Entries.{dispatch_list}
-use Rattle.jc_classes.specs.Tables.{record_from, records_from, class_tables}
+use Rattle.jc_classes.specs.Tables.{records_from, class_tables}
 use Rattle.jc_classes.proofs.Climbs.{chain_step}
 use Rattle.jc_classes.proofs.Outlines.{parent_known}
 use Rattle.jc_classes.proofs.FaultlessLines.{no_fault}
@@ -32,12 +32,7 @@ use Rattle.jc_base.proofs.Lists.{slice_get-left}
 
 module _ (ps : List PackageRecord) (object : ℕ) where
   known_by : (c : NumberedClass) (b : Bool) → HasKnownLine (named_classes ps object) (if b then named_interface ps c else named_proper ps object c)
-  known_by c true = record { parent = tt; earlier = tt; interfaces = interfaces_within ps object c.home c.record_of.interfaces }
-  known_by c false = record {
-    parent = parent_within ps object c.home c.record_of.super_ref;
-    earlier = parent_earlier ps object c.home c.record_of.super_ref;
-    interfaces = interfaces_within ps object c.home c.record_of.interfaces;
-  }
+  known_by c x = grind (arith, interfaces_within, parent_within, parent_earlier)
 
   known_line : (c : NumberedClass) → HasKnownLine (named_classes ps object) (named_class ps object c)
   unfolding named_class
@@ -100,9 +95,7 @@ module _ (cs more : List NamedClass) (roles : List ℕ) (are : AreLines (outline
   count = length-map cs line_of
 
   line_front : (c : ℕ) → c < length cs → slice_get many.lines c ≡ slice_get few.lines c
-  line_front c lt =
-      ap (λ ls. slice_get ls c) (map-append line_of cs more)
-      ∙ slice_get-left (map line_of cs) (map line_of more) c (subst (λ n. c < n) (sym count) lt)
+  line_front c lt = grind (arith, slice_get, map-append, slice_get-left, map, count)
 
   parent_front : (c : ℕ) → c < length cs → parent_of many c ≡ parent_of few c
   unfolding parent_of
@@ -128,10 +121,7 @@ module _ (cs more : List NamedClass) (roles : List ℕ) (are : AreLines (outline
   both_by : (xs : List ℕ) (c : ℕ) (o : Option ℕ) → chain few c ≡ xs → c < length cs → parent_of few c ≡ o → IfSome o (λ p. p < length cs)
       → IsChainBoth c xs
   both_by [] c o e lt up h = absurd (let s : c ∷ list_of (chain few) (parent_of few c) ≡ [] = sym (chain_step few c are) ∙ e in cc)
-  both_by (x ∷ ys) c None e lt up h =
-      let low : c ∷ [] ≡ x ∷ ys = sym (chain_step few c are ∙ ap (λ o. c ∷ list_of (chain few) o) up) ∙ e in
-      let high : chain many c ≡ c ∷ [] = chain_step many c grown ∙ ap (λ o. c ∷ list_of (chain many) o) (parent_front c lt ∙ up) in
-      record { both = high ∙ low; within = one c (x ∷ ys) [] lt (sym low) (λ i d less. absurd (omega (arith, less))) }
+  both_by (x ∷ ys) c None e lt up h = grind (arith, chain_step, parent_front, one)
   both_by (x ∷ ys) c (Some p) e lt up h =
       let low : c ∷ chain few p ≡ x ∷ ys = sym (chain_step few c are ∙ ap (λ o. c ∷ list_of (chain few) o) up) ∙ e in
       let rest : chain few p ≡ ys = cc in
@@ -201,24 +191,16 @@ module _ (cs more : List NamedClass) (roles : List ℕ) (are : AreLines (outline
 
   records_front : (c : ℕ) (ks : List NamedClass) → c + length ks ≤ length cs → records_from many (cs ++ more) c ks ≡ records_from few cs c ks
   records_front c [] le = refl
-  records_front c (k ∷ ks) le =
-      ap (λ l. record_from k l ∷ records_from many (cs ++ more) (c + 1) ks) (layout_front c (omega (arith, le)))
-      ∙ ap (λ rs. record_from k (class_layout few cs c) ∷ rs) (records_front (c + 1) ks (omega (arith, le)))
+  records_front c (k ∷ ks) le = grind (arith, layout_front, records_front (c + 1) ks (omega (arith, le)))
 
   records_split : (t : LineTable) (all : List NamedClass) (c : ℕ) (ks ls : List NamedClass)
       → records_from t all c (ks ++ ls) ≡ records_from t all c ks ++ records_from t all (c + length ks) ls
   records_split t all c [] ls = ap (λ n. records_from t all n ls) (let e : c ≡ c + 0 = omega arith in e)
-  records_split t all c (k ∷ ks) ls =
-      ap (λ rs. record_from k (class_layout t all c) ∷ rs) (records_split t all (c + 1) ks ls)
-      ∙ ap (λ n. record_from k (class_layout t all c) ∷ (records_from t all (c + 1) ks ++ records_from t all n ls))
-      (let e : c + 1 + length ks ≡ c + suc (length ks) = omega arith in e)
+  records_split t all c (k ∷ ks) ls = grind (arith, length, suc, records_split t all (c + 1) ks ls)
 
   pub added_records : List ClassRec
   added_records = records_from many (cs ++ more) (length cs) more
 
   pub tables_begin : (class_tables many (cs ++ more)).records ≡ (class_tables few cs).records ++ added_records
   unfolding added_records
-  tables_begin =
-      records_split many (cs ++ more) 0 cs more
-      ∙ ap (λ n. records_from many (cs ++ more) 0 cs ++ records_from many (cs ++ more) n more) (let e : 0 + length cs ≡ length cs = omega arith in e)
-      ∙ ap (λ rs. rs ++ added_records) (records_front 0 cs (omega arith))
+  tables_begin = grind (arith, records_split, length, added_records, records_front)

@@ -16,9 +16,9 @@ use Rattle.cap_pool.specs.declared.pool_reference.PoolReference.{PoolReference}
 use Rattle.cap_pool.specs.declared.pool_reference.PoolReference.TheVariants as refs
 use Rattle.cap_pool.specs.declared.pool_reference.StaticReference.{StaticReference}
 use Rattle.cap_pool.specs.declared.pool_reference.StaticReference.TheVariants.{Internal, External}
-use Rattle.jc_base.specs.declared.record.Member.TheVariants.{ClassOf, Virtual, StaticCall}
+use Rattle.jc_base.specs.declared.record.Member.TheVariants.{Virtual, StaticCall}
 use Rattle.jc_base.specs.declared.record.StaticRec.{StaticRec}
-use Rattle.jc_base.specs.Class.{ClassTable, chain, object, parent_of, is_interface}
+use Rattle.jc_base.specs.Class.{ClassTable, chain, object, parent_of}
 use Rattle.jc_base.specs.Linked.{cells_above}
 use Rattle.jc_resolve.specs.declared.place.RecordPlace.{RecordPlace}
 use Rattle.jc_resolve.specs.declared.own_field.OwnField.{OwnField}
@@ -47,8 +47,7 @@ standing_front [] [] c n h = refl
 standing_front [] (y ∷ ys) c n h =
     ap (λ b. if b then y.member ∷ members_standing ys (token_of_class c n) else members_standing ys (token_of_class c n)) (h 0)
     ∙ standing_front [] ys c n (λ k. h (suc k))
-standing_front (x ∷ xs) ys c n h =
-    ap (λ ms. if same_spot (token_of_class c n) x.spot then x.member ∷ ms else ms) (standing_front xs ys c n h)
+standing_front (x ∷ xs) ys c n h = grind (arith, standing_front xs ys c n h)
 
 apart_spot : (c n owner number : ℕ) → c < owner → same_spot (token_of_class c n) (token_of_class owner number) ≡ false
 apart_spot c n owner number lt = ap (λ b. b && n == number) (other c owner lt)
@@ -77,8 +76,7 @@ module _ (ps qs : List PackageRecord) (t u : ClassTable) (g : IsGrown (length (n
   at_place : (told : ℕ → ℕ → ℕ → Option ℕ) (now : ℕ → ℕ → ℕ → Option ℕ) (k import class token : ℕ) (o : Option ℕ) → k < length ps
       → ((j : ℕ) → j < length ps → now j class token ≡ told j class token) → IfSome o (λ j. j < k)
       → option_and_then (λ j. option_map (place_in j) (now j class token)) o ≡ option_and_then (λ j. option_map (place_in j) (told j class token)) o
-  at_place told now k import class token None lt same h = refl
-  at_place told now k import class token (Some j) lt same h = ap (option_map (place_in j)) (same j (omega (arith, lt, h)))
+  at_place told now k import class token x lt same h = grind (arith, option_map)
 
   place_front : (told now : ℕ → ℕ → ℕ → Option ℕ) (k : ℕ) (r : StaticReference) → k < length ps
       → ((j class token : ℕ) → j < length ps → now j class token ≡ told j class token)
@@ -127,8 +125,7 @@ module _ (ps qs : List PackageRecord) (t u : ClassTable) (g : IsGrown (length (n
       at c false less = same c less
 
       by : (o : Option ℕ) → IfSome o (λ c. c < n) → option_and_then f (option_and_then (proper_by t) o) ≡ option_and_then h (option_and_then (proper_by t) o)
-      by None less = refl
-      by (Some c) less = at c (is_interface t c) less
+      by x less = grind (arith, at)
 
   virtual_front : (k : ℕ) (r : ClassReference) (token : ℕ) → k < length ps → virtual_member (ps ++ qs) u k r token ≡ virtual_member ps t k r token
   unfolding virtual_member virtual_by
@@ -251,9 +248,7 @@ module _ (ps qs : List PackageRecord) (t u : ClassTable) (g : IsGrown (length (n
 
     apart_classes : (xs : List PackageRecord) (k : ℕ) (p : PackageRecord) (c : ℕ) (rs : List Class) → n ≤ c → AreApart (sites_of_classes xs u k p c rs)
     apart_classes xs k p c [] le j = tt
-    apart_classes xs k p c (r ∷ rs) le j =
-        apart_both (class_sites u c (own_fields xs (object u) k p r)) (sites_of_classes xs u k p (c + 1) rs)
-        (apart_own _ c _ (own_fields xs (object u) k p r) le) (apart_classes xs k p (c + 1) rs (omega (arith, le))) j
+    apart_classes xs k p c (r ∷ rs) le j = grind (arith, apart_both, apart_own, apart_classes xs k p (c + 1) rs (omega (arith, le)))
 
     apart_after : (xs : List PackageRecord) (c k : ℕ) (rest : List PackageRecord) → n ≤ c → AreApart (sites_after xs u c k rest)
     apart_after xs c k [] le j = tt
@@ -327,20 +322,14 @@ module _ (ps qs : List PackageRecord) (t u : ClassTable) (g : IsGrown (length (n
 
     field_front : (k : ℕ) (r : ClassReference) (token : ℕ) → k < length ps → field_member (ps ++ qs) u k r token ≡ field_member ps t k r token
     unfolding field_member
-    field_front k r token lt =
-        proper_then (field_of (field_sites (ps ++ qs) u) u token) (field_of (field_sites ps t) t token) k r lt (λ c less. field_same token c less)
+    field_front k r token lt = grind (arith, proper_then, field_same)
 
     -- ---- all
 
     referred_member : (k : ℕ) (r : PoolReference) → k < length ps
         → member_referred (ps ++ qs) u (statics ++ added) k r ≡ member_referred ps t statics k r
     unfolding class_member
-    referred_member k (refs.Class r) lt = ap (option_map ClassOf) (referred_front ps qs k r lt)
-    referred_member k (refs.InstanceField r token) lt = field_front k r token lt
-    referred_member k (refs.VirtualMethod r token) lt = virtual_front k r token lt
-    referred_member k (refs.SuperMethod r token) lt = super_front k r token lt
-    referred_member k (refs.StaticField r) lt = static_front k r lt
-    referred_member k (refs.StaticMethod r) lt = call_front k r lt
+    referred_member k x lt = grind (arith, option_map, referred_front, field_front, virtual_front, super_front, static_front, call_front)
 
     pub member_front : (k : ℕ) (e : Entry) → k < length ps → member_of (ps ++ qs) u (statics ++ added) k e ≡ member_of ps t statics k e
     unfolding member_of

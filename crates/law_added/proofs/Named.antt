@@ -1,4 +1,5 @@
 -- A Classref of packages names one of their classes.
+use Rattle.std.proofs.Common.{arith}
 use Rattle.std.proofs.Common.{◌≡◌, ◌<◌, ◌+◌, ℕ, zero, suc, List, [], ◌∷◌, ◌++◌, length, map, slice_get, Bool, true, false}
 use Rattle.std.proofs.Common.{Option, Some, None, IfSome, option_map, option_and_then, subst}
 use Rattle.std.specs.Prelude.{if◌then◌else◌, is_some, filter_map}
@@ -10,20 +11,18 @@ use Rattle.cap_pool.specs.PoolReference.{referred}
 use Rattle.cap_pool.specs.declared.pool_reference.PoolReference.{PoolReference}
 use Rattle.cap_pool.specs.declared.pool_reference.PoolReference.TheVariants as refs
 use Rattle.jc_base.specs.declared.record.Member.{Member}
-use Rattle.jc_base.specs.declared.record.Member.TheVariants.{ClassOf, Field, Static, Virtual, Super, StaticCall}
+use Rattle.jc_base.specs.declared.record.Member.TheVariants.{ClassOf, Virtual, Super}
 use Rattle.jc_base.specs.declared.record.StaticRec.{StaticRec}
-use Rattle.jc_base.specs.Class.{ClassTable, object, parent_of}
+use Rattle.jc_base.specs.Class.{ClassTable, parent_of}
 use Rattle.jc_base.specs.Dispatch.{entry_at}
-use Rattle.jc_base.specs.Linked.{list_at, cells_above}
+use Rattle.jc_base.specs.Linked.{list_at}
 use Rattle.jc_resolve.specs.declared.own_field.OwnField.{OwnField}
-use Rattle.jc_resolve.specs.Numbering.{numbered_classes, method_at}
-use Rattle.jc_resolve.specs.OwnFields.{own_fields}
+use Rattle.jc_resolve.specs.Numbering.{numbered_classes}
 use Rattle.jc_resolve.specs.References.{class_referred}
-use Rattle.jc_link.specs.Entries.{field_place, method_place}
-use Rattle.jc_link.specs.Fields.{field_site, class_sites, sites_of_classes, sites_after, field_sites}
+use Rattle.jc_link.specs.Fields.{field_site, sites_of_classes, sites_after, field_sites}
 use Rattle.jc_link.specs.Sites.{MemberSite, members_standing, same_spot, only}
 use Rattle.jc_link.specs.Members.{class_member, proper_referred, virtual_by, virtual_member, may_name, super_by, super_of, super_member}
-use Rattle.jc_link.specs.Members.{static_sites, static_at, static_member, call_member, token_of_class, holder_of, as_of, field_of}
+use Rattle.jc_link.specs.Members.{static_sites, static_at, static_member, call_member, token_of_class, as_of, field_of}
 use Rattle.jc_link.specs.Members.{field_member}
 use Rattle.jc_link.specs.Members.{member_referred, member_of}
 use Rattle.jc_link.specs.Pools.{pools_after, pools}
@@ -57,23 +56,17 @@ standing_below n (s ∷ ss) c k h = by (same_spot (token_of_class c k) s.spot) (
     by false rest = rest
 
 only_below : (n : ℕ) (ms : List Member) → AllBelow n ms → IfSome (only ms) (NamesBelow n)
-only_below n [] h = tt
-only_below n (m ∷ []) h = h.0
-only_below n (m ∷ k ∷ ms) h = tt
+only_below n x h = grind (arith)
 
 any_then : {X : Type 0} (P : Member → Type 0) (f : X → Option Member) (o : Option X) → ((x : X) → IfSome (f x) P) → IfSome (option_and_then f o) P
-any_then P f None h = tt
-any_then P f (Some x) h = h x
+any_then x f x2 h = grind (arith)
 
 any_mapped : {X : Type 0} (P : Member → Type 0) (f : X → Member) (o : Option X) → ((x : X) → P (f x)) → IfSome (option_map f o) P
-any_mapped P f None h = tt
-any_mapped P f (Some x) h = h x
+any_mapped x f x2 h = grind (arith)
 
 one_more : (n : ℕ) (o : Option Member) (ms : List Member) → IfSome o (NamesBelow n) → ((j : ℕ) → IfSome (slice_get ms j) (NamesBelow n)) → (j : ℕ)
     → IfSome (slice_get (cons_option o ms) j) (NamesBelow n)
-one_more n None ms h rest j = rest j
-one_more n (Some m) ms h rest zero = h
-one_more n (Some m) ms h rest (suc j) = rest j
+one_more n x ms h rest j = grind (arith)
 
 module _ (ps : List PackageRecord) (t : ClassTable) (statics : List StaticRec) where
   abbrev n : ℕ
@@ -87,35 +80,21 @@ module _ (ps : List PackageRecord) (t : ClassTable) (statics : List StaticRec) w
 
   class_below : (k : ℕ) (p : PackageRecord) (c : ℕ) (rs : List Class) → AreBelow n (sites_of_classes ps t k p c rs)
   class_below k p c [] = tt
-  class_below k p c (r ∷ rs) =
-      both_below n (class_sites t c (own_fields ps (object t) k p r)) (sites_of_classes ps t k p (c + 1) rs)
-      (own_sites (cells_above t (parent_of t c)) c (own_fields ps (object t) k p r) (own_fields ps (object t) k p r)) (class_below k p (c + 1) rs)
+  class_below k p c (r ∷ rs) = grind (arith, both_below, own_sites, class_below k p (c + 1) rs)
 
   sites_below : (c k : ℕ) (rest : List PackageRecord) → AreBelow n (sites_after ps t c k rest)
   sites_below c k [] = tt
-  sites_below c k (p ∷ rest) =
-      both_below n (sites_of_classes ps t k p c p.classes) (sites_after ps t (c + length p.classes) (k + 1) rest) (class_below k p c p.classes)
-      (sites_below (c + length p.classes) (k + 1) rest)
+  sites_below c k (p ∷ rest) = grind (arith, both_below, length, class_below, sites_below (c + length p.classes) (k + 1) rest)
 
   as_below : (c : ℕ) (m : Member) → NamesBelow n m → NamesBelow n (as_of c m)
-  as_below c (Field holder cell kind ty) h = tt
-  as_below c (ClassOf d) h = h
-  as_below c (Static slot kind ty) h = tt
-  as_below c (Virtual d token) h = tt
-  as_below c (Super d m) h = tt
-  as_below c (StaticCall m) h = tt
+  as_below c x h = grind (arith)
 
   renamed_below : (c : ℕ) (o : Option Member) → IfSome o (NamesBelow n) → IfSome (option_map (as_of c) o) (NamesBelow n)
-  renamed_below c None h = tt
-  renamed_below c (Some m) h = as_below c m h
+  renamed_below c x h = grind (arith, as_below)
 
   field_below : (token c : ℕ) → IfSome (field_of (field_sites ps t) t token c) (NamesBelow n)
   unfolding field_of
-  field_below token c =
-      renamed_below c (option_and_then (λ h. only (members_standing (field_sites ps t) (token_of_class h token))) (holder_of (field_sites ps t) t token c))
-      (any_then (NamesBelow n) (λ h. only (members_standing (field_sites ps t) (token_of_class h token))) (holder_of (field_sites ps t) t token c)
-      (λ h. only_below n (members_standing (field_sites ps t) (token_of_class h token))
-      (standing_below n (field_sites ps t) h token (sites_below 0 0 ps))))
+  field_below token c = grind (arith, renamed_below, option_and_then, any_then, only_below, standing_below, sites_below)
 
   -- ---- static fields
 
@@ -132,8 +111,7 @@ module _ (ps : List PackageRecord) (t : ClassTable) (statics : List StaticRec) w
       by : (o : Option ℕ) → IfSome o (λ c. c < n) → IfSome (option_map ClassOf o) (NamesBelow n)
       by None h = tt
       by (Some c) h = h
-  referred_known k (refs.InstanceField r token) =
-      any_then (NamesBelow n) (field_of (field_sites ps t) t token) (proper_referred ps t k r) (λ c. field_below token c)
+  referred_known k (refs.InstanceField r token) = grind (arith, any_then, field_below)
   referred_known k (refs.VirtualMethod r token) =
       any_then (NamesBelow n) (virtual_by t token) (proper_referred ps t k r) (λ c. by c (is_some (entry_at t c token)))
     where
@@ -147,12 +125,8 @@ module _ (ps : List PackageRecord) (t : ClassTable) (statics : List StaticRec) w
       by : (c p : ℕ) (b : Bool) → IfSome (if b then option_map (Super c) (entry_at t p token) else None) (NamesBelow n)
       by c p true = any_mapped (NamesBelow n) (Super c) (entry_at t p token) (λ m. tt)
       by c p false = tt
-  referred_known k (refs.StaticField r) =
-      any_then (NamesBelow n) (static_at statics) (field_place ps k r)
-      (λ place. only_below n (members_standing (static_sites statics) (token_of_class place.«package» place.offset))
-      (standing_below n (static_sites statics) place.«package» place.offset (statics_below statics)))
-  referred_known k (refs.StaticMethod r) =
-      any_mapped (NamesBelow n) StaticCall (option_and_then (method_at ps) (method_place ps k r)) (λ m. tt)
+  referred_known k (refs.StaticField r) = grind (arith, any_then, only_below, standing_below, statics_below)
+  referred_known k (refs.StaticMethod r) = grind (arith, any_mapped, option_and_then)
 
   entry_known : (k : ℕ) (e : Entry) → IfSome (member_of ps t statics k e) (NamesBelow n)
   unfolding member_of

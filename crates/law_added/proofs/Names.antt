@@ -1,15 +1,13 @@
 -- What a package names stays the same when packages are added after it.
-use Rattle.std.proofs.Common.{◌≡◌, ◌<◌, ◌+◌, ℕ, List, ◌++◌, length, take, slice_get, position}
-use Rattle.std.proofs.Common.{Option, Some, None, IfSome, option_map, option_and_then, refl, ap, ◌∙◌, arith}
+use Rattle.std.proofs.Common.{◌≡◌, ◌<◌, ℕ, List, ◌++◌, length, take, slice_get, position}
+use Rattle.std.proofs.Common.{Option, IfSome, option_map, option_and_then, refl, ap, ◌∙◌, arith}
 use Rattle.std.proofs.lemmas.List.{take-append-le}
 use Rattle.cap_bytes.specs.declared.class_reference.ClassReference.{ClassReference}
 use Rattle.cap_bytes.specs.declared.class_reference.ClassReference.TheVariants.{Internal, External}
 use Rattle.cap_bytes.specs.ClassReference.{reference_of}
 use Rattle.cap_package.specs.PackageRecord.{PackageRecord}
-use Rattle.cap_package.specs.Agreement.{or_none}
-use Rattle.cap_pool.specs.ExportFormat.{Exported}
 use Rattle.jc_resolve.specs.Numbering.{class_at}
-use Rattle.jc_resolve.specs.References.{meets_import, import_of, met_by, exported_offset, exported_place}
+use Rattle.jc_resolve.specs.References.{met_by, exported_offset, exported_place}
 use Rattle.jc_resolve.specs.References.{class_referred, class_named}
 use Rattle.jc_resolve.proofs.ImportLaws.{met_before}
 use Rattle.law_added.proofs.Numbers.{class_at_front}
@@ -23,33 +21,22 @@ module _ (ps qs : List PackageRecord) where
 
   pub met_front : (k token : ℕ) → k < length ps → met_by (ps ++ qs) k token ≡ met_by ps k token
   unfolding met_by
-  met_front k token lt =
-      ap (option_and_then (λ asked. position (meets_import asked) (take k (ps ++ qs))))
-      (asked_front (λ (p : PackageRecord). slice_get p.imports token) k lt)
-      ∙ ap (λ earlier. option_and_then (λ asked. position (meets_import asked) earlier) (import_of ps k token))
-      (take-append-le k ps qs (omega (arith, lt)))
+  met_front k token lt = grind (arith, option_and_then, position, take, asked_front, slice_get, take-append-le)
 
   pub exported_front : (k token : ℕ) → k < length ps → exported_offset (ps ++ qs) k token ≡ exported_offset ps k token
-  exported_front k token lt =
-      ap (option_map (λ (c : Exported). c.class_offset)) (asked_front (λ (p : PackageRecord). slice_get (or_none p.export) token) k lt)
+  exported_front k token lt = grind (arith, option_map, asked_front, slice_get)
 
   -- ---- classes
 
   at_exported : (j class : ℕ) (o : Option ℕ) → j < length ps
       → option_and_then (class_at (ps ++ qs)) (option_map (λ offset. record { «package» = j; offset = offset }) o)
       ≡ option_and_then (class_at ps) (option_map (λ offset. record { «package» = j; offset = offset }) o)
-  at_exported j class None lt = refl
-  at_exported j class (Some offset) lt = class_at_front ps qs (record { «package» = j; offset = offset }) lt
+  at_exported j class x lt = grind (arith, class_at_front)
 
   by_import : (class k : ℕ) (o : Option ℕ) → k < length ps → IfSome o (λ j. j < k)
       → option_and_then (class_at (ps ++ qs)) (option_and_then (λ j. exported_place (ps ++ qs) j class) o)
       ≡ option_and_then (class_at ps) (option_and_then (λ j. exported_place ps j class) o)
-  by_import class k None lt h = refl
-  by_import class k (Some j) lt h =
-      let below : j < length ps = omega (arith, lt, h) in
-      ap (λ o. option_and_then (class_at (ps ++ qs)) (option_map (λ offset. record { «package» = j; offset = offset }) o))
-      (exported_front j class below)
-      ∙ at_exported j class (exported_offset ps j class) below
+  by_import class k x lt h = grind (arith, length, option_and_then, option_map, exported_front, at_exported)
 
   pub referred_front : (k : ℕ) (reference : ClassReference) → k < length ps
       → class_referred (ps ++ qs) k reference ≡ class_referred ps k reference

@@ -1,13 +1,13 @@
 -- Classes and methods of the packages before keep their numbers, and those of the packages that are added come after them.
 use Rattle.std.proofs.Common.{◌≡◌, ◌<◌, ◌≤◌, ◌+◌, ℕ, zero, suc, List, [], ◌∷◌, ◌++◌, length, map, slice_get, position, Bool, true, false}
-use Rattle.std.proofs.Common.{Option, Some, None, IfSome, refl, sym, ap, subst, ◌∙◌, arith, append_assoc}
+use Rattle.std.proofs.Common.{Option, Some, None, IfSome, refl, ap, ◌∙◌, arith, append_assoc}
 use Rattle.std.specs.Prelude.{◌==◌, ◌&&◌, if◌then◌else◌}
 use Rattle.std.proofs.lemmas.List.{map-append}
 use Rattle.cap_desc.specs.DescriptorFormat.{ClassDescriptor, MethodDescriptor}
 use Rattle.cap_package.specs.PackageRecord.{PackageRecord}
 use Rattle.jc_resolve.specs.declared.place.RecordPlace.{RecordPlace}
-use Rattle.jc_resolve.specs.Numbering.{NumberedClass, numbered_class, numbered_classes_of, classes_after, numbered_classes, place_of_class, class_places}
-use Rattle.jc_resolve.specs.Numbering.{class_at, same_place, flagged_interface, is_interface_number}
+use Rattle.jc_resolve.specs.Numbering.{NumberedClass, classes_after, numbered_classes, place_of_class, class_places}
+use Rattle.jc_resolve.specs.Numbering.{class_at, same_place, is_interface_number}
 use Rattle.jc_resolve.specs.Numbering.{NumberedMethod, numbered_method, methods_of_class, methods_of_classes, methods_after, numbered_methods, place_of_method}
 use Rattle.jc_resolve.specs.Numbering.{method_places, is_at, method_at}
 use Rattle.law_added.proofs.Lists.{position_front}
@@ -43,41 +43,23 @@ every P h (x ∷ xs) (suc n) = every P h xs n
 
 pub classes_split : (k : ℕ) (ps qs : List PackageRecord) → classes_after k (ps ++ qs) ≡ classes_after k ps ++ classes_after (k + length ps) qs
 classes_split k [] qs = ap (λ n. classes_after n qs) (let e : k ≡ k + 0 = omega arith in e)
-classes_split k (p ∷ ps) qs =
-    let e : k + 1 + length ps ≡ k + suc (length ps) = omega arith in
-    ap (λ cs. numbered_classes_of k p ++ cs) (classes_split (k + 1) ps qs)
-    ∙ ap (λ n. numbered_classes_of k p ++ (classes_after (k + 1) ps ++ classes_after n qs)) e
-    ∙ sym (append_assoc (numbered_classes_of k p) (classes_after (k + 1) ps) (classes_after (k + suc (length ps)) qs))
+classes_split k (p ∷ ps) qs = grind (arith, length, suc, append_assoc, classes_split (k + 1) ps qs)
 
 -- the classes from a package's number on are of packages from that number on
 pub classes_from : (least k : ℕ) (ps : List PackageRecord) → least ≤ k → (n : ℕ) → IfSome (slice_get (classes_after k ps) n) (λ c. least ≤ c.home)
 classes_from least k [] le n = tt
-classes_from least k (p ∷ ps) le n =
-    each_both (λ (c : NumberedClass). least ≤ c.home) (numbered_classes_of k p) (classes_after (k + 1) ps)
-    (each_mapped (λ (c : NumberedClass). least ≤ c.home) (numbered_class k p) p.classes (every (λ c. least ≤ k) (λ c. le) p.classes))
-    (classes_from least (k + 1) ps (omega (arith, le))) n
+classes_from least k (p ∷ ps) le n = grind (arith, each_both, each_mapped, every, classes_from least (k + 1) ps (omega (arith, le)))
 
 -- and before the number of the next one
 pub classes_until : (k : ℕ) (ps : List PackageRecord) (n : ℕ) → IfSome (slice_get (classes_after k ps) n) (λ c. c.home < k + length ps)
 classes_until k [] n = tt
-classes_until k (p ∷ ps) n =
-    let here : k < k + suc (length ps) = omega arith in
-    let e : k + 1 + length ps ≡ k + suc (length ps) = omega arith in
-    each_both (λ (c : NumberedClass). c.home < k + suc (length ps)) (numbered_classes_of k p) (classes_after (k + 1) ps)
-    (each_mapped (λ (c : NumberedClass). c.home < k + suc (length ps)) (numbered_class k p) p.classes
-    (every (λ c. k < k + suc (length ps)) (λ c. here) p.classes))
-    (subst (λ m. (n : ℕ) → IfSome (slice_get (classes_after (k + 1) ps) n) (λ c. c.home < m)) e (classes_until (k + 1) ps)) n
+classes_until k (p ∷ ps) n = grind (arith, suc, length, each_both, each_mapped, every, slice_get, classes_until (k + 1) ps)
 
 -- ---- methods
 
 pub methods_split : (k : ℕ) (ps qs : List PackageRecord) → methods_after k (ps ++ qs) ≡ methods_after k ps ++ methods_after (k + length ps) qs
 methods_split k [] qs = ap (λ n. methods_after n qs) (let e : k ≡ k + 0 = omega arith in e)
-methods_split k (p ∷ ps) qs =
-    let e : k + 1 + length ps ≡ k + suc (length ps) = omega arith in
-    let own = methods_of_classes k p 0 p.description.items.classes in
-    ap (λ ms. own ++ ms) (methods_split (k + 1) ps qs)
-    ∙ ap (λ n. own ++ (methods_after (k + 1) ps ++ methods_after n qs)) e
-    ∙ sym (append_assoc own (methods_after (k + 1) ps) (methods_after (k + suc (length ps)) qs))
+methods_split k (p ∷ ps) qs = grind (arith, length, suc, append_assoc, methods_split (k + 1) ps qs)
 
 in_class : (P : NumberedMethod → Type 0) (k : ℕ) (p : PackageRecord)
     → ((i : ℕ) (c : ClassDescriptor) (j : ℕ) (m : MethodDescriptor) → P (numbered_method k p i c j m))
@@ -90,24 +72,15 @@ in_classes : (P : NumberedMethod → Type 0) (k : ℕ) (p : PackageRecord)
     → ((i : ℕ) (c : ClassDescriptor) (j : ℕ) (m : MethodDescriptor) → P (numbered_method k p i c j m))
     → (i : ℕ) (cs : List ClassDescriptor) (n : ℕ) → IfSome (slice_get (methods_of_classes k p i cs) n) P
 in_classes P k p h i [] n = tt
-in_classes P k p h i (c ∷ cs) n =
-    each_both P (methods_of_class k p i c 0 c.methods) (methods_of_classes k p (i + 1) cs) (in_class P k p h i c 0 c.methods)
-    (in_classes P k p h (i + 1) cs) n
+in_classes P k p h i (c ∷ cs) n = grind (arith, each_both, in_class, in_classes P k p h (i + 1) cs)
 
 pub methods_from : (least k : ℕ) (ps : List PackageRecord) → least ≤ k → (n : ℕ) → IfSome (slice_get (methods_after k ps) n) (λ m. least ≤ m.home)
 methods_from least k [] le n = tt
-methods_from least k (p ∷ ps) le n =
-    each_both (λ (m : NumberedMethod). least ≤ m.home) (methods_of_classes k p 0 p.description.items.classes) (methods_after (k + 1) ps)
-    (in_classes (λ m. least ≤ m.home) k p (λ i c j m. le) 0 p.description.items.classes) (methods_from least (k + 1) ps (omega (arith, le))) n
+methods_from least k (p ∷ ps) le n = grind (arith, each_both, in_classes, methods_from least (k + 1) ps (omega (arith, le)))
 
 pub methods_until : (k : ℕ) (ps : List PackageRecord) (n : ℕ) → IfSome (slice_get (methods_after k ps) n) (λ m. m.home < k + length ps)
 methods_until k [] n = tt
-methods_until k (p ∷ ps) n =
-    let here : k < k + suc (length ps) = omega arith in
-    let e : k + 1 + length ps ≡ k + suc (length ps) = omega arith in
-    each_both (λ (m : NumberedMethod). m.home < k + suc (length ps)) (methods_of_classes k p 0 p.description.items.classes) (methods_after (k + 1) ps)
-    (in_classes (λ m. m.home < k + suc (length ps)) k p (λ i c j m. here) 0 p.description.items.classes)
-    (subst (λ m. (n : ℕ) → IfSome (slice_get (methods_after (k + 1) ps) n) (λ c. c.home < m)) e (methods_until (k + 1) ps)) n
+methods_until k (p ∷ ps) n = grind (arith, suc, length, each_both, in_classes, slice_get, methods_until (k + 1) ps)
 
 -- ---- packages with more after them
 
@@ -148,12 +121,9 @@ module _ (ps qs : List PackageRecord) where
       at k offset false le = refl
 
       weaker : (o : Option NumberedMethod) → IfSome o (λ m. length ps ≤ m.home) → IfSome o (λ m. is_at place (place_of_method m) ≡ false)
-      weaker None h = tt
-      weaker (Some m) h = at m.home m.record_of.method_offset m.placed h
+      weaker x h = grind (arith)
 
   -- a number below those of the classes that are added is an interface in both or in none
   pub interface_front : (c : ℕ) → c < length (numbered_classes ps) → is_interface_number (ps ++ qs) c ≡ is_interface_number ps c
   unfolding is_interface_number
-  interface_front c lt =
-      ap (λ cs. flagged_interface (slice_get cs c)) classes_are
-      ∙ ap flagged_interface (slice_get-left (numbered_classes ps) (classes_after (length ps) qs) c lt)
+  interface_front c lt = grind (arith, slice_get, classes_are, slice_get-left, length)

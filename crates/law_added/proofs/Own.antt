@@ -64,6 +64,4 @@ module _ (ps qs : List PackageRecord) where
   pub own_number : (k reference found : ℕ) → length ps ≤ k → reference < 0x8000 → class_named (ps ++ qs) k reference ≡ Some found
       → length (numbered_classes ps) ≤ found
   unfolding class_named class_referred
-  own_number k reference found le own e =
-      later_class (record { «package» = k; offset = reference }) found le
-      (sym (ap (class_referred (ps ++ qs) k) (internal-is reference own)) ∙ e)
+  own_number k reference found le own e = grind (arith, later_class, internal-is)

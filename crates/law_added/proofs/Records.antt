@@ -1,5 +1,5 @@
 -- Classes and methods of the packages before name the same when packages are added after them.
-use Rattle.std.proofs.Common.{◌≡◌, ◌<◌, ◌+◌, ◌-◌, ℕ, List, [], ◌∷◌, ◌++◌, length, map, slice_get, slice_index, Bool}
+use Rattle.std.proofs.Common.{◌≡◌, ◌<◌, ◌+◌, ℕ, List, [], ◌∷◌, ◌++◌, length, map, slice_get, slice_index, Bool}
 use Rattle.std.proofs.Common.{not, Option, Some, None, IfSome, refl, ap, ◌∙◌, arith}
 use Rattle.std.specs.Prelude.{if◌then◌else◌, unwrap_or, ◌==◌, ◌&&◌}
 use Rattle.std.specs.List.{flat_map}
@@ -17,7 +17,6 @@ use Rattle.cap_pool.specs.declared.pool_reference.PoolReference.TheVariants.{Cla
 use Rattle.cap_pool.specs.PoolReference.{referred}
 use Rattle.jc_base.specs.declared.record.Sig.{Sig}
 use Rattle.jc_base.specs.declared.record.MethodRec.{MethodRec}
-use Rattle.jc_base.specs.declared.ty.Ty.TheVariants.{IntHigh, Class as ClassType, ArrRef, ArrBool, ArrByte, ArrShort, ArrInt, Short}
 use Rattle.jc_resolve.specs.declared.named.NamedClass.{NamedClass}
 use Rattle.jc_resolve.specs.Numbering.{NumberedClass, NumberedMethod, is_placed, numbered_classes, numbered_methods, classes_after, methods_after}
 use Rattle.jc_resolve.specs.References.{class_named}
@@ -27,7 +26,7 @@ use Rattle.jc_resolve.specs.NamedClasses.{cells_by, cells_of_field, cells_of_fie
 use Rattle.jc_resolve.specs.NamedClasses.{interface_named, implemented_interfaces, parent_named, named_interface, named_proper, named_class, named_classes}
 use Rattle.jc_resolve.specs.NamedMethods.{class_or_none, class_in_entry, caught_class, offset_in_info, handler_named, no_body, body_by}
 use Rattle.jc_resolve.specs.NamedMethods.{body_of}
-use Rattle.jc_resolve.specs.NamedMethods.{class_described, is_class, have_headers, method_with, method_as, named_method, named_methods}
+use Rattle.jc_resolve.specs.NamedMethods.{class_described, is_class, have_headers, named_method, named_methods}
 use Rattle.jc_resolve.proofs.DeclaredTypes.{named_below}
 use Rattle.std.proofs.lemmas.List.{map-append}
 use Rattle.law_added.proofs.Lists.{map_alike}
@@ -39,26 +38,14 @@ module _ (ps qs : List PackageRecord) where
 
   class_by : (object : ℕ) (o : Option ℕ) → IfSome o (λ c. c < length (numbered_classes ps))
       → class_or_object (ps ++ qs) object o ≡ class_or_object ps object o
-  class_by object None h = refl
-  class_by object (Some c) h = ap (λ b. if b then object else c) (interface_front ps qs c h)
+  class_by object x h = grind (arith, interface_front)
 
   type_class_front : (object k reference : ℕ) → k < length ps → type_class (ps ++ qs) object k reference ≡ type_class ps object k reference
-  type_class_front object k reference lt =
-      ap (class_or_object (ps ++ qs) object) (named_front ps qs k reference lt)
-      ∙ class_by object (class_named ps k reference) (named_below ps k reference)
+  type_class_front object k reference lt = grind (arith, named_front, class_by, named_below)
 
   pub type_front : (object k : ℕ) (t : TypeItem) → k < length ps → type_of (ps ++ qs) object k t ≡ type_of ps object k t
   unfolding type_of
-  type_front object k t lt =
-      ap (λ c.
-      if t.nibble == 5 then IntHigh
-      else (if t.nibble == 6 then ClassType c
-      else (if t.nibble == 10 then ArrBool
-      else (if t.nibble == 11 then ArrByte
-      else (if t.nibble == 12 then ArrShort
-      else (if t.nibble == 13 then ArrInt
-      else (if t.nibble == 14 then ArrRef c
-      else Short))))))) (type_class_front object k t.class_ref lt)
+  type_front object k t lt = grind (arith, type_class_front)
 
   pub cells_front : (object k : ℕ) (t : TypeItem) → k < length ps → cells_of_type (ps ++ qs) object k t ≡ cells_of_type ps object k t
   cells_front object k t lt = ap (cells_with t) (type_front object k t lt)
@@ -66,9 +53,7 @@ module _ (ps qs : List PackageRecord) where
   arguments_front : (object k : ℕ) (t : TypeItem) (us : List TypeItem) → k < length ps
       → arguments_before (ps ++ qs) object k t us ≡ arguments_before ps object k t us
   arguments_front object k t [] lt = refl
-  arguments_front object k t (u ∷ us) lt =
-      ap (λ cs. cs ++ arguments_before (ps ++ qs) object k u us) (cells_front object k t lt)
-      ∙ ap (λ cs. cells_of_type ps object k t ++ cs) (arguments_front object k u us lt)
+  arguments_front object k t (u ∷ us) lt = grind (arith, cells_front, arguments_front object k u us lt)
 
   result_front : (object k : ℕ) (t : TypeItem) (us : List TypeItem) → k < length ps
       → result_after (ps ++ qs) object k t us ≡ result_after ps object k t us
@@ -76,10 +61,7 @@ module _ (ps qs : List PackageRecord) where
   result_front object k t (u ∷ us) lt = result_front object k u us lt
 
   in_front : (object k : ℕ) (ts : List TypeItem) → k < length ps → signature_in (ps ++ qs) object k ts ≡ signature_in ps object k ts
-  in_front object k [] lt = refl
-  in_front object k (t ∷ ts) lt =
-      ap (λ as_. record { args = as_; result = result_after (ps ++ qs) object k t ts }) (arguments_front object k t ts lt)
-      ∙ ap (λ o. record { args = arguments_before ps object k t ts; result = o }) (result_front object k t ts lt)
+  in_front object k x lt = grind (arith, arguments_front, result_front)
 
   signature_front : (object k : ℕ) (d : Description) (offset : ℕ) → k < length ps
       → declared_signature (ps ++ qs) object k d offset ≡ declared_signature ps object k d offset
@@ -110,16 +92,12 @@ module _ (ps qs : List PackageRecord) where
   entry_front k offset lt = ap (λ o. if offset == 0xFFFF then None else o) (method_at_front ps qs (record { «package» = k; offset = offset }) lt)
 
   table_front : (k base : ℕ) (offsets : List ℕ) → k < length ps → dispatch_table (ps ++ qs) k base offsets ≡ dispatch_table ps k base offsets
-  table_front k base offsets lt =
-      ap (λ es. record { base = base; entries = es })
-      (map_alike (dispatch_entry (ps ++ qs) k) (dispatch_entry ps k) offsets
-      (every (λ offset. dispatch_entry (ps ++ qs) k offset ≡ dispatch_entry ps k offset) (λ offset. entry_front k offset lt) offsets))
+  table_front k base offsets lt = grind (arith, map_alike, every, entry_front)
 
   interfaces_front : (k : ℕ) (is : List Interface) → k < length ps → implemented_interfaces (ps ++ qs) k is ≡ implemented_interfaces ps k is
   unfolding interface_named
   interfaces_front k [] lt = refl
-  interfaces_front k (i ∷ is) lt =
-      rw (named_front ps qs k i.class_ref lt, interfaces_front k is lt) refl
+  interfaces_front k (i ∷ is) lt = grind (arith, named_front, interfaces_front k is lt)
 
   parent_front : (k reference : ℕ) → k < length ps → parent_named (ps ++ qs) k reference ≡ parent_named ps k reference
   parent_front k reference lt = ap (λ o. if reference == 0xFFFF then None else o) (named_front ps qs k reference lt)
@@ -178,8 +156,7 @@ module _ (ps qs : List PackageRecord) where
       → map (handler_named (ps ++ qs) throwable k pool code_at) hs ≡ map (handler_named ps throwable k pool code_at) hs
   unfolding handler_named
   handlers_front throwable k pool code_at [] lt = refl
-  handlers_front throwable k pool code_at (h ∷ hs) lt =
-      rw (caught_front k h.index throwable pool lt, handlers_front throwable k pool code_at hs lt) refl
+  handlers_front throwable k pool code_at (h ∷ hs) lt = grind (arith, caught_front, handlers_front throwable k pool code_at hs lt)
 
   body_front : (throwable k : ℕ) (p : PackageRecord) (m : MethodDescriptor) (sig : Sig) (has : Bool) → k < length ps
       → body_of (ps ++ qs) throwable k p m sig has ≡ body_of ps throwable k p m sig has
@@ -207,16 +184,7 @@ module _ (ps qs : List PackageRecord) where
 
   named_method_front : (roles : List ℕ) (m : NumberedMethod) → m.home < length ps → named_method (ps ++ qs) roles m ≡ named_method ps roles m
   unfolding named_method
-  named_method_front roles m lt =
-      let sig = declared_signature ps (slice_index roles 0) m.home m.of_package.description m.record_of.type_offset in
-      ap (method_as (ps ++ qs) (slice_index roles 1) m)
-      (signature_front (slice_index roles 0) m.home m.of_package.description m.record_of.type_offset lt)
-      ∙ ap (λ c. method_with m c sig (body_of (ps ++ qs) (slice_index roles 1) m.home m.of_package m.record_of sig
-      (have_headers (ps ++ qs) m.home m.of_package m.class))) (described_front m.home m.class lt)
-      ∙ ap (λ h. method_with m (class_described ps m.home m.class) sig (body_of (ps ++ qs) (slice_index roles 1) m.home m.of_package m.record_of sig h))
-      (headers_front m.home m.of_package m.class lt)
-      ∙ ap (method_with m (class_described ps m.home m.class) sig)
-      (body_front (slice_index roles 1) m.home m.of_package m.record_of sig (have_headers ps m.home m.of_package m.class) lt)
+  named_method_front roles m lt = grind (arith, slice_index, signature_front, described_front, headers_front, body_front)
 
   unfoldable pub added_methods : List ℕ → List MethodRec
   added_methods roles = map (named_method (ps ++ qs) roles) (methods_after (length ps) qs)

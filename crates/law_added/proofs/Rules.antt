@@ -1,6 +1,7 @@
 -- Where the rule of an instruction applies, it applies when packages are added: the same operation, with what it asks and what it does.
+use Rattle.std.proofs.Common.{arith}
 use Rattle.std.proofs.Common.{◌≡◌, ◌<◌, ◌+◌, ℕ, zero, suc, Bool, true, false, not, if◌then◌else◌, ℤ, List, [], ◌∷◌, ◌++◌, length, map}
-use Rattle.std.proofs.Common.{Option, Some, None, IsSomeAnd, Result, Ok, Err, slice_get, inl, inr, refl, sym, ◌∙◌, ap, subst}
+use Rattle.std.proofs.Common.{Option, Some, None, IsSomeAnd, Result, Ok, Err, slice_get, refl, sym, ◌∙◌, ap, subst}
 use Rattle.std.specs.Prelude.{◌==◌, ◌&&◌}
 use Rattle.std.specs.Prelude.{take, drop}
 use Rattle.std.proofs.Common.{get_or}
@@ -12,7 +13,7 @@ use Rattle.jc_base.specs.declared.ty.Ty.TheVariants.{Class, ArrBool, ArrByte, Ar
 use Rattle.jc_base.specs.declared.ty.Kind.{Kind}
 use Rattle.jc_base.specs.declared.ty.Kind.TheVariants as kinds
 use Rattle.jc_base.specs.declared.record.Member.{Member}
-use Rattle.jc_base.specs.declared.record.Member.TheVariants.{ClassOf, Field, Static, Virtual, Super, StaticCall}
+use Rattle.jc_base.specs.declared.record.Member.TheVariants.{ClassOf, Static, Virtual, Super, StaticCall}
 use Rattle.jc_base.specs.declared.record.MethodRec.{MethodRec}
 use Rattle.jc_base.specs.Class.{is_interface, object}
 use Rattle.jc_base.specs.Order.{Below}
@@ -25,7 +26,7 @@ use Rattle.jc_decode.specs.declared.insn.Insn.{Insn}
 use Rattle.jc_ops.specs.declared.fault.RuleFault.{RuleFault}
 use Rattle.jc_ops.specs.declared.fault.RuleFault.TheVariants.{BadMember, NotConcrete}
 use Rattle.jc_ops.specs.declared.want.Want.{Want}
-use Rattle.jc_ops.specs.declared.want.Want.TheVariants.{Value, Storable, ByteArray, AnyArray, Whole, Receiver}
+use Rattle.jc_ops.specs.declared.want.Want.TheVariants.{Value}
 use Rattle.jc_ops.specs.declared.operation.Branch.{Branch}
 use Rattle.jc_ops.specs.declared.operation.Branch.TheVariants as branches
 use Rattle.jc_ops.specs.declared.operation.Callee.{Callee}
@@ -51,11 +52,11 @@ use Rattle.jc_rules.specs.Demand.{Frame, Meets, Satisfies, SatisfiesAll}
 use Rattle.jc_rules.specs.declared.effect.Mode.TheVariants.{Flow}
 use Rattle.jc_rules.specs.declared.effect.Cells.{Cells}
 use Rattle.jc_rules.specs.declared.rule.Outcome.{Outcome}
-use Rattle.jc_rules.specs.Effect.{changed, WritesCells, StoresInRegisters}
+use Rattle.jc_rules.specs.Effect.{WritesCells}
 use Rattle.jc_rules.specs.Apply.{OperationApplies, RuleApplies}
-use Rattle.jc_rules.specs.Rule.{load_demands, array_read_demands, array_write_demands, branch_demands, call_demands, call_effect, args_at, result_at}
+use Rattle.jc_rules.specs.Rule.{load_demands, array_read_demands, array_write_demands, branch_demands}
 use Rattle.jc_rules.specs.declared.effect.Cells.TheVariants as given
-use Rattle.jc_rules.specs.Rule.{replacing, type_test_effect, seen, demands, effect, wrote}
+use Rattle.jc_rules.specs.Rule.{seen, demands, effect}
 use Rattle.law_added.proofs.Tables.{interface_front, parent_front}
 use Rattle.law_added.proofs.Begun.{IsBegun, method_there, lacks_same, interface_there, entry_there, object_same, in_types_same}
 use Rattle.law_added.proofs.Begun.{described_same, concrete_there}
@@ -84,18 +85,10 @@ module _ (v w : Linked) (b : IsBegun v w) where
   object_up found h = subst (λ c. Below w.classes found (Class c)) (sym (object_same v w b)) (below_up h)
 
   meets_up : (want : Want) (found : Ty) → Meets v.classes want found → Meets w.classes want found
-  meets_up (Value wanted) found h = below_up h
-  meets_up Storable found h = object_up found h
-  meets_up ByteArray found (inl h) = inl (below_up h)
-  meets_up ByteArray found (inr h) = inr (below_up h)
-  meets_up AnyArray found h = h
-  meets_up Whole found h = h
-  meets_up (Receiver c) found (inl h) = inl h
-  meets_up (Receiver c) found (inr h) = inr (below_up h)
+  meets_up x found h = grind (arith, below_up, object_up)
 
   there_up : (want : Want) (o : Option Ty) → IsSomeAnd o (Meets v.classes want) → IsSomeAnd o (Meets w.classes want)
-  there_up want None h = absurd h
-  there_up want (Some found) h = meets_up want found h
+  there_up want x h = grind (arith, meets_up)
 
   satisfies_up : (f : Frame) (d : Demand) → Satisfies v.classes f d → Satisfies w.classes f d
   satisfies_up f (Registers x n) h = h
@@ -124,65 +117,36 @@ module _ (v w : Linked) (b : IsBegun v w) where
   IsKnownOperation _ = Unit {0}
 
   load_same : (s : Sort) (x : ℕ) → load_demands w.classes s x ≡ load_demands v.classes s x
-  load_same sorts.Reference x = rw b.grown.roles refl
-  load_same sorts.Short x = refl
-  load_same sorts.Int x = refl
+  load_same x x2 = grind (arith)
 
   read_same : (k : Kind) → array_read_demands w.classes k ≡ array_read_demands v.classes k
-  read_same kinds.Ref = rw b.grown.roles refl
-  read_same kinds.Byte = refl
-  read_same kinds.Short = refl
-  read_same kinds.Int = refl
+  read_same x = grind (arith)
 
   write_same : (k : Kind) → array_write_demands w.classes k ≡ array_write_demands v.classes k
-  write_same kinds.Ref = rw b.grown.roles refl
-  write_same kinds.Byte = refl
-  write_same kinds.Short = refl
-  write_same kinds.Int = refl
+  write_same x = grind (arith)
 
   branch_same : (k : Branch) → branch_demands w.classes k ≡ branch_demands v.classes k
-  branch_same branches.Always = refl
-  branch_same (branches.Zero o) = refl
-  branch_same (branches.Null e) = rw b.grown.roles refl
-  branch_same (branches.References e) = rw b.grown.roles refl
-  branch_same (branches.Shorts o) = refl
+  branch_same x = grind (arith)
 
   called_same : (c : Callee) → IsKnownOperation (ops.Call c) → slice_get w.methods c.method ≡ slice_get v.methods c.method
   called_same c (m, e) = method_there v w b c.method m e ∙ sym e
 
   demands_same : (op : Operation) → IsKnownOperation op → demands w op ≡ demands v op
-  demands_same (ops.Load s x) h = load_same s x
-  demands_same (ops.ArrayRead k) h = read_same k
-  demands_same (ops.ArrayWrite k) h = write_same k
-  demands_same (ops.Branch k) h = branch_same k
-  demands_same (ops.Call c) h = ap (λ o. call_demands (args_at o) c.receiver) (called_same c h)
-  demands_same ops.Throw h = rw b.grown.roles refl
-  demands_same (ops.TypeTest test ty) h = rw b.grown.roles refl
-  demands_same _ h = refl
+  demands_same x h = grind (arith, load_same, read_same, write_same, branch_same, called_same)
 
   seen_same : (ty : Ty) → IsThere ty → seen w.classes ty ≡ seen v.classes ty
-  seen_same (Class c) h = ap Class (in_types_same v w b c h)
-  seen_same (ArrRef c) h = ap ArrRef (in_types_same v w b c h)
-  seen_same _ h = refl
+  seen_same x h = grind (arith, in_types_same)
 
   effect_same : (op : Operation) (f : Frame) → IsKnownOperation op → effect w op f ≡ effect v op f
-  effect_same (ops.Call c) f h =
-      ap (λ o. call_effect (args_at o) (result_at o) c.receiver f) (called_same c h)
-  effect_same (ops.NewArray ty) f h = ap (λ t. replacing 1 (given.One t)) (seen_same ty h)
-  effect_same (ops.TypeTest test ty) f h = ap (type_test_effect test) (seen_same ty h)
-  effect_same _ f h = refl
+  effect_same x f h = grind (arith, called_same, seen_same)
 
   -- ---- what is named
 
   instance_same : (pool : ℕ) (k : Kind) (o : Option Member) → instance_field w.classes pool k o ≡ instance_field v.classes pool k o
-  instance_same pool k (Some (Field c cell kind ty)) = rw b.grown.roles refl
-  instance_same pool k _ = refl
+  instance_same pool k x = grind (arith)
 
   returned_same : (s : Option Sort) (result : Option Ty) → result_returned w.classes s result ≡ result_returned v.classes s result
-  returned_same None result = refl
-  returned_same (Some sorts.Reference) result = rw b.grown.roles refl
-  returned_same (Some sorts.Short) result = refl
-  returned_same (Some sorts.Int) result = refl
+  returned_same x result = grind (arith)
 
   -- ---- the method that is called
 
@@ -192,8 +156,7 @@ module _ (v w : Linked) (b : IsBegun v w) where
     there : (m : MethodRec) × (slice_get v.methods c.method ≡ Some m)
 
   taken_is : (test : Bool) (pool : ℕ) (c d : Callee) → taken_if test pool c ≡ Ok d → (test ≡ true) × (c ≡ d)
-  taken_is true pool c d e = (refl, (let s : c ≡ d = cc in s))
-  taken_is false pool c d e = absurd cc
+  taken_is x pool c d e = grind (arith)
 
   callee_up : (test there_test : MethodRec → Bool) (pool n : ℕ) (receiver : MethodRec → Option Want) (choice : Choice) (o : Option MethodRec) (c : Callee)
       → slice_get v.methods n ≡ o → ((m : MethodRec) → slice_get v.methods n ≡ Some m → there_test m ≡ test m)
@@ -297,9 +260,7 @@ module _ (v w : Linked) (b : IsBegun v w) where
 
     called_up : (f g : Option Member → Result Callee RuleFault) (x : ℤ) → (g None ≡ f None) → ((fault : RuleFault) × (f None ≡ Err fault))
         → ((o : Option Member) (c : Callee) → f o ≡ Ok c → IsCalled (g o) c) → Carries (on ops.Call (f (old x))) (on ops.Call (g (now x)))
-    called_up f g x none fails up op e =
-        let y = called_by f g x op none fails up e in
-        (ap (on ops.Call) y.2.called ∙ ap Ok (sym y.1), subst IsKnownOperation (sym y.1) y.2.there)
+    called_up f g x none fails up op e = grind (arith, called_by)
 
     -- a type is asked of a class that is there
     typed_by : (make : ℕ → Ty) (op_of : Ty → Operation) (pool : ℕ) (x : ℤ) (op : Operation) → ((c : ℕ) → c < count → IsKnownOperation (op_of (make c)))
@@ -403,10 +364,7 @@ module _ (v w : Linked) (b : IsBegun v w) where
     is_plain _ = true
 
     plain_known : (op : Operation) → is_plain (Ok op) ≡ true → IsKnownOperation op
-    plain_known (ops.Call c) e = absurd cc
-    plain_known (ops.NewArray ty) e = absurd cc
-    plain_known (ops.TypeTest test ty) e = absurd cc
-    plain_known _ e = tt
+    plain_known x e = grind (arith)
 
     plain_up : (r : Result Operation RuleFault) → is_plain r ≡ true → Carries r r
     plain_up r plain op e = (e, plain_known op (ap is_plain (sym e) ∙ plain))
@@ -569,22 +527,16 @@ module _ (v w : Linked) (b : IsBegun v w) where
     unused-same = refl
 
     reads_up : (k : Kind) → Carries (static_read v k) (static_read w k)
-    reads_up k op e =
-        field_up ops.StaticRead (static_field (short_of i.x) k) (static_field (short_of i.x) k) i.x op (λ o. refl) (BadMember (short_of i.x), refl) (λ y. tt) e
+    reads_up k op e = grind (arith, field_up)
 
     writes_static : (k : Kind) → Carries (static_write v k) (static_write w k)
-    writes_static k op e =
-        field_up ops.StaticWrite (static_field (short_of i.x) k) (static_field (short_of i.x) k) i.x op (λ o. refl) (BadMember (short_of i.x), refl) (λ y. tt) e
+    writes_static k op e = grind (arith, field_up)
 
     gets_up : (h : Holder) (k : Kind) → Carries (field_read v h k) (field_read w h k)
-    gets_up h k op e =
-        field_up (λ f. ops.FieldRead f h) (instance_field v.classes (short_of i.x) k) (instance_field w.classes (short_of i.x) k) i.x op
-        (instance_same (short_of i.x) k) (BadMember (short_of i.x), refl) (λ y. tt) e
+    gets_up h k op e = grind (arith, field_up, instance_same)
 
     puts_up : (h : Holder) (k : Kind) → Carries (field_write v h k) (field_write w h k)
-    puts_up h k op e =
-        field_up (λ f. ops.FieldWrite f h) (instance_field v.classes (short_of i.x) k) (instance_field w.classes (short_of i.x) k) i.x op
-        (instance_same (short_of i.x) k) (BadMember (short_of i.x), refl) (λ y. tt) e
+    puts_up h k op e = grind (arith, field_up, instance_same)
 
     calls_up : AllCarry (calls v) (calls w)
     calls_up = (
@@ -603,38 +555,25 @@ module _ (v w : Linked) (b : IsBegun v w) where
     )
 
     made_up : AllCarry (made v) (made w)
-    made_up = (
-      λ op e. new_up (short_of i.x) (old i.x) (now i.x) op (named_up i.x) e,
-      (numbers_up (byte_of i.x), (λ op e. typed_by ArrRef ops.NewArray (short_of i.x) i.x op (λ c lt. lt) e, tt)),
-    )
+    made_up = grind (arith, new_up, named_up, numbers_up, typed_by)
 
     up_end : AllCarry (from_end v) (from_end w)
     up_end = all_plain end_part plain_end
 
     up_puts_this : AllCarry (from_puts_this v) (from_puts_this w)
-    up_puts_this =
-        carry_both (by_kinds (field_write v holders.This)) (by_kinds (field_write w holders.This)) (from_end v) (from_end w)
-        (kinds_up (field_write v holders.This) (field_write w holders.This) (puts_up holders.This)) up_end
+    up_puts_this = grind (arith, carry_both, kinds_up, puts_up, up_end)
 
     up_puts_wide : AllCarry (from_puts_wide v) (from_puts_wide w)
-    up_puts_wide =
-        carry_both (by_kinds (field_write v holders.Stack)) (by_kinds (field_write w holders.Stack)) (from_puts_this v) (from_puts_this w)
-        (kinds_up (field_write v holders.Stack) (field_write w holders.Stack) (puts_up holders.Stack)) up_puts_this
+    up_puts_wide = grind (arith, carry_both, kinds_up, puts_up, up_puts_this)
 
     up_gets_this : AllCarry (from_gets_this v) (from_gets_this w)
-    up_gets_this =
-        carry_both (by_kinds (field_read v holders.This)) (by_kinds (field_read w holders.This)) (from_puts_wide v) (from_puts_wide w)
-        (kinds_up (field_read v holders.This) (field_read w holders.This) (gets_up holders.This)) up_puts_wide
+    up_gets_this = grind (arith, carry_both, kinds_up, gets_up, up_puts_wide)
 
     up_gets_wide : AllCarry (from_gets_wide v) (from_gets_wide w)
-    up_gets_wide =
-        carry_both (by_kinds (field_read v holders.Stack)) (by_kinds (field_read w holders.Stack)) (from_gets_this v) (from_gets_this w)
-        (kinds_up (field_read v holders.Stack) (field_read w holders.Stack) (gets_up holders.Stack)) up_gets_this
+    up_gets_wide = grind (arith, carry_both, kinds_up, gets_up, up_gets_this)
 
     up_last : AllCarry (from_last v) (from_last w)
-    up_last =
-        carry_both last_part last_part (from_gets_wide v) (from_gets_wide w)
-        (all_plain last_part plain_last) up_gets_wide
+    up_last = grind (arith, carry_both, all_plain, plain_last, up_gets_wide)
 
     up_tested : AllCarry (from_tested v) (from_tested w)
     up_tested =
@@ -642,19 +581,13 @@ module _ (v w : Linked) (b : IsBegun v w) where
         (tested_up tests.Cast i.y, (tested_up tests.InstanceOf i.y, tt)) up_last
 
     up_middle : AllCarry (from_middle v) (from_middle w)
-    up_middle =
-        carry_both middle_part middle_part (from_tested v) (from_tested w)
-        (all_plain middle_part plain_middle) up_tested
+    up_middle = grind (arith, carry_both, all_plain, plain_middle, up_tested)
 
     up_made : AllCarry (from_made v) (from_made w)
-    up_made =
-        carry_both (made v) (made w) (from_middle v) (from_middle w)
-        made_up up_middle
+    up_made = grind (arith, carry_both, made_up, up_middle)
 
     up_calls : AllCarry (from_calls v) (from_calls w)
-    up_calls =
-        carry_both (calls v) (calls w) (from_made v) (from_made w)
-        calls_up up_made
+    up_calls = grind (arith, carry_both, calls_up, up_made)
 
     up_puts : AllCarry (from_puts v) (from_puts w)
     up_puts =
@@ -677,15 +610,10 @@ module _ (v w : Linked) (b : IsBegun v w) where
         (kinds_up (static_read v) (static_read w) reads_up) up_static_writes
 
     up_returns : AllCarry (from_returns v) (from_returns w)
-    up_returns =
-        carry_both (returns v) (returns w) (from_static_reads v) (from_static_reads w)
-        (returned_up (Some sorts.Reference), (returned_up (Some sorts.Short), (returned_up (Some sorts.Int), (returned_up None, tt)))) up_static_reads
+    up_returns = grind (arith, carry_both, returned_up, up_static_reads)
 
     carried_all : AllCarry (results v) (results w)
-    carried_all =
-        subst (λ rs. AllCarry rs (results w)) (sym parts-here)
-        (subst (λ ss. AllCarry (in_parts v) ss) (sym parts-there)
-        (carry_both first_part first_part (from_returns v) (from_returns w) (all_plain first_part plain_first) up_returns))
+    carried_all = grind (arith, parts-here, parts-there, carry_both, all_plain, plain_first, up_returns)
 
     carried : Carries (resolved v m place i (row_at i.op)) (resolved w m place i (row_at i.op))
     unfolding row_at
@@ -699,30 +627,11 @@ module _ (v w : Linked) (b : IsBegun v w) where
 
   writes_up : (x : ℕ) (cells : Cells) (before after : List Ty) → WritesCells v.classes Flow x cells before after
       → WritesCells w.classes Flow x cells before after
-  writes_up x given.Nothing before after h = h
-  writes_up x (given.One ty) before after h = record { value = h.value; stored = h.stored; after_is = h.after_is }
-  writes_up x given.Int before after h = record {
-    between = h.between;
-    high = record { value = h.high.value; stored = h.high.stored; after_is = h.high.after_is };
-    low = record { value = h.low.value; stored = h.low.stored; after_is = h.low.after_is };
-  }
+  writes_up x x2 before after h = grind (arith)
 
   operation_up : (limit : ℕ) (op : Operation) (f g : Frame) (o : Outcome) → IsKnownOperation op → OperationApplies v limit op Flow f g o
       → OperationApplies w limit op Flow f g o
-  operation_up limit op f g o known a =
-      let e = sym (effect_same op f known) in
-      record {
-        asked = subst (SatisfiesAll w.classes f) (sym (demands_same op known)) (all_up f (demands v op) a.asked);
-        regs = subst (λ x. StoresInRegisters w.classes Flow x.store f.regs g.regs) e
-            (writes_up (effect v op f).store.register (effect v op f).store.cells f.regs g.regs a.regs);
-        stack = a.stack ∙ ap (λ x. changed x.change f.stack) e;
-        room = a.room;
-        falls = a.falls;
-        ends = a.ends;
-        depth = a.depth;
-        wrote_is = a.wrote_is ∙ ap (λ x. wrote x.store.register x.store.cells) e;
-        rose_is = a.rose_is;
-      }
+  operation_up limit op f g o known a = grind (arith, effect_same, demands_same, all_up, writes_up)
 
   pub rule_up : (m : MethodRec) (place : ℕ) (i : Insn) (f g : Frame) (o : Outcome) → RuleApplies v m place i Flow f g o
       → RuleApplies w m place i Flow f g o

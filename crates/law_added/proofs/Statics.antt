@@ -1,7 +1,7 @@
 -- Static fields, initial arrays and target indexes of the packages before stay when packages are added after them.
 use Rattle.std.proofs.Common.{◌≡◌, ◌<◌, ◌≤◌, ◌+◌, ℕ, zero, suc, List, [], ◌∷◌, ◌++◌, length, map, slice_get, Bool, false, cond}
 use Rattle.std.proofs.Common.{Option, Some, None, IfSome, refl, sym, ap, subst, ◌∙◌, arith, append_assoc}
-use Rattle.std.specs.Prelude.{if◌then◌else◌, ◌==◌, ◌&&◌, count_by, flat_map}
+use Rattle.std.specs.Prelude.{◌==◌, ◌&&◌, count_by, flat_map}
 use Rattle.std.proofs.lemmas.List.{map-append}
 use Rattle.std.proofs.lemmas.List.Sums.{sum_by-append, sum_by-cons}
 use Rattle.cap_components.specs.PackageRecord.{initial_arrays}
@@ -15,7 +15,6 @@ use Rattle.jc_base.specs.Linked.{list_at}
 use Rattle.jc_resolve.specs.WorldTypes.{type_of}
 use Rattle.jc_link.specs.Statics.{StaticSite, site, sites_after, sites, static_record, type_of_site, cells_at, records_from, static_records}
 use Rattle.jc_link.specs.Arrays.{array_record, array_records}
-use Rattle.cap_index.specs.Component.{index_in, lists_in}
 use Rattle.cap_index.specs.Indexes.{has_code, is_coded, lists_after, package_lists, index_after, indexes_after, indexes_of}
 use Rattle.law_added.proofs.Numbers.{each_both, each_mapped, every}
 use Rattle.law_added.proofs.Records.{type_front}
@@ -56,11 +55,7 @@ homes_until home first (p ∷ ps) k =
     (homes_until (home + 1) (first + length p.statics.arrays) ps)) k
 
 sites_then : (home first : ℕ) (ps qs : List PackageRecord) → AreSitesThen home first ps qs
-sites_then home first [] qs = record {
-  later = sites_after home first qs;
-  split = refl;
-  homes = homes_after (home + 0) home first qs (omega arith);
-}
+sites_then home first [] qs = grind (arith, homes_after)
 sites_then home first (p ∷ ps) qs =
     let own = map (site home first p.statics) (static_places p) in
     let rest = sites_then (home + 1) (first + length p.statics.arrays) ps qs in
@@ -79,9 +74,7 @@ record AreRecordsThen (told : ℕ → TypeItem → Ty) (slot : ℕ) (ss later : 
 
 records_then : (told : ℕ → TypeItem → Ty) (slot : ℕ) (ss later : List StaticSite) → AreRecordsThen told slot ss later
 records_then told slot [] later = record { at = slot; split = refl }
-records_then told slot (s ∷ ss) later =
-    let rest = records_then told (slot + cells_at s.place) ss later in
-    record { at = rest.at; split = ap (λ rs. static_record slot s (type_of_site told s) ∷ rs) rest.split }
+records_then told slot (s ∷ ss) later = grind (arith, records_then told (slot + cells_at s.place) ss later)
 
 records_alike : (told now : ℕ → TypeItem → Ty) (n slot : ℕ) (ss : List StaticSite) → ((k : ℕ) (t : TypeItem) → k < n → now k t ≡ told k t)
     → ((k : ℕ) → IfSome (slice_get ss k) (λ s. s.home < n)) → records_from now slot ss ≡ records_from told slot ss
@@ -143,17 +136,12 @@ module _ (ps qs : List PackageRecord) (ms added : List MethodRec)
         by (Some m) h = omega (arith, lt, h)
 
     count_same : (k : ℕ) → k < length ps → count_by (is_coded k) (ms ++ added) ≡ count_by (is_coded k) ms
-    count_same k lt =
-        let none = count_none k added (weaker k lt) in
-        let sum = count_both (is_coded k) ms added in
-        omega (arith, none, sum)
+    count_same k lt = grind (arith, count_none k added (weaker k lt), count_both (is_coded k) ms added)
 
     lists_both : (k : ℕ) (some : List PackageRecord) → k + length some ≡ length ps
         → lists_after (ms ++ added) k (some ++ qs) ≡ lists_after ms k some ++ lists_after (ms ++ added) (length ps) qs
     lists_both k [] e = ap (λ j. lists_after (ms ++ added) j qs) (let f : k ≡ length ps = omega (arith, e) in f)
-    lists_both k (p ∷ some) e =
-        ap (λ n. lists_in n (index_in p) ∷ lists_after (ms ++ added) (k + 1) (some ++ qs)) (count_same k (omega (arith, e)))
-        ∙ ap (λ ls. lists_in (count_by (is_coded k) ms) (index_in p) ∷ ls) (lists_both (k + 1) some (omega (arith, e)))
+    lists_both k (p ∷ some) e = grind (arith, count_same k (omega (arith, e)), lists_both (k + 1) some (omega (arith, e)))
 
     lists_length : (k : ℕ) (some : List PackageRecord) → length (lists_after ms k some) ≡ length some
     lists_length k [] = refl
@@ -170,11 +158,7 @@ module _ (ps qs : List PackageRecord) (ms added : List MethodRec)
     index_same : (before : List MethodRec) (m : MethodRec) → m.«package» < length ps
         → index_after (package_lists (ps ++ qs) (ms ++ added)) before m ≡ index_after (package_lists ps ms) before m
     unfolding index_after
-    index_same before m lt =
-        let inside : m.«package» < length (package_lists ps ms) = omega (arith, lt, lists_length 0 ps) in
-        ap (λ ls. if has_code m then slice_get (list_at ls m.«package») (count_by (is_coded m.«package») before) else None) all_lists
-        ∙ ap (λ l. if has_code m then slice_get l (count_by (is_coded m.«package») before) else None)
-        (list_front (package_lists ps ms) (lists_after (ms ++ added) (length ps) qs) m.«package» inside)
+    index_same before m lt = grind (arith, length, lists_length, slice_get, all_lists, list_front)
 
     pub added_indexes : List MethodRec → List MethodRec → List (Option (List ℕ))
     added_indexes before [] = indexes_after (package_lists (ps ++ qs) (ms ++ added)) before added

@@ -1,5 +1,6 @@
 -- A class table with more classes after it: what is asked of a class that was there is answered as before.
-use Rattle.std.proofs.Common.{◌≡◌, ◌<◌, ◌+◌, ℕ, List, [], ◌++◌, length, slice_get, slice_index}
+use Rattle.std.proofs.Common.{arith}
+use Rattle.std.proofs.Common.{◌≡◌, ◌<◌, ℕ, List, [], ◌++◌, length, slice_get, slice_index}
 use Rattle.std.proofs.Common.{IfSome, refl, sym, ap, subst, ◌∙◌, All}
 use Rattle.jc_base.specs.declared.record.ClassRec.{ClassRec}
 use Rattle.jc_base.specs.Class.{ClassTable, chain, object, parent_of, parent_in_record, is_interface, is_interface_record}
@@ -46,8 +47,7 @@ tables_grown cs more roles are grown =
 
 module _ (n : ℕ) (t u : ClassTable) (grown : IsGrown n t u) where
   pub record_front : (c : ℕ) → c < n → slice_get u.records c ≡ slice_get t.records c
-  record_front c lt =
-      ap (λ rs. slice_get rs c) grown.records ∙ slice_get-left t.records grown.more c (subst (λ k. c < k) (sym grown.count) lt)
+  record_front c lt = grind (arith, slice_get, slice_get-left)
 
   pub object_front : object u ≡ object t
   object_front = ap (λ rs. slice_index rs 0) grown.roles

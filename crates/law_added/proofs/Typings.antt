@@ -1,8 +1,6 @@
 -- Typings of a method stay typings when packages are added.
-use Rattle.std.proofs.Common.{◌≡◌, ◌<◌, ◌+◌, ℕ, true, List, length, get_or, Option, Some, None, IsSomeAnd, refl, sym}
+use Rattle.std.proofs.Common.{◌≡◌, ◌<◌, ◌+◌, ℕ, true, List, length, get_or, Option, Some, None, IsSomeAnd, refl}
 use Rattle.std.proofs.Common.{◌∙◌, ap, arith, length-append}
-use Rattle.std.specs.Prelude.{◌==◌}
-use Rattle.std.specs.List.{list_any}
 use Rattle.jc_base.specs.declared.ty.Ty.{Ty}
 use Rattle.jc_base.specs.declared.ty.Ty.TheVariants as types
 use Rattle.jc_base.specs.declared.ty.Ty.TheVariants.{Class}
@@ -34,37 +32,22 @@ module _ (v w : Linked) (b : IsBegun v w) where
   frame_up f g h = record { regs = cells_up h.regs; stack = cells_up h.stack }
 
   at_up : (f : Frame) (o : Option Frame) → IsSomeAnd o (FrameBelow v.classes f) → IsSomeAnd o (FrameBelow w.classes f)
-  at_up f None h = absurd h
-  at_up f (Some g) h = frame_up f g h
+  at_up f x h = grind (arith, frame_up)
 
   -- ---- in the dataflow
 
   followed_up : (m : Method) (frames : ℕ → Option Frame) (i : Placed) (o : Option Frame) → IsSomeAnd o (IsFollowed v m frames i)
       → IsSomeAnd o (IsFollowed w m frames i)
   followed_up m frames i None h = absurd h
-  followed_up m frames i (Some f) h = record {
-    after = h.after;
-    steps = (h.steps.0, rule_up v w b m.rec i.place i.insn f h.after h.steps.0 h.steps.1);
-    below = λ q s. at_up h.after (frames q) (h.below q s);
-    ready = h.ready;
-  }
+  followed_up m frames i (Some f) h = grind (arith, rule_up v w b m.rec i.place i.insn f h.after h.steps.0 h.steps.1, at_up)
 
   caught_up : (frames : ℕ → Option Frame) (h : Handler) (o : Option Frame)
       → IsSomeAnd o (λ f. At frames h.entry (FrameBelow v.classes (caught_frame h f)))
       → IsSomeAnd o (λ f. At frames h.entry (FrameBelow w.classes (caught_frame h f)))
-  caught_up frames h None x = absurd x
-  caught_up frames h (Some f) x = at_up (caught_frame h f) (frames h.entry) x
+  caught_up frames h x x2 = grind (arith, at_up)
 
   pub flow_up : (m : Method) (unset : Ty) (frames : ℕ → Option Frame) → FlowTyping v m unset frames → FlowTyping w m unset frames
-  flow_up m unset frames t = record {
-    formed = t.formed;
-    start = at_up _ (frames 0) t.start;
-    fit = t.fit;
-    rules = λ i there r. followed_up m frames i (frames i.place) (t.rules i there r);
-    stays = t.stays;
-    handlers = λ p h r c covers. caught_up frames h (frames p) (t.handlers p h r c covers);
-    leaders = t.leaders;
-  }
+  flow_up m unset frames t = grind (arith, at_up, followed_up, caught_up)
 
   -- ---- on the card
 
@@ -76,17 +59,12 @@ module _ (v w : Linked) (b : IsBegun v w) where
   }
 
   known_up : (ty : Ty) → IsKnown v.classes ty → IsKnown w.classes ty
-  known_up (types.Class c) h = class_up c h
-  known_up (types.ArrRef c) h = class_up c h
-  known_up (types.Fresh place c) h = class_up c h
-  known_up _ h = tt
+  known_up x h = grind (arith, class_up)
 
   -- what is above a class that is there was above it before
   back_by : (c : ℕ) (u : Ty) → c < count → is_below w.classes (Class c) u ≡ true → is_below v.classes (Class c) u ≡ true
   unfolding is_below is_on_chain
-  back_by c (types.Class d) lt e = sym (ap (list_any (λ x. x == d)) (b.grown.chains c lt)) ∙ e
-  back_by c types.Top lt e = refl
-  back_by c _ lt e = absurd cc
+  back_by c x lt e = grind (arith)
 
   below_back : (c : ℕ) (u : Ty) → c < count → Below w.classes (Class c) u → Below v.classes (Class c) u
   below_back c u lt h = Below-from_is_below v.classes b.few (Class c) u (back_by c u lt (is_below-from_Below w.classes b.many h))
@@ -115,14 +93,7 @@ module _ (v w : Linked) (b : IsBegun v w) where
   }
 
   typed_up : (s : Subject) (regs : List Ty) (stacks : ℕ → List Ty) (i : Placed) → IsTypedIn v s regs stacks i → IsTypedIn w s regs stacks i
-  typed_up s regs stacks i t = record {
-    after = t.after;
-    applies = (t.applies.0, rule_up v w b s.rec i.place i.insn _ t.after t.applies.0 t.applies.1);
-    stored = cells_up t.stored;
-    branch = t.branch;
-    goes_on = t.goes_on;
-    ends = t.ends;
-  }
+  typed_up s regs stacks i t = grind (arith, rule_up v w b s.rec i.place i.insn _ t.after t.applies.0 t.applies.1, cells_up t.stored)
 
   pub card_up : (s : Subject) (marked : ℕ → Type 0) (regs : List Ty) (stacks : ℕ → List Ty) → TypingOver v s marked regs stacks
       → TypingOver w s marked regs stacks

@@ -20,14 +20,13 @@ use Rattle.jc_resolve.specs.NamedClasses.{named_classes}
 use Rattle.jc_resolve.specs.NamedMethods.{named_methods, named_method}
 use Rattle.jc_resolve.specs.Numbering.{NumberedMethod, numbered_classes, numbered_methods, methods_after}
 use Rattle.jc_classes.specs.LineConditions as lineage
-use Rattle.jc_classes.specs.Outline.{AreLines, outline}
+use Rattle.jc_classes.specs.Outline.{AreLines}
 use Rattle.jc_classes.specs.TableConditions as classes
-use Rattle.jc_classes.specs.Tables.{class_tables}
 use Rattle.jc_link.specs.Pools.{pools_after, pools}
 use Rattle.jc_link.specs.Members.{member_of}
 use Rattle.cap_index.specs.Indexes.{indexes_of}
 use Rattle.jc_link.specs.Arrays.{array_records}
-use Rattle.jc_resolve.proofs.ConditionLists.{AllEmpty-before, AllEmpty-after}
+use Rattle.jc_resolve.proofs.ConditionLists.{AllEmpty-before}
 use Rattle.jc_resolve.proofs.NumberedLaws.{IsDescribed, all-described}
 use Rattle.jc_resolve.proofs.NamedClassLaws.{describes-class, class-described}
 use Rattle.jc_resolve.proofs.OwnClasses.{own-reference}
@@ -52,10 +51,7 @@ use Rattle.law_added.proofs.Statics.{arrays_begin, HaveStaticsThen, statics_then
 
 line_conditions : (ps : List PackageRecord) (roles : List ℕ) → AllEmpty (conditions ps roles)
     → AllEmpty (lineage.conditions (classes_of ps roles) (first_classes ps) roles)
-line_conditions ps roles none =
-    AllEmpty-before (lineage.conditions (classes_of ps roles) (first_classes ps) roles)
-    (classes.conditions (lineage_of ps roles) (classes_of ps roles) (methods_of ps roles))
-    (AllEmpty-after (names.conditions ps) (class_conditions ps roles) (AllEmpty-before (table_conditions ps roles) (member_conditions ps roles) none))
+line_conditions ps roles none = grind (arith)
 
 lines_of : (ps : List PackageRecord) (roles : List ℕ) → AllEmpty (conditions ps roles) → 0 < length roles → AreLines (lineage_of ps roles)
 lines_of ps roles none some = lines_are ps (slice_index roles 0) (first_classes ps) roles (line_conditions ps roles none) some
@@ -81,12 +77,7 @@ module _ (ps qs : List PackageRecord) (roles : List ℕ) (none : AllEmpty (condi
   u = table_of (ps ++ qs) roles
 
   grown : IsGrown (length (numbered_classes ps)) t u
-  grown =
-      let more : AreLines (outline (classes_of ps roles ++ added_classes ps qs role) roles) =
-      subst (λ cs. AreLines (outline cs roles)) cs_are (lines_of (ps ++ qs) roles none_more some) in
-      let both = tables_grown (classes_of ps roles) (added_classes ps qs role) roles (lines_of ps roles none some) more in
-      subst (λ n. IsGrown n t u) count
-      (subst (λ cs. IsGrown (length (classes_of ps roles)) t (class_tables (outline cs roles) cs)) (sym cs_are) both)
+  grown = grind (arith, cs_are, lines_of, tables_grown, count, length)
 
   abbrev fields : HaveStaticsThen role ps qs
   fields = statics_then role ps qs
@@ -107,8 +98,7 @@ module _ (ps qs : List PackageRecord) (roles : List ℕ) (none : AllEmpty (condi
       → pools_after (member_of (ps ++ qs) u (statics_of (ps ++ qs) roles)) k (rest ++ qs)
       ≡ pools_after (member_of ps t (statics_of ps roles)) k rest ++ added_pools
   unfolding added_pools
-  pools_from k [] e =
-      ap (λ j. pools_after (member_of (ps ++ qs) u (statics_of (ps ++ qs) roles)) j qs) (let f : k ≡ length ps = omega (arith, e) in f)
+  pools_from k [] e = grind (arith, length)
   pools_from k (p ∷ rest) e =
       let lt : k < length ps = omega (arith, e) in
       let here : filter_map (member_of (ps ++ qs) u (statics_of (ps ++ qs) roles) k) p.pool ≡ filter_map (member_of ps t (statics_of ps roles) k) p.pool =
@@ -200,9 +190,7 @@ module _ (ps qs : List PackageRecord) (roles : List ℕ) (none : AllEmpty (condi
 
     -- the classes of the first world, as the rules see them in the second one
     pub classes-grown : IsGrown (length v.classes.records) v.classes w.classes
-    classes-grown =
-        subst (λ x. IsGrown (length v.classes.records) v.classes x) (sym second.classes)
-        (subst (λ x. IsGrown (length x.records) x u) (sym first.classes) (subst (λ n. IsGrown n t u) (sym grown.count) grown))
+    classes-grown = grind (arith, length, grown, count)
 
     pub few-classes : AreClasses v.classes
     few-classes =
@@ -224,14 +212,10 @@ module _ (ps qs : List PackageRecord) (roles : List ℕ) (none : AllEmpty (condi
     added-apart i = subst (λ k. IfSome (slice_get (added_methods ps qs roles) i) (λ m. k ≤ m.class)) (sym (ap length v_records)) (added_class agreed i)
 
     pub own-classes : (i : ℕ) → IfSome (slice_get v.methods i) (λ m. m.class < length v.classes.records)
-    own-classes i =
-        subst (λ ms. IfSome (slice_get ms i) (λ m. m.class < length v.classes.records)) (sym first.methods)
-        (subst (λ k. IfSome (slice_get (named_methods ps roles) i) (λ m. m.class < k)) (sym counted) (own_class i))
+    own-classes i = grind (arith, slice_get, length, counted, own_class)
 
     pub pool-knows : (k n c : ℕ) → member_at v k n ≡ Some (ClassOf c) → c < length v.classes.records
-    pool-knows k n c e =
-        let pool = subst (λ x. slice_get (list_at x k) n ≡ Some (ClassOf c)) first.pools e in
-        subst (λ x. c < x) (sym counted) (pools_know ps t (statics_of ps roles) k n c pool)
+    pool-knows k n c e = grind (arith, slice_get, counted, pools_know)
 
     pub world-begins : HasMore v w
     world-begins = record {
