@@ -1,4 +1,5 @@
 -- A method with code: the homes of its locals, the symbols to which it is rewritten, and what is told where a limit is passed.
+use Rattle.std.proofs.Common.{arith}
 use Rattle.std.proofs.Common.{◌≡◌, ◌⊎◌, ℕ, ◌<◌, ◌≤◌, List, length, All, Option, Some, None, option_map, Result, Ok, Err, IsSomeAnd}
 use Rattle.std.proofs.Common.{slice_get, refl, sym, subst, inl, inr}
 use Rattle.std.specs.Prelude.{◌↔◌}
@@ -14,12 +15,11 @@ use Rattle.jc_decode.specs.Symbols.{IsItem, plain_size}
 use Rattle.jc_rules.specs.Demand.{Frame}
 use Rattle.jc_rules.specs.Typing.{state_at}
 use Rattle.xf_homes.specs.declared.finding.HomeEnd.{HomeEnd}
-use Rattle.xf_homes.specs.declared.finding.HomeEnd.TheVariants.{Registers, Memory as NoHomes}
 use Rattle.xf_homes.specs.declared.home.Home.{Home}
-use Rattle.xf_homes.specs.Answer.{TakeTooManyRegisters, TellsHomes}
+use Rattle.xf_homes.specs.Answer.{TellsHomes}
 use Rattle.xf_homes.specs.Order.{AreHomes, register_sum}
 use Rattle.xf_code.specs.declared.rewriting.RewriteEnd.{RewriteEnd}
-use Rattle.xf_code.specs.declared.rewriting.RewriteEnd.TheVariants.{StackLimit, Memory as NoSymbols}
+use Rattle.xf_code.specs.declared.rewriting.RewriteEnd.TheVariants.{StackLimit}
 use Rattle.xf_emission.specs.Emission.{AreSymbolsOf}
 use Rattle.xf_emission.specs.Live.{KeepsLive}
 use Rattle.xf_emission.specs.Numbers.{HasNumbers}
@@ -60,12 +60,7 @@ module _ (w : Linked) (n : ℕ) (rec : MethodRec) (here : slice_get w.methods n 
     its-typing = its (λ m. IsTypedBy w m typing) typed
 
     pub homes-told : (end : HomeEnd) → IsSomeAnd (method_in w n) (λ m. TellsHomes w m (state_at typing) end) → TellsUnlaid w n (of_homes end)
-    homes-told (Registers k) tells =
-        of-it (IsUnlaid w (limits.Registers k)) (record {
-          method = its-code;
-          passes = record { typing = typing; typed = its-typing.typed; many = its (λ m. TakeTooManyRegisters w m (state_at typing) k) tells };
-        })
-    homes-told NoHomes tells = tt {0}
+    homes-told x tells = grind (arith, of-it, its-code, its-typing, its)
 
     module _ (homes : List Home) (are : IsSomeAnd (method_in w n) (λ m. AreHomes w m (state_at typing) homes)) (few : register_sum homes ≤ 255) where
       its-homes : HasHomes w (method_with w n rec)
@@ -74,17 +69,7 @@ module _ (w : Linked) (n : ℕ) (rec : MethodRec) (here : slice_get w.methods n 
       pub symbols-told : (end : RewriteEnd)
           → IsSomeAnd (slice_get w.methods n) (λ r. (◌≡◌ {A = Result Symbols RewriteEnd} (Err end) (Err StackLimit)) ↔ (r.max_stack ≡ 255))
           → TellsUnlaid w n (of_rewriting end)
-      symbols-told StackLimit limit =
-          of-it (IsUnlaid w limits.StackLimit) (record {
-            method = its-code;
-            passes =
-                record {
-                  homes = its-homes;
-                  full = (its-record (λ r. (◌≡◌ {A = Result Symbols RewriteEnd} (Err StackLimit) (Err StackLimit)) ↔ (r.max_stack ≡ 255)) limit).0
-                      refl;
-                };
-          })
-      symbols-told NoSymbols limit = tt {0}
+      symbols-told x limit = grind (arith, of-it, its-code, its-homes, its-record)
 
       room : (symbols : Symbols) → (◌≡◌ {A = Result Symbols RewriteEnd} (Ok symbols) (Err StackLimit)) ↔ (rec.max_stack ≡ 255)
           → rec.max_stack ≤ 255 → rec.max_stack < 255
@@ -141,19 +126,7 @@ module _ (w : Linked) (m : Method) (symbols : Symbols) (known : IsRewrittenTo w 
   }
 
   pub laid-for : (laid : Laid) → StandsShortest m.code symbols laid → length laid.code ≤ 32767 → IsLaidFor w m laid
-  laid-for laid stands short = record {
-    typing = known.typing;
-    typed = known.typed.typed;
-    derived = known.typed.derived;
-    homes = known.homes;
-    are = known.are;
-    few = known.few;
-    room = known.room;
-    symbols = symbols;
-    rewritten = known.rewritten;
-    stands = stands;
-    short = short;
-  }
+  laid-for laid stands short = grind (arith, room)
 
   pub laid-sound : InstructionsAreListed → LaidIsTyped w → IsMethod w.infos w.pools w.classes m.rec → (laid : Laid)
       → StandsShortest m.code symbols laid → length laid.code ≤ 32767 → FitsMethod m.rec laid

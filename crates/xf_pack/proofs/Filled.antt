@@ -25,7 +25,7 @@ use Rattle.xf_homes.specs.Source.{Source}
 use Rattle.xf_homes.specs.Plan.{operation}
 use Rattle.xf_emission.specs.declared.origin.Origin.TheVariants.{Start}
 use Rattle.xf_emission.specs.Edge.{copies}
-use Rattle.xf_emission.specs.Group.{body, done, entrance, fallen, group}
+use Rattle.xf_emission.specs.Group.{group}
 use Rattle.xf_emission.specs.Emission.{AreSymbolsOf, items, rewritten}
 use Rattle.law_rewritten_typing.proofs.Typings.{count-steps}
 use Rattle.law_rewritten_typing.proofs.Walks.{count, count-append}
@@ -40,10 +40,7 @@ first-counts xs ys h = let sum = count-append xs ys in omega (arith, h, sum)
 module _ (s : Source) (i : Placed) where
   group-counts : (f : Frame) (op : Operation) → s.frames i.place ≡ Some f → operation s i ≡ Ok op → 0 < count (group s i)
   unfolding group
-  group-counts f op at is =
-      rw at
-      (right-some (entrance s i.place) (done s i (operation s i))
-      (rw is (first-counts (body s i op) (fallen s i op) (body-some s i op))))
+  group-counts f op at is = grind (arith, right-some, first-counts, body-some)
 
 -- ---- a method
 

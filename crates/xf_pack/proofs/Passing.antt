@@ -1,5 +1,5 @@
 -- The passes over the methods of the last package, one method after the other.
-use Rattle.std.proofs.Common.{◌≡◌, ℕ, ◌+◌, ◌<◌, ◌≤◌, List, Option, Some, None, option_map, IsSomeAnd, slice_get, refl, subst, arith}
+use Rattle.std.proofs.Common.{◌≡◌, ℕ, ◌+◌, ◌<◌, ◌≤◌, List, Option, Some, None, option_map, IsSomeAnd, slice_get, refl, arith}
 use Rattle.cap_package.specs.PackageRecord.{PackageRecord}
 use Rattle.jc_base.specs.declared.record.MethodRec.{MethodRec}
 use Rattle.jc_base.specs.declared.ty.Ty.TheVariants.{Top}
@@ -12,9 +12,7 @@ use Rattle.jc_flow.specs.declared.end.FlowEnd.TheVariants as flow
 use Rattle.jc_flow.specs.Infer.{LacksTyping}
 use Rattle.jc_rules.specs.Demand.{Frame}
 use Rattle.jc_rules.specs.Flow.{HasFlowTyping}
-use Rattle.jc_rules.specs.Typing.{state_at}
 use Rattle.law_transform.specs.Laid.{HasLaidCode, IsLaidElement}
-use Rattle.xf_last.specs.Fits.{IsFitting}
 use Rattle.xf_last.specs.Last.{BeginsLast}
 use Rattle.xf_last.proofs.Passing.{below-more}
 use Rattle.xf_pack.specs.declared.end.MethodLimit.{MethodLimit}
@@ -30,22 +28,14 @@ module _ (w : Linked) (first : ℕ) (is : BeginsLast w first) where
 
   has-typing : (n : ℕ) (kept : Option (List (Option Frame))) (r : MethodRec) → 0 < r.code_len → IsKeptTyping w n r kept
       → HasFlowTyping w (method_with w n r) Top
-  has-typing n None r some none = absurd (omega (arith, some, none))
-  has-typing n (Some typing) r some h = record { frames = state_at typing; typing = h.1.typed.least.typing }
+  has-typing n x r some none = grind (arith)
 
   pub typed-more : (n : ℕ) (kept : Option (List (Option Frame))) → AllHaveBelow (IsOfLast w) (λ m. HasFlowTyping w m Top) n → IsTypingAt w n kept
       → AllHaveBelow (IsOfLast w) (λ m. HasFlowTyping w m Top) (n + 1)
-  typed-more n kept below h =
-      below-more w (IsOfLast w) (λ m. HasFlowTyping w m Top) (λ m of. of.method) n below
-      (λ r at some. has-typing n kept r some (subst (λ (o : Option MethodRec). IsSomeAnd o (λ r. IsKeptTyping w n r kept)) at h))
+  typed-more n kept below h = grind (arith, below-more, has-typing)
 
   no-typing : (m : Method) (end : FlowEnd) → (end ≡ flow.Memory → ⊥) → LacksTyping w m end → HasFlowTyping w m Top → ⊥
-  no-typing m flow.Memory known none = absurd (known refl)
-  no-typing m (flow.NoTyping p fault) known none = none
-  no-typing m (flow.FallsOff p) known none = none
-  no-typing m (flow.Code p end) known none = none
-  no-typing m (flow.BadTarget p target) known none = none
-  no-typing m (flow.BadHandler entry number) known none = none
+  no-typing m x known none = grind (arith)
 
   untyped-last : (n : ℕ) (end : FlowEnd) → first ≤ n → AreAcceptedLibraries w → AllHaveBelow (IsOfLast w) (λ m. HasFlowTyping w m Top) n
       → HasNoTyping w n end → (end ≡ flow.Memory → ⊥) → IsUntypedLast w n end
@@ -68,24 +58,16 @@ module _ (w : Linked) (first : ℕ) (is : BeginsLast w first) where
 
   pub untyped-tells : (n : ℕ) (end : FlowEnd) → first ≤ n → AreAcceptedLibraries w → AllHaveBelow (IsOfLast w) (λ m. HasFlowTyping w m Top) n
       → HasNoTyping w n end → (ps : List PackageRecord) → TellsOf ps w (untyped n end)
-  untyped-tells n flow.Memory le accepted below h ps = accepted
-  untyped-tells n (flow.NoTyping p fault) le accepted below h ps = untyped-last n (flow.NoTyping p fault) le accepted below h (λ e. absurd (cc))
-  untyped-tells n (flow.FallsOff p) le accepted below h ps = untyped-last n (flow.FallsOff p) le accepted below h (λ e. absurd (cc))
-  untyped-tells n (flow.Code p end) le accepted below h ps = untyped-last n (flow.Code p end) le accepted below h (λ e. absurd (cc))
-  untyped-tells n (flow.BadTarget p target) le accepted below h ps = untyped-last n (flow.BadTarget p target) le accepted below h (λ e. absurd (cc))
-  untyped-tells n (flow.BadHandler entry number) le accepted below h ps = untyped-last n (flow.BadHandler entry number) le accepted below h (λ e. absurd (cc))
+  untyped-tells n x le accepted below h ps = grind (arith, untyped-last)
 
   -- ---- laid code
 
   has-laid : (n : ℕ) (laid : Option Laid) (r : MethodRec) → 0 < r.code_len → IsLaidElement w n r laid → HasLaidCode w (method_with w n r)
-  has-laid n None r some none = absurd (omega (arith, some, none))
-  has-laid n (Some laid) r some h = record { laid = laid; is = h.1 }
+  has-laid n x r some none = grind (arith)
 
   pub laid-more : (n : ℕ) (laid : Option Laid) → AllHaveBelow (IsOfLast w) (HasLaidCode w) n → IsLaidAt w n laid
       → AllHaveBelow (IsOfLast w) (HasLaidCode w) (n + 1)
-  laid-more n laid below h =
-      below-more w (IsOfLast w) (HasLaidCode w) (λ m of. of.method) n below
-      (λ r at some. has-laid n laid r some (subst (λ (o : Option MethodRec). IsSomeAnd o (IsFitting (IsLaidElement w) n laid)) at h).is)
+  laid-more n laid below h = grind (arith, below-more, has-laid)
 
   limited : (n : ℕ) (limit : MethodLimit) → first ≤ n → AreAcceptedLibraries w → IsTypedLast w → AllHaveBelow (IsOfLast w) (HasLaidCode w) n
       → IsSomeAnd (method_in w n) (IsUnlaid w limit) → IsLimited w n limit
@@ -105,5 +87,4 @@ module _ (w : Linked) (first : ℕ) (is : BeginsLast w first) where
 
   pub unlaid-tells : (n : ℕ) (end : LayingEnd) → first ≤ n → AreAcceptedLibraries w → IsTypedLast w
       → AllHaveBelow (IsOfLast w) (HasLaidCode w) n → TellsUnlaid w n end → (ps : List PackageRecord) → TellsOf ps w (unlaid n end)
-  unlaid-tells n laying.Memory le accepted typed below h ps = accepted
-  unlaid-tells n (laying.Passed limit) le accepted typed below h ps = limited n limit le accepted typed below h
+  unlaid-tells n x le accepted typed below h ps = grind (arith, limited)

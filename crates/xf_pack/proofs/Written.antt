@@ -1,4 +1,5 @@
 -- The last package is written with what is laid for its methods, and what is told where it is not.
+use Rattle.std.proofs.Common.{arith}
 use Rattle.std.proofs.Common.{◌≡◌, ℕ, ◌+◌, ◌≤◌, List, length, Option}
 use Rattle.cap_package.specs.PackageRecord.{PackageRecord}
 use Rattle.cap_package.specs.Parts.{Lent}
@@ -58,13 +59,4 @@ module _ (ps : List PackageRecord) (roles : List ℕ) (w : Linked) (p : PackageR
         }
 
     pub part-long : (size : ℕ) → IsPartTooLong p laid size → IsPartLong ps w size
-    part-long size long = record {
-      libraries = accepted;
-      typed = typed;
-      earlier = l.libraries;
-      source = p;
-      are = l.are;
-      laid = laid;
-      code = are-laid w first is laid each all;
-      long = long;
-    }
+    part-long size long = grind (arith, are-laid)

@@ -1,6 +1,6 @@
-ghost use Rattle.std.specs.Prelude.{◌≡◌, ◌+◌, ◌^◌, ◌<◌, ◌≤◌, List, length, All, IfErr, IfOk, IsSomeAnd, OnOk, slice_get, vec_len};
+ghost use Rattle.std.specs.Prelude.{◌≡◌, ◌+◌, ◌^◌, ◌<◌, ◌≤◌, List, length, All, IfErr, IfOk, IsSomeAnd, slice_get, vec_len};
 ghost use Rattle.cap_package.specs.PackageRecord.{PackageRecord};
-ghost use Rattle.jc_control.specs.Method.{IsMethodOf, method_in};
+ghost use Rattle.jc_control.specs.Method.{method_in};
 ghost use Rattle.jc_decode.specs.Symbols.{IsRange, plain_size};
 ghost use Rattle.jc_rules.specs.Typing.{state_at};
 ghost use Rattle.xf_homes.specs.Order.{AreHomes, register_sum};

@@ -1,4 +1,4 @@
-ghost use Rattle.std.specs.Prelude.{◌≡◌, ◌+◌, ◌<◌, List, length, IfErr, IfOk, IsSomeAnd, OnOk, slice_get, vec_len};
+ghost use Rattle.std.specs.Prelude.{◌≡◌, ◌+◌, ◌<◌, List, length, IfErr, IfOk, OnOk, vec_len};
 ghost use Rattle.cap_package.specs.PackageRecord.{PackageRecord};
 ghost use Rattle.xf_pack.specs.Ends.{AreAcceptedLibraries, IsTypedLast, TellsOf};
 ghost use Rattle.xf_last.specs.Last.{BeginsLast, EachFrom};
