@@ -43,11 +43,7 @@ filter-count n m ms = by (claims n m)
 
 sum-more : (many : ℕ) (ms : List MethodDescriptor) → entry_sum (suc many) ms ≡ length (filter (claims many) ms) + entry_sum many ms
 sum-more many [] = refl
-sum-more many (m ∷ ms) =
-    let here = one-more many m in
-    let others = sum-more many ms in
-    let count = filter-count many m ms in
-    omega (arith, here, others, count)
+sum-more many (m ∷ ms) = grind (arith, one-more, filter-count, sum-more many ms)
 
 sum-none : (ms : List MethodDescriptor) → entry_sum 0 ms ≡ 0
 sum-none [] = refl

@@ -1,14 +1,13 @@
 -- The methods of the classes of a package that links have headers.
 use Rattle.std.proofs.Common.{◌≡◌, ℕ, suc, ◌+◌, ◌<◌, Bool, true, false, ◌&&◌, List, [], ◌∷◌}
-use Rattle.std.proofs.Common.{length, map, Some, option_map, slice_get, refl, sym, ap, subst, ◌∙◌, inl, inr, arith}
-use Rattle.std.specs.Prelude.{All, ◌==◌}
+use Rattle.std.proofs.Common.{length, map, Some, option_map, slice_get, refl, ap, subst, ◌∙◌, inl, inr, arith}
+use Rattle.std.specs.Prelude.{All}
 use Rattle.std.specs.List.{list_any}
 use Rattle.std.proofs.lemmas.Bool.{or_parts, true≢false, eq-eqb, not_from_false}
 use Rattle.std.proofs.lemmas.List.{length-map}
 use Rattle.std.proofs.lemmas.List.Elements.{All-nil, All-cons, All-append}
 use Rattle.std.proofs.lemmas.List.Quantifiers.{position-Some}
 use Rattle.std.proofs.lemmas.Option.{slice_get-map, get_or_from_slice_get}
-use Rattle.cap_bytes.specs.declared.class_reference.ClassReference.TheVariants.{Internal, External}
 use Rattle.cap_bytes.specs.ClassReference.{reference_of}
 use Rattle.cap_class.specs.ClassFormat.{Class, is_interface}
 use Rattle.cap_desc.specs.DescriptorFormat as described
@@ -20,7 +19,7 @@ use Rattle.jc_resolve.specs.Conditions.{conditions}
 use Rattle.jc_resolve.specs.NamedMethods.{have_headers, is_class}
 use Rattle.jc_resolve.specs.Numbering.{NumberedClass, numbered_class, numbered_classes_of, classes_after, numbered_classes, class_at, class_places}
 use Rattle.jc_resolve.specs.Numbering.{place_of_class, same_place, flagged_interface, is_interface_number}
-use Rattle.jc_resolve.specs.References.{class_named, Refers, internal, imported}
+use Rattle.jc_resolve.specs.References.{class_named, Refers}
 use Rattle.jc_resolve.proofs.Faultless.{IsOneOf}
 use Rattle.jc_resolve.proofs.NamedClassLaws.{NamesClass, describes-class}
 use Rattle.jc_resolve.proofs.NumberLaws.{same-equal}
@@ -60,31 +59,22 @@ none-passes t (y ∷ ys) x none (inl e) = ap t e ∙ (or_parts (t y) (list_any t
 none-passes t (y ∷ ys) x none (inr h) = none-passes t ys x (or_parts (t y) (list_any t ys) none).1 h
 
 second-fails : (a b : Bool) → a ≡ true → (a && b) ≡ false → b ≡ false
-second-fails true b e h = h
-second-fails false b e h = absurd (true≢false (sym e))
+second-fails x b e h = grind (arith, true≢false)
 
 no-interface : (cs : List Class) (reference : ℕ) (c : Class) → names_interface cs reference ≡ false → IsOneOf cs c → c.offset ≡ reference
     → is_interface c.flags ≡ false
 unfolding names_interface
-no-interface cs reference c none h e =
-    second-fails (c.offset == reference) (is_interface c.flags) (eq-eqb c.offset reference e)
-    (none-passes (λ (d : Class). d.offset == reference && is_interface d.flags) cs c none h)
+no-interface cs reference c none h e = grind (arith, second-fails, eq-eqb, none-passes)
 
 module _ (ps : List PackageRecord) (k : ℕ) (p : PackageRecord) (at : slice_get ps k ≡ Some p) where
   flag-by : (reference : ℕ) (c : NumberedClass) → slice_get ps c.home ≡ Some c.of_package → IsOneOf c.of_package.classes c.record_of
       → c.home ≡ k → c.record_of.offset ≡ reference
       → names_interface p.classes reference ≡ false → is_interface c.record_of.flags ≡ false
-  flag-by reference c home class same offset none =
-      let there : slice_get ps k ≡ Some c.of_package = subst (λ n. slice_get ps n ≡ Some c.of_package) same home in
-      let both : Some c.of_package ≡ Some p = sym there ∙ at in
-      let own : c.of_package ≡ p = cc in
-      no-interface p.classes reference c.record_of none (subst (λ (q : PackageRecord). IsOneOf q.classes c.record_of) own class) offset
+  flag-by reference c home class same offset none = grind (arith, slice_get, no-interface)
 
   place-is : (c : NumberedClass) (reference : ℕ) → same_place (record { «package» = k; offset = reference }) (place_of_class c) ≡ true
       → (c.home ≡ k) × (c.record_of.offset ≡ reference)
-  place-is c reference e =
-      let same = same-equal (record { «package» = k; offset = reference }) (place_of_class c) e in
-      (sym (ap (λ (q : RecordPlace). q.package) same), sym (ap (λ (q : RecordPlace). q.offset) same))
+  place-is c reference e = grind (arith, same-equal)
 
   own-number : (reference n : ℕ) → class_at ps (record { «package» = k; offset = reference }) ≡ Some n → names_interface p.classes reference
       ≡ false → is_interface_number ps n ≡ false
@@ -104,13 +94,7 @@ module _ (ps : List PackageRecord) (k : ℕ) (p : PackageRecord) (at : slice_get
 
   number-by : (reference n : ℕ) → Refers ps k (reference_of reference) n → reference < 0x8000 → names_interface p.classes reference ≡ false
       → is_interface_number ps n ≡ false
-  number-by reference n (internal offset is e) low none =
-      let same : Internal reference ≡ Internal offset = sym (internal-is reference low) ∙ is in
-      let offset_is : reference ≡ offset = cc in
-      own-number reference n (subst (λ o. class_at ps (record { «package» = k; offset = o }) ≡ Some n) (sym offset_is) e) none
-  number-by reference n (imported import class j offset is met out e) low none =
-      let same : Internal reference ≡ External import class = sym (internal-is reference low) ∙ is in
-      absurd cc
+  number-by reference n x low none = grind (arith, internal-is, own-number)
 
   -- a class of the package that is no interface has methods with headers
   pub headers : (c : described.ClassDescriptor) → AllEmpty (conditions ps) → IsOneOf p.description.items.classes c → c.class_ref < 0x8000

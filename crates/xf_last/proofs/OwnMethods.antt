@@ -44,8 +44,7 @@ module _ (ps : List PackageRecord) (p : PackageRecord) (roles : List ℕ) where
     parts = linked.lists.methods ∙ named_split ps p roles
 
     count : length w.infos ≡ length ps + 1
-    count =
-        ap length linked.lists.infos ∙ length-map (and_last ps p) (λ (q : PackageRecord). q.methods.info) ∙ length-append ps (p ∷ [])
+    count = grind (arith, length, length-map, length-append)
 
     long : length w.methods ≡ length earlier_of + length own_of
     long = ap length parts ∙ length-append earlier_of own_of

@@ -1,5 +1,5 @@
 -- Methods of a world, one number after the other.
-use Rattle.std.proofs.Common.{◌≡◌, ◌⊎◌, ℕ, ◌+◌, ◌<◌, ◌≤◌, length, drop, Some, slice_get, refl, sym, ap, subst, inl, inr, arith}
+use Rattle.std.proofs.Common.{◌≡◌, ◌⊎◌, ℕ, ◌+◌, ◌<◌, ◌≤◌, length, drop, Some, slice_get, refl, sym, subst, inl, inr, arith}
 use Rattle.std.proofs.Common.{length-take}
 use Rattle.std.proofs.Math.Nat.{eq-or-lt_of_le}
 use Rattle.std.proofs.lemmas.Bool.{cases_lt}
@@ -9,7 +9,7 @@ use Rattle.card_typing.specs.declared.fault.CardFault.{CardFault}
 use Rattle.card_typing.specs.Typing.{HasCardTyping}
 use Rattle.card_verify.specs.Answers.{AreAccepted, AreAcceptedBefore, IsRefusedAt}
 use Rattle.jc_base.specs.declared.record.MethodRec.{MethodRec}
-use Rattle.jc_base.specs.Linked.{IsMethod, list_at}
+use Rattle.jc_base.specs.Linked.{IsMethod}
 use Rattle.jc_base.specs.World.{Linked, IsWorld, code_of}
 use Rattle.jc_base.proofs.Lists.{All-slice_get}
 use Rattle.jc_control.specs.Asked.{AllHave, AllHaveBelow, IsOfLibrary}
@@ -22,17 +22,10 @@ pub method-is : (w : Linked) (m : Method) → IsMethodOf w m → method_with w m
 method-is w m is = let code = sym is.code in λ i. record { number = m.number; rec = m.rec; code = code i }
 
 pub has-code : (w : Linked) (m : Method) → IsMethodOf w m → 0 < m.rec.code_len
-has-code w m is =
-    let few = length-take m.rec.code_len (drop m.rec.code_at (list_at w.infos m.rec.package)) in
-    let code = ap length is.code in
-    omega (arith, few, code, is.filled)
+has-code w m is = grind (arith, length-take, drop, length)
 
 code-long : (w : Linked) (r : MethodRec) → IsMethod w.infos w.pools w.classes r → length (code_of w.infos r) ≡ r.code_len
-code-long w r is =
-    let few = length-take r.code_len (drop r.code_at (list_at w.infos r.package)) in
-    let rest = length-drop r.code_at (list_at w.infos r.package) in
-    let inside = is.inside in
-    omega (arith, few, rest, inside)
+code-long w r is = grind (arith, length-take, drop, length-drop)
 
 pub method-of : (w : Linked) (n : ℕ) (r : MethodRec) → slice_get w.methods n ≡ Some r → IsMethod w.infos w.pools w.classes r → 0 < r.code_len
     → IsMethodOf w (method_with w n r)

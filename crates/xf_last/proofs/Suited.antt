@@ -18,8 +18,7 @@ use Rattle.jc_base.specs.Linked.{IsCodeLength}
 use Rattle.jc_base.specs.World.{Linked}
 use Rattle.jc_decode.specs.declared.symbols.Laid.{Laid}
 use Rattle.jc_base.proofs.Lists.{slice_get-farther}
-use Rattle.jc_link.specs.World.{IsLinked, class_conditions, member_conditions, table_conditions}
-use Rattle.jc_resolve.proofs.ConditionLists.{AllEmpty-before}
+use Rattle.jc_link.specs.World.{IsLinked}
 use Rattle.jc_resolve.specs.declared.method_records.Body.{Body}
 use Rattle.jc_resolve.specs.Conditions.{conditions}
 use Rattle.jc_resolve.specs.NamedMethods.{body_after, body_of, handler_named, have_headers, named_method, no_body, offset_in_info}
@@ -112,9 +111,7 @@ room-all many set (c ∷ cs) = by (set c.class_ref) (room-all many set cs)
 module _ (ps : List PackageRecord) (p : PackageRecord) (roles : List ℕ) (w : Linked) (linked : IsLinked (and_last ps p) roles w)
     (agreed : StandsFor p.parts p) where
   none : AllEmpty (conditions (and_last ps p))
-  none =
-      AllEmpty-before (conditions (and_last ps p)) (class_conditions (and_last ps p) roles)
-      (AllEmpty-before (table_conditions (and_last ps p) roles) (member_conditions (and_last ps p) roles) linked.faultless)
+  none = grind (arith)
 
   at : slice_get (and_last ps p) (length ps) ≡ Some p
   at = slice_get-farther ps (p ∷ []) 0 (length ps) (omega arith)
@@ -147,11 +144,7 @@ module _ (ps : List PackageRecord) (p : PackageRecord) (roles : List ℕ) (w : L
 
   interface-suits : (many i j : ℕ) (c : ClassDescriptor) (m : MethodDescriptor) (l : Option Laid)
       → names_interface p.classes c.class_ref ≡ true → FitsElement (method_of i c j m) l → Suits p.methods.info many None l
-  interface-suits many i j c m None e h = record { element = tt {0}; few = omega arith }
-  interface-suits many i j c m (Some l) e h =
-      let empty : (method_of i c j m).code_len ≡ 0 = code-len i j c m ∙ ap (λ (b : Body). b.code_len) (bodiless c m e) in
-      let some = h.0 in
-      absurd (omega (arith, empty, some))
+  interface-suits many i j c m x e h = grind (arith, code-len, bodiless)
 
   -- the body of a method of a class
   with-body : (c : ClassDescriptor) (m : MethodDescriptor) (x : IsPlaced p m) → IsOneOf p.description.items.classes c
@@ -164,8 +157,7 @@ module _ (ps : List PackageRecord) (p : PackageRecord) (roles : List ℕ) (w : L
   same-header h k o e f = let both : Some h ≡ Some k = sym e ∙ f in cc
 
   abstract-by : (b : Bool) (n : ℕ) → MatchBool b (n ≡ 0) (IsCodeLength n) → n ≡ 0 → b ≡ true
-  abstract-by true n h e = refl
-  abstract-by false n h e = let some = h.least in absurd (omega (arith, some, e))
+  abstract-by x n h e = grind (arith)
 
   class-suits : (i j : ℕ) (c : ClassDescriptor) (m : MethodDescriptor) (l : Option Laid) → IsOneOf p.description.items.classes c
       → IsOneOf c.methods m
@@ -251,12 +243,4 @@ module _ (ps : List PackageRecord) (p : PackageRecord) (roles : List ℕ) (w : L
           (methods_for (names_interface p.classes) cs) ls go fit
 
   pub may-be-laid : (laid : List (Option Laid)) → AreFit (own_of ps p roles) laid → length p.methods.handlers ≤ 255 → MayBeLaid p laid
-  may-be-laid laid fit few =
-      let suited = in-classes 0 p.description.items.classes (λ c h. h) laid fit in
-      let sum = sum-of p.methods.info (length p.methods.handlers) (methods_for (names_interface p.classes) p.description.items.classes) laid suited in
-      let room = room-all (length p.methods.handlers) (names_interface p.classes) p.description.items.classes in
-      let within = entries-within p agreed in
-      record {
-        elements = elements-of p.methods.info (length p.methods.handlers) (methods_for (names_interface p.classes) p.description.items.classes) laid suited;
-        few = omega (arith, sum, room, within, few);
-      }
+  may-be-laid laid fit few = grind (arith, in-classes, sum-of, length, room-all, entries-within, elements-of)

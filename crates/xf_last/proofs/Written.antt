@@ -1,5 +1,5 @@
 -- The last of packages that link, and what is written in its place.
-use Rattle.std.proofs.Common.{◌≡◌, ℕ, ◌-◌, ◌<◌, ◌≤◌, Bool, true, false, List, [], length, take, drop, Option, Some, None, refl, subst, arith}
+use Rattle.std.proofs.Common.{◌≡◌, ℕ, ◌-◌, ◌<◌, ◌≤◌, Bool, List, [], length, take, drop, Option, Some, None, refl, subst, arith}
 use Rattle.std.specs.Prelude.{slice_get, nat_lt, ◌==◌, ◌||◌, min, if◌then◌else◌}
 use Rattle.std.specs.Option.{option_to_list}
 use Rattle.std.proofs.lemmas.Bool.{eqb-false}
@@ -29,9 +29,7 @@ use Rattle.xf_last.proofs.Suited.{may-be-laid}
 -- ---- packages that link
 
 some-package : (n : ℕ) (fault : LinkFault) (a b : Bool) → (n == 0) ≡ a → option_to_list (if a || b then Some fault else None) ≡ [] → 0 < n
-some-package n fault true b is none = absurd cc
-some-package n fault false true is none = absurd cc
-some-package n fault false false is none = let ne = eqb-false n 0 is in omega (arith, ne)
+some-package n fault x b is none = grind (arith, eqb-false)
 
 -- where packages link there is at least one
 linked-some : (ps : List PackageRecord) (roles : List ℕ) (w : Linked) → IsLinked ps roles w → 0 < length ps
@@ -45,10 +43,7 @@ pub record IsLastOf (ps : List PackageRecord) (roles : List ℕ) (w : Linked) (p
 
 module _ (ps : List PackageRecord) (roles : List ℕ) (w : Linked) (linked : IsLinked ps roles w) where
   pub last-of : (p : PackageRecord) → slice_get ps (length ps - 1) ≡ Some p → IsLastOf ps roles w p
-  last-of p at =
-      let some = linked-some ps roles w linked in
-      let parted = with-last ps p (length ps - 1) at (omega (arith, some)) in
-      record { libraries = parted.0; are = parted.1; linked = subst (λ qs. IsLinked qs roles w) parted.1 linked }
+  last-of p at = grind (arith, linked-some, with-last, length)
 
   -- so the methods of the last package follow those of the libraries
   pub linked-has-last : HasLast w
