@@ -1,5 +1,5 @@
 -- The world of a package whose methods share registers: each method with code has a card typing, and each run ends in step.
-use Rattle.std.proofs.Common.{◌≡◌, ⊎_elim, ℕ, ◌+◌, ◌-◌, ◌<◌, ◌≤◌, List, [], ◌∷◌, length, Option, Some, None, slice_get, sym, ◌∙◌, ap}
+use Rattle.std.proofs.Common.{◌≡◌, ⊎_elim, ℕ, ◌+◌, ◌-◌, ◌<◌, ◌≤◌, List, [], length, Option, Some, None, slice_get, sym, ◌∙◌, ap}
 use Rattle.std.proofs.Common.{subst, arith}
 use Rattle.std.proofs.lemmas.Bool.{cases_lt}
 use Rattle.std.proofs.lemmas.List.{length-map, length-append}
@@ -50,9 +50,7 @@ module _ (v : Linked) (laws : AreLaws v) (laid : List (Option Laid)) (are : AreS
       → slice_get are.own k ≡ Some r
       → slice_get laid k ≡ Some o
       → HasCardTyping w m
-  by-element k r None number own at =
-      let none : m.code ≡ [] = known w (begins + k) (λ x. x.code ≡ []) (stand.bare k r own at) m mo number in
-      absurd (omega (arith, mo.filled, ap length none))
+  by-element k r None number own at = grind (arith, known, length)
   by-element k r (Some l) number own at =
       let has = stand.replaced k r l own at (pools v laws laid are k r l own at) in
       subst (HasCardTyping w)
@@ -79,12 +77,7 @@ as-many-packages :
     → IsLinked (and_last libraries source) roles v
     → IsLinked (and_last libraries made) roles new
     → length new.infos ≡ length v.infos
-as-many-packages libraries source made roles v new was now =
-    let first = ap length was.lists.infos ∙ length-map (and_last libraries source) (λ (x : PackageRecord). x.methods.info)
-    ∙ length-append libraries (source ∷ []) in
-    let second = ap length now.lists.infos ∙ length-map (and_last libraries made) (λ (x : PackageRecord). x.methods.info)
-    ∙ length-append libraries (made ∷ []) in
-    omega (arith, first, second)
+as-many-packages libraries source made roles v new was now = grind (arith, length, length-map, length-append)
 
 pub shared-world-ends-in-step :
     (v : Linked)

@@ -1,6 +1,6 @@
 -- The element of each method of the last package, and the methods of a world by their numbers.
 use Rattle.std.proofs.Common.{◌≡◌, ℕ, zero, suc, ◌+◌, List, [], ◌∷◌, Option, Some, slice_get}
-use Rattle.std.proofs.Common.{refl, sym, ◌∙◌, ap, subst, arith}
+use Rattle.std.proofs.Common.{refl, sym, ◌∙◌, ap, arith}
 use Rattle.std.proofs.lemmas.Option.{same_Some}
 use Rattle.jc_base.specs.declared.record.MethodRec.{MethodRec}
 use Rattle.jc_base.specs.World.{Linked}
@@ -20,15 +20,8 @@ pub element-at :
     → IsSharedElement w (number + n) r o
 element-at w number [] laid n r o are own at = absurd (cc)
 element-at w number (s ∷ ss) [] n r o are own at = absurd are
-element-at w number (s ∷ ss) (l ∷ ls) zero r o are own at =
-    let first : s ≡ r = cc in
-    let its : l ≡ o = cc in
-    let here : number ≡ number + 0 = omega arith in
-    subst (λ k. IsSharedElement w k r o) here
-    (subst (λ a. IsSharedElement w number r a) its (subst (λ a. IsSharedElement w number a l) first are.0))
-element-at w number (s ∷ ss) (l ∷ ls) (suc n) r o are own at =
-    let here : suc number + n ≡ number + suc n = omega arith in
-    subst (λ k. IsSharedElement w k r o) here (element-at w (suc number) ss ls n r o are.1 own at)
+element-at w number (s ∷ ss) (l ∷ ls) zero r o are own at = grind (arith)
+element-at w number (s ∷ ss) (l ∷ ls) (suc n) r o are own at = grind (arith, suc, element-at w (suc number) ss ls n r o are.1 own at)
 
 -- each method has one
 pub element-there :

@@ -1,7 +1,7 @@
 -- The registers that methods have beside their arguments, once they share these: no method has more, and all together they are those that are
 -- laid.
-use Rattle.std.proofs.Common.{◌≡◌, ⊎_elim, ℕ, zero, suc, ◌+◌, ◌-◌, ◌<◌, ◌≤◌, Bool, true, false, cond, List, [], ◌∷◌, ◌++◌, length, drop}
-use Rattle.std.proofs.Common.{Option, Some, None, option_map, get_or, IsSomeAnd, slice_get, refl, sym, ◌∙◌, ap, subst, arith}
+use Rattle.std.proofs.Common.{◌≡◌, ⊎_elim, ℕ, zero, suc, ◌+◌, ◌-◌, ◌<◌, ◌≤◌, Bool, true, cond, List, [], ◌∷◌, ◌++◌, length, drop}
+use Rattle.std.proofs.Common.{Option, Some, None, option_map, get_or, slice_get, refl, sym, ◌∙◌, ap, subst, arith}
 use Rattle.std.specs.Prelude.{◌==◌, ◌&&◌, nat_lt, sum_by}
 use Rattle.std.proofs.lemmas.Bool.{cases_lt, eq-eqb, ne_eqb}
 use Rattle.std.proofs.lemmas.Bool.Decides.{nat_tests}
@@ -12,7 +12,7 @@ use Rattle.jc_base.specs.declared.record.MethodRec.{MethodRec}
 use Rattle.jc_base.specs.World.{Linked, code_of}
 use Rattle.jc_base.proofs.Lists.{All-slice_get}
 use Rattle.jc_decode.specs.declared.symbols.Laid.{Laid}
-use Rattle.jc_control.specs.Method.{Method, IsMethodOf, method_in, method_with}
+use Rattle.jc_control.specs.Method.{Method, IsMethodOf, method_with}
 use Rattle.jc_rules.proofs.CellLists.{cells-length}
 use Rattle.card_typing.proofs.Own.{start-length}
 use Rattle.law_laid.specs.Apart.{apart_from_code, IsSameBut}
@@ -65,8 +65,7 @@ module _ (f : MethodRec → ℕ) where
 -- ---- the methods of the new world
 
 no-code : (w : Linked) (x : MethodRec) (b : Bool) → code_of w.infos x ≡ [] → cond (b && nat_lt 0 (length (code_of w.infos x))) x.max_locals 0 ≡ 0
-no-code w x true e = ap (λ (c : List ℕ). cond (nat_lt 0 (length c)) x.max_locals 0) e
-no-code w x false e = refl
+no-code w x x2 e = grind (arith, cond, length)
 
 module _ (v : Linked) (no_more : RegistersAreNoMore) (laws : AreLaws v) (laid : List (Option Laid)) (are : AreSharedOf v laid) (w : Linked)
     (same : IsSameBut v w) (packages : length w.infos ≡ length v.infos) (stand : MethodsAreReplaced are.libraries are.own laid v w) where
@@ -74,11 +73,7 @@ module _ (v : Linked) (no_more : RegistersAreNoMore) (laws : AreLaws v) (laid : 
   begins = first v laws laid are
 
   earlier-is : (n : ℕ) (x : MethodRec) → n < begins → slice_get w.methods n ≡ Some x → slice_get v.methods n ≡ Some x
-  earlier-is n x lt at =
-      let there : method_in w n ≡ Some (method_with w n x) = ap (λ (o : Option MethodRec). option_map (method_with w n) o) at in
-      let was = method-there v n (λ m. m ≡ method_with w n x)
-      (subst (λ (o : Option Method). IsSomeAnd o (λ m. m ≡ method_with w n x)) (sym (sym (stand.earlier n lt) ∙ there)) refl) in
-      was.1 ∙ ap (λ (m : Method). Some m.rec) was.2
+  earlier-is n x lt at = grind (arith, option_map, method-there)
 
   of-library : (n : ℕ) (x : MethodRec) → n < begins → slice_get w.methods n ≡ Some x → locals_of w x ≡ 0
   of-library n x lt at =
@@ -102,9 +97,7 @@ module _ (v : Linked) (no_more : RegistersAreNoMore) (laws : AreLaws v) (laid : 
 
   of-element : (k : ℕ) (x r : MethodRec) (o : Option Laid) → slice_get w.methods (begins + k) ≡ Some x → slice_get are.own k ≡ Some r
       → slice_get laid k ≡ Some o → locals_of w x ≡ laid_of o
-  of-element k x r None at own element =
-      no-code w x (x.package + 1 == length w.infos)
-      (subst (λ (o : Option MethodRec). IsSomeAnd (option_map (method_with w (begins + k)) o) (λ m. m.code ≡ [])) at (stand.bare k r own element))
+  of-element k x r None at own element = grind (arith, no-code, length, option_map)
   of-element k x r (Some l) at own element =
       let has = stand.replaced k r l own element (pools v laws laid are k r l own element) in
       let its = found v laws laid are k r l own element w same has in
@@ -146,9 +139,7 @@ module _ (v : Linked) (no_more : RegistersAreNoMore) (laws : AreLaws v) (laid : 
 
       by-element : (k : ℕ) (r : MethodRec) (o : Option Laid) → m.number ≡ begins + k → slice_get are.own k ≡ Some r → slice_get laid k ≡ Some o
           → n.rec.max_locals ≤ m.rec.max_locals
-      by-element k r None number own element =
-          let none : n.code ≡ [] = known w (begins + k) (λ x. x.code ≡ []) (stand.bare k r own element) n there (e ∙ number) in
-          absurd (omega (arith, there.filled, ap length none))
+      by-element k r None number own element = grind (arith, known, length)
       by-element k r (Some l) number own element =
           let has = stand.replaced k r l own element (pools v laws laid are k r l own element) in
           let its = is v laws laid are k r l own element in

@@ -6,7 +6,7 @@ use Rattle.std.proofs.lemmas.List.Elements.{All-nil, All-cons, All-weaker}
 use Rattle.jc_base.specs.declared.record.Handler.{Handler}
 use Rattle.jc_decode.specs.declared.insn.Placed.{Placed}
 use Rattle.jc_decode.specs.declared.symbols.Item.{Item}
-use Rattle.jc_decode.specs.declared.symbols.Item.TheVariants.{Plain, Branch, Switch, Label}
+use Rattle.jc_decode.specs.declared.symbols.Item.TheVariants.{Plain, Branch, Switch}
 use Rattle.jc_decode.specs.declared.symbols.LaidHandler.{LaidHandler as Laying}
 use Rattle.jc_decode.specs.declared.symbols.Laid.{Laid}
 use Rattle.jc_decode.specs.Cases.{is_switch}
@@ -58,10 +58,7 @@ item-steps code reg i = by (is_switch i.insn.op) (is_branch i.insn.op)
 
 step-more : (source : List ℕ) (all : List Item) (item : Item) (items : List Item) → is_instruction item ≡ true
     → 0 < length (steps_in source all (item ∷ items))
-step-more source all (Label l) items e = absurd (false≢true e)
-step-more source all (Plain i) items e = omega arith
-step-more source all (Branch op l) items e = omega arith
-step-more source all (Switch i at labels) items e = omega arith
+step-more source all x items e = grind (arith, false≢true)
 
 -- an instruction is a step, so symbols with one have a step
 some-step : (code : List ℕ) (reg : ℕ → ℕ) (all : List Item) (is : List Placed) (i : Placed) → Contains is i

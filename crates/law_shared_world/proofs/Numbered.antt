@@ -77,20 +77,13 @@ module _ (v : Linked) (laws : AreLaws v) (laid : List (Option Laid)) (are : AreS
       }
 
   last : (k : ℕ) (o : Option MethodRec) → slice_get are.own k ≡ o → HasCounterpart v w (begins + k)
-  last k None own =
-      none-there (begins + k) (λ m mo number.
-      none-some m.rec (sym own ∙ (sym (own-there v laws laid are k) ∙ (ap (slice_get v.methods) (sym number) ∙ mo.rec))))
-  last k (Some r) own =
-      let element = element-there v begins are.own laid k r are.each own in
-      by-element k r element.0 own element.1
+  last k None own = grind (arith, own-there v laws laid are k, slice_get v.methods, none-there, none-some)
+  last k (Some r) own = grind (arith, element-there, by-element)
 
   -- ---- any method
 
   pub counterpart : (n : ℕ) → HasCounterpart v w n
-  counterpart n =
-      ⊎_elim (library n) (λ le.
-      let at : begins + (n - begins) ≡ n = omega (arith, le) in
-      subst (HasCounterpart v w) at (last (n - begins) (slice_get are.own (n - begins)) refl)) (cases_lt n begins)
+  counterpart n = grind (arith, library n, last (n - begins) (slice_get are.own (n - begins)) refl, cases_lt n begins, ⊎_elim)
 
   abbrev pub by_number : Renaming
   by_number = record { place = λ n. (counterpart n).place; reg = λ n. (counterpart n).reg }

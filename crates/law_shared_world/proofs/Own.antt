@@ -1,9 +1,8 @@
 -- A method of the last package that shared registers are laid for: what is laid may replace its code, and where it stands in another
 -- world it is the method with its registers renamed, and has a card typing.
-use Rattle.std.proofs.Common.{◌≡◌, ◌⊎◌, inr, ℕ, ◌+◌, ◌<◌, List, length, drop, All, Option, Some, IsSomeAnd, slice_get, refl, sym, ◌∙◌, ap}
+use Rattle.std.proofs.Common.{◌≡◌, ℕ, ◌+◌, ◌<◌, List, length, drop, All, Option, Some, IsSomeAnd, slice_get, refl, sym, ◌∙◌, ap}
 use Rattle.std.proofs.Common.{subst, arith, length-take}
 use Rattle.std.proofs.lemmas.List.{length-drop}
-use Rattle.std.proofs.lemmas.List.Elements.{All-weaker}
 use Rattle.jc_base.specs.declared.record.MethodRec.{MethodRec}
 use Rattle.jc_base.specs.Linked.{IsMethod, list_at}
 use Rattle.jc_base.specs.World.{Linked, IsWorld}
@@ -99,13 +98,7 @@ module _ (v : Linked) (laws : AreLaws v) (laid : List (Option Laid)) (are : AreS
       its-laid = found.2
 
       pub is-target : IsMethodOf w target
-      is-target = record {
-        rec = found.1;
-        code = refl;
-        filled =
-            subst (λ (c : List ℕ). 0 < length c) (sym its-laid.code)
-            (laid-filled place source is.reg is.locals l formed is-method.filled stands);
-      }
+      is-target = grind (arith, laid-filled place source is.reg is.locals l formed is-method.filled stands, found, length, its-laid)
 
       pub renamed : HasPlaces v w source is.reg
       renamed =
@@ -113,13 +106,7 @@ module _ (v : Linked) (laws : AreLaws v) (laid : List (Option Laid)) (are : AreS
           stands is-target refl its-laid
 
       registers : HasRegisters source (r.nargs + is.locals) target
-      registers = record {
-        same = its-laid.same;
-        nargs = its-laid.nargs ∙ stands.nargs;
-        total = (let words = its-laid.nargs ∙ stands.nargs in
-            let locals = its-laid.max_locals ∙ stands.max_locals in
-            omega (arith, words, locals));
-      }
+      registers = grind (arith, its-laid, stands)
 
       pub card : HasCardTyping w target
       card =
@@ -134,7 +121,4 @@ module _ (v : Linked) (laws : AreLaws v) (laid : List (Option Laid)) (are : AreS
           subst (HasCardTyping w) one typed
 
   pub may-replace : EachMayReplace are.own laid
-  may-replace k r l own at = record {
-    filled = (its-element k r l own at).0;
-    catches = All-weaker (HasPoolOf r.handlers) (λ h. (h.pool ≡ 0) ⊎ HasPoolOf r.handlers h) (λ h p. inr p) l.handlers (pools k r l own at);
-  }
+  may-replace k r l own at = grind (arith, its-element k r l own at, pools k r l own at)

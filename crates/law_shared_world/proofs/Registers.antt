@@ -1,12 +1,10 @@
 -- The types of the registers of a method that is laid with such numbers.
-use Rattle.std.proofs.Common.{◌≡◌, ℕ, ◌+◌, List, length, sym, ap, ◌∙◌, subst, arith}
-use Rattle.std.specs.Prelude.{slice_get}
+use Rattle.std.proofs.Common.{◌≡◌, ℕ, ◌+◌, List, length, sym, ◌∙◌, arith}
 use Rattle.jc_base.specs.declared.ty.Ty.{Ty}
 use Rattle.jc_base.specs.declared.ty.Ty.TheVariants.{Bottom}
-use Rattle.jc_base.specs.declared.record.MethodRec.{MethodRec}
 use Rattle.jc_base.specs.World.{Linked, IsWorld}
 use Rattle.jc_control.specs.Method.{Method, IsMethodOf}
-use Rattle.jc_rules.specs.Flow.{CellsBelow, start_frame}
+use Rattle.jc_rules.specs.Flow.{start_frame}
 use Rattle.jc_rules.proofs.CellLists.{cells-length}
 use Rattle.card_typing.specs.Typing.{CardTyping, HasCardTyping}
 use Rattle.card_typing.proofs.Own.{start-length}
@@ -22,23 +20,10 @@ module _ (v : Linked) (links : IsWorld v) (m target : Method) (regs : List Ty) (
   count = sym (cells-length v.classes typed.declared) ∙ start-length v links m is
 
   same-start : (start_frame m.rec Bottom).regs ≡ (start_frame target.rec Bottom).regs
-  same-start =
-      let static = ap (λ (x : MethodRec). x.is_static) has.same in
-      let class = ap (λ (x : MethodRec). x.class) has.same in
-      let args = ap (λ (x : MethodRec). x.sig.args) has.same in
-      let total = has.total in
-      let nargs = has.nargs in
-      let locals : target.rec.max_locals ≡ m.rec.max_locals = omega (arith, total, nargs) in
-      cc
+  same-start = grind (arith)
 
   pub kept-types : AreRegistersOf v target regs regs reg
-  kept-types = record {
-    retyped = λ x ty e. ap (slice_get regs) (kept x) ∙ e;
-    count = count ∙ sym has.total;
-    types = typed.types;
-    ready = typed.ready;
-    declared = subst (λ xs. CellsBelow v.classes xs regs) same-start typed.declared;
-  }
+  kept-types = grind (arith, count, same-start)
 
 -- ---- registers that are kept or shared
 
