@@ -1,7 +1,7 @@
 -- Each method with code of the last package has the exact target index of its code, where this is written with the package.
 use Rattle.std.proofs.Common.{◌≡◌, ◌⊎◌, inl, inr, ℕ, zero, suc, ◌+◌, ◌-◌, ◌<◌, ◌≤◌, List, [], ◌∷◌, ◌++◌, length, map, take, drop, true}
 use Rattle.std.proofs.Common.{false, Option, Some, None, option_map, slice_get, refl, sym, ap, subst, ◌∙◌, arith, length-append, length-take}
-use Rattle.std.specs.Prelude.{count_by, is_some, unwrap_or, ◌==◌, ◌&&◌}
+use Rattle.std.specs.Prelude.{count_by, is_some, unwrap_or}
 use Rattle.std.proofs.lemmas.Bool.{cases_lt}
 use Rattle.std.proofs.lemmas.List.{length-map}
 use Rattle.std.proofs.lemmas.Option.{none-some, same_Some, slice_get-map}
@@ -18,7 +18,6 @@ use Rattle.cap_index.proofs.Listed.{are-indexes}
 use Rattle.cap_index.proofs.ReadBack.{HasExactLists, read-back, exact-at}
 use Rattle.cap_write.specs.WrittenPackage.{IsWritten}
 use Rattle.jc_base.specs.declared.record.MethodRec.{MethodRec}
-use Rattle.jc_base.specs.Linked.{list_at}
 use Rattle.jc_base.specs.World.{Linked, code_of}
 use Rattle.jc_base.proofs.Lists.{slice_get-farther, slice_get-front, slice_get-some}
 use Rattle.jc_control.specs.Asked.{IsOfLast}
@@ -35,7 +34,7 @@ use Rattle.law_package.proofs.Lists.{Each}
 use Rattle.law_package.proofs.Kept.{map_twice}
 use Rattle.law_relink.specs.Last.{and_last}
 use Rattle.law_relink.specs.Replaced.{AreMethodsOf}
-use Rattle.law_relink.proofs.Twins.{Twin, AreTwins, before_in, after_in, laid_in, are_twins}
+use Rattle.law_relink.proofs.Twins.{Twin, AreTwins, before_in, laid_in, are_twins}
 use Rattle.law_relink.proofs.Known.{IsKnownTwin, known_twins, twins_in}
 use Rattle.law_relink.proofs.Apart.{named_split}
 use Rattle.law_relink.proofs.Linking.{are_parts, earlier_homes}
@@ -54,8 +53,7 @@ mapped-at f (x ∷ xs) zero y e = (x, refl, cc)
 mapped-at f (x ∷ xs) (suc k) y e = mapped-at f xs k y e
 
 is-there : (o : Option Laid) → is_some o ≡ true → (l : Laid) × (o ≡ Some l)
-is-there None e = absurd cc
-is-there (Some l) e = (l, refl)
+is-there x e = grind (arith)
 
 -- ---- what is laid
 
@@ -84,24 +82,17 @@ unfolding named_method
 home-of ps q roles x = refl
 
 coded-by : (n : ℕ) (m : MethodRec) → m.package ≡ n → is_coded n m ≡ has_code m
-coded-by n m e =
-    let same : (n == n) ≡ true = grind arith in
-    ap (λ k. (k == n) && has_code m) e ∙ ap (λ b. b && has_code m) same
+coded-by n m e = grind (arith)
 
 not-coded : (n : ℕ) (m : MethodRec) → m.package < n → is_coded n m ≡ false
-not-coded n m lt =
-    let other : (m.package == n) ≡ false = grind arith in
-    ap (λ b. b && has_code m) other
+not-coded n m lt = grind (arith)
 
 none-coded : (n : ℕ) (ms : List MethodRec) → Each (λ (m : MethodRec). m.package < n) ms → Each (λ m. is_coded n m ≡ false) ms
 none-coded n [] h = tt
 none-coded n (m ∷ ms) h = (not-coded n m h.0, none-coded n ms h.1)
 
 code-some : (infos : List (List ℕ)) (m : MethodRec) → 0 < length (code_of infos m) → has_code m ≡ true
-code-some infos m filled =
-    let long = length-take m.code_len (drop m.code_at (list_at infos m.package)) in
-    let more : 0 < m.code_len = omega (arith, filled, long) in
-    grind arith
+code-some infos m filled = grind (arith, length-take, drop)
 
 module _ (listed : InstructionsAreListed) (parts new_parts : List Lent) (ps : List PackageRecord) (p q : PackageRecord) (laid : List (Option Laid))
     (roles : List ℕ) (s : StandsFor parts p) (t : StandsFor new_parts q) (r : IsRewritten p laid q) where
@@ -136,10 +127,7 @@ module _ (listed : InstructionsAreListed) (parts new_parts : List Lent) (ps : Li
         (subst (λ ls. AreNewCodes (map (before ps p roles) ts) ls) (sym two.laid_is) (subst (λ rs. AreNewCodes rs laid) is codes))
 
     methods-now : new.methods ≡ earlier ++ own_now
-    methods-now =
-        n.lists.methods ∙ named_split ps q roles
-        ∙ ap (λ ms. earlier ++ ms)
-        (ap (map (named_method now roles)) (sym two.after) ∙ map_twice (named_method now roles) (after_in last q) ts)
+    methods-now = grind (arith, named_split, map, two, map_twice)
 
     homes : Each (λ (m : MethodRec). m.package < last) earlier
     homes = earlier_homes ps q roles
@@ -167,25 +155,13 @@ module _ (listed : InstructionsAreListed) (parts new_parts : List Lent) (ps : Li
         omega (arith, both, none-earlier, own)
 
     many-before : (k : ℕ) → count_by (is_coded last) (take (length earlier + k) new.methods) ≡ count_by is_some (take k laid)
-    many-before k =
-        let both =
-        ap (λ ms. count_by (is_coded last) (take (length earlier + k) ms)) methods-now
-        ∙ ap (count_by (is_coded last)) (take-append-add earlier own_now k)
-        ∙ count-append (is_coded last) earlier (take k own_now) in
-        let own : count_by (is_coded last) (take k own_now) ≡ count_by is_some (take k laid) =
-        count-alike-before (is_coded last) is_some (after ps q roles) laid_in k ts coded
-        ∙ ap (λ ls. count_by is_some (take k ls)) two.laid_is in
-        omega (arith, both, none-earlier, own)
+    many-before k = grind (arith, take, length, methods-now, take-append-add, count-append, count-alike-before, coded, two, none-earlier)
 
     -- ---- a method of the last package
 
     module _ (m : Method) (is : IsOfLast new m) where
       home : m.rec.package ≡ last
-      home =
-          let own_home = is.last in
-          let infos = ap length n.lists.infos ∙ length-map now (λ (x : PackageRecord). x.methods.info) in
-          let long = length-append ps (q ∷ []) in
-          omega (arith, own_home, infos, long)
+      home = grind (arith, length, length-map, length-append)
 
       there : slice_get (earlier ++ own_now) m.number ≡ Some m.rec
       there = ap (λ ms. slice_get ms m.number) (sym methods-now) ∙ is.method.rec
@@ -234,9 +210,7 @@ module _ (listed : InstructionsAreListed) (parts new_parts : List Lent) (ps : Li
           ∙ code-is ps p q laid roles new_parts t r twin.0 its-known code-laid.0 code-laid.1 (its-may code-laid.0 code-laid.1) new n
 
       laid-at : slice_get laid k ≡ Some (Some code-laid.0)
-      laid-at =
-          ap (λ ls. slice_get ls k) (sym two.laid_is) ∙ slice_get-map laid_in ts k ∙ ap (option_map laid_in) twin.1
-          ∙ ap Some code-laid.1
+      laid-at = grind (arith, slice_get, two, slice_get-map, option_map, twin, code-laid)
 
       module _ (info : HasInfo q laid) where
         back : HasExactLists laid info.info

@@ -1,7 +1,7 @@
 -- In the new world a method of the last package has code exactly where some is laid for it, and this is its code.
 use Rattle.std.proofs.Common.{◌≡◌, ◌<◌, ◌+◌, ℕ, List, length, take, drop, Bool, true, false, Option}
 use Rattle.std.proofs.Common.{Some, None, refl, sym, ap, subst, ◌∙◌, arith}
-use Rattle.std.specs.Prelude.{is_some, nat_lt}
+use Rattle.std.specs.Prelude.{is_some}
 use Rattle.std.proofs.Math.Nat.{min-eq_left}
 use Rattle.cap_bytes.specs.Number.{number_at}
 use Rattle.cap_components.specs.MethodPlaces.{size_by, code_start, code_end}
@@ -126,12 +126,7 @@ module _ (ps : List PackageRecord) (p q : PackageRecord) (laid : List (Option La
     -- ---- both
 
     filled-by : (o : Option Laid) → x.laid ≡ o → MayHave ps p roles x → has_code (after ps q roles x) ≡ is_some o
-    filled-by None is may = ap (nat_lt 0) (bare is)
-    filled-by (Some l) is may =
-        let size = long l is (may l is) in
-        let some = (may l is).some in
-        let more : nat_lt 0 (length l.code) ≡ true = grind arith in
-        ap (nat_lt 0) size ∙ more
+    filled-by x is may = grind (arith, bare, long, length, code)
 
     pub has-code-where-laid : MayHave ps p roles x → has_code (after ps q roles x) ≡ is_some x.laid
     has-code-where-laid may = filled-by x.laid refl may
