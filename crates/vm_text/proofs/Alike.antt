@@ -1,8 +1,8 @@
 -- The words of a state are read as the state is.
-use Rattle.std.proofs.Common.{◌≡◌, ◌+◌, ◌*◌, ◌/◌, ℕ, zero, suc, List, [], ◌∷◌, Option, Some, None, refl, ap, ◌∙◌}
+use Rattle.std.proofs.Common.{arith}
+use Rattle.std.proofs.Common.{◌≡◌, ◌/◌, ℕ, zero, suc, List, [], ◌∷◌, Option, Some, None, refl, ap, ◌∙◌}
 use Rattle.std.specs.Prelude.{map, slice_get, option_map, option_and_then}
 use Rattle.std.proofs.Math.ListN.{get_or-map}
-use Rattle.std.specs.List.{range_with_len}
 use Rattle.std.proofs.lemmas.List.{length-map}
 use Rattle.jc_base.specs.declared.ty.Ty.{Ty}
 use Rattle.jc_base.specs.declared.ty.Kind.{Kind}
@@ -12,7 +12,6 @@ use Rattle.jc_base.specs.World.{Linked}
 use Rattle.vm_store.specs.declared.cell.Cell.{Cell}
 use Rattle.vm_store.specs.declared.cell.Cell.TheVariants.{Empty}
 use Rattle.vm_store.specs.declared.kind.ObjectKind.{ObjectKind}
-use Rattle.vm_store.specs.declared.kind.ObjectKind.TheVariants.{Ints}
 use Rattle.vm_store.specs.Cells.{tagged, words, word_of}
 use Rattle.vm_store.specs.State.{State, Object, erased, map_object, nth}
 use Rattle.vm_store.specs.Objects.{object_at, element_count}
@@ -26,10 +25,7 @@ word_at : (cells : List Cell) (n : ℕ) → nth words (map word_of cells) n ≡ 
 word_at cells n = get_or-map word_of cells n Empty
 
 value_alike : (kind : Kind) (cells : List Cell) (n : ℕ) → value_at words kind (map word_of cells) n ≡ value_at tagged kind cells n
-value_alike fields.Ref cells n = cc (word_at cells n)
-value_alike fields.Int cells n = cc (word_at cells n, word_at cells (n + 1))
-value_alike fields.Byte cells n = cc (word_at cells n)
-value_alike fields.Short cells n = cc (word_at cells n)
+value_alike x cells n = grind (arith, word_at)
 
 fields_alike : (cells : List Cell) (fs : List StaticRec)
     → map (λ (f : StaticRec). value_at words f.kind (map word_of cells) f.slot) fs ≡ map (λ (f : StaticRec). value_at tagged f.kind cells f.slot) fs
@@ -37,8 +33,7 @@ fields_alike cells [] = refl
 fields_alike cells (f ∷ fs) = let head = value_alike f.kind cells f.slot in let tail = fields_alike cells fs in cc
 
 element_alike : (kind : ObjectKind) (cells : List Cell) (i : ℕ) → element_in words kind (map word_of cells) i ≡ element_in tagged kind cells i
-element_alike Ints cells i = cc (word_at cells (i * 2), word_at cells (i * 2 + 1))
-element_alike _ cells i = cc (word_at cells i)
+element_alike x cells i = grind (arith, word_at)
 
 elements_alike : (kind : ObjectKind) (cells : List Cell) (ns : List ℕ) → map (element_in words kind (map word_of cells)) ns
     ≡ map (element_in tagged kind cells) ns
@@ -49,10 +44,7 @@ count_alike : (o : Object Cell) → element_count (map_object word_of o) ≡ ele
 count_alike o = ap (λ n. n / element_width o.kind) (length-map o.cells word_of)
 
 numbers_alike : (o : Object Cell) (ty : Ty) → numbers_in words (map_object word_of o) ty ≡ numbers_in tagged o ty
-numbers_alike o ty =
-    let count = ap (λ n. map (element_in words o.kind (map word_of o.cells)) (range_with_len 0 n)) (count_alike o) in
-    let all = count ∙ elements_alike o.kind o.cells (range_with_len 0 (element_count o)) in
-    λ i. record { ty = ty; elements = all i }
+numbers_alike o ty = grind (arith, count_alike, elements_alike)
 
 array_alike : (o : Object Cell) (t : Option Ty) → option_map (numbers_in words (map_object word_of o)) t ≡ option_map (numbers_in tagged o) t
 array_alike o None = refl
@@ -72,9 +64,7 @@ named_alike x s (suc n) objects = ap (λ all. option_and_then (number_array word
 -- words of the objects and of the static fields of a state are read as the state is
 pub left_alike : (w : Linked) (x : State ℕ) (s : State Cell) → x.heap ≡ map (map_object word_of) s.heap → x.statics ≡ map word_of s.statics
     → left_by words w x ≡ left_by tagged w s
-left_alike w x s objects fields =
-    let values = ap (λ cells. map (λ (f : StaticRec). value_at words f.kind cells f.slot) w.statics) fields ∙ fields_alike s.statics w.statics in
-    λ i. record { statics = values i; array = λ h. named_alike x s h objects i }
+left_alike w x s objects fields = grind (arith, fields_alike s.statics w.statics, named_alike)
 
 pub texts_alike : (w : Linked) → TextsAreAlike w
 texts_alike w = λ s ending. ap (λ l. left_text l ending) (left_alike w (erased s) s refl refl)

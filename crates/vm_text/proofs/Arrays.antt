@@ -1,5 +1,5 @@
 -- The elements of an array of numbers, read one by one and told as a list.
-use Rattle.std.proofs.Common.{◌≡◌, ◌<◌, ℕ, zero, suc, ◌+◌, ℤ, Bool, true, false, length, Option, Some, None, refl, sym, ap, ◌∙◌, arith}
+use Rattle.std.proofs.Common.{◌≡◌, ◌<◌, ℕ, zero, suc, ◌+◌, ℤ, Bool, length, Option, Some, None, refl, ap, arith}
 use Rattle.std.specs.Prelude.{nat_lt, if◌then◌else◌, map, slice_get, option_map, option_and_then}
 use Rattle.std.specs.List.{range_with_len}
 use Rattle.std.proofs.lemmas.Bool.{ltb-true, ltb-false}
@@ -16,24 +16,17 @@ use Rattle.vm_text.specs.Left.{NumberArray, number_array}
 given_at : {X : Type 0} (f : ℕ → X) (a n i : ℕ) → i < n → slice_get (map f (range_with_len a n)) i ≡ Some (f (a + i))
 given_at f a zero i below = absurd (omega (arith, below))
 given_at f a (suc n) zero below = let same : a ≡ a + 0 = omega arith in ap (λ k. Some (f k)) same
-given_at f a (suc n) (suc i) below =
-    let same : a + 1 + i ≡ a + suc i = omega arith in
-    given_at f (a + 1) n i (omega (arith, below)) ∙ ap (λ k. Some (f k)) same
+given_at f a (suc n) (suc i) below = grind (arith, suc, given_at f (a + 1) n i (omega (arith, below)))
 
 told : (t : Option Ty) (b : Bool) (f : ℕ → ℤ) (n i : ℕ) → nat_lt i n ≡ b
     → (if b then if_numbers t (f i) else None)
     ≡ option_and_then (λ (a : NumberArray). slice_get a.elements i) (option_map (λ ty. record { ty = ty; elements = map f (range_with_len 0 n) }) t)
-told None true f n i is = refl
-told None false f n i is = refl
-told (Some ty) true f n i is = let same : 0 + i ≡ i = omega arith in sym (given_at f 0 n i (ltb-true i n is) ∙ ap (λ k. Some (f k)) same)
-told (Some ty) false f n i is =
-    let long = length-map-range_with_len f 0 n in sym (slice_get_past (map f (range_with_len 0 n)) i (omega (arith, long, ltb-false i n is)))
+told x x2 f n i is = grind (arith, given_at, ltb-true, length-map-range_with_len, slice_get_past, ltb-false)
 
 counted : (t : Option Ty) (f : ℕ → ℤ) (n : ℕ)
     → if_numbers t n ≡ option_map (λ (a : NumberArray). length a.elements)
     (option_map (λ ty. record { ty = ty; elements = map f (range_with_len 0 n) }) t)
-counted None f n = refl
-counted (Some ty) f n = ap Some (sym (length-map-range_with_len f 0 n))
+counted x f n = grind (arith, length-map-range_with_len)
 
 value_in : {A : Type 0} (k : Cells A) (o : Option (Object A)) (i : ℕ)
     → option_and_then (element_of k i) o ≡ option_and_then (λ (a : NumberArray). slice_get a.elements i) (option_and_then (number_array k) o)

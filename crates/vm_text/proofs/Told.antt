@@ -19,13 +19,11 @@ nothing a = record { text = sym (append-nil a.text); used = omega arith; whole =
 
 pub counted : (o : Option NumberArray) (count : ℕ) → option_map (λ (a : NumberArray). length a.elements) o ≡ Some count
     → length (elements_in o) ≡ count
-counted None count is = absurd (cc)
-counted (Some a) count is = cc
+counted x count is = grind (arith)
 
 pub element_found : (o : Option NumberArray) (i : ℕ) (r : Option ℤ) → r ≡ option_and_then (λ (a : NumberArray). slice_get a.elements i) o
     → slice_get (elements_in o) i ≡ r
-element_found None i r is = sym is
-element_found (Some a) i r is = sym is
+element_found x i r is = grind (arith)
 
 pub one_element : (a b c : Roomed) (xs : List ℤ) (i : ℕ) (x : ℤ) → slice_get xs i ≡ Some x
     → Writes a b (flat_map element_text (take i xs)) → Writes b c (element_text x) → Writes a c (flat_map element_text (take (i + 1) xs))
@@ -41,10 +39,7 @@ one_element a b c xs i x is before one =
 
 lines_joined : (m : ℕ) (xs : List Value) (x : Value) → static_lines m (xs ++ x ∷ []) ≡ static_lines m xs ++ static_line (m + length xs) x
 lines_joined m [] x = let same : m ≡ m + 0 = omega arith in append-nil (static_line m x) ∙ ap (λ k. static_line k x) same
-lines_joined m (y ∷ ys) x =
-    let same : m + 1 + length ys ≡ m + suc (length ys) = omega arith in
-    ap (λ t. static_line m y ++ t) (lines_joined (m + 1) ys x ∙ ap (λ k. static_lines (m + 1) ys ++ static_line k x) same)
-    ∙ sym (append_assoc (static_line m y) (static_lines (m + 1) ys) (static_line (m + suc (length ys)) x))
+lines_joined m (y ∷ ys) x = grind (arith, length, suc, append_assoc, lines_joined (m + 1) ys x)
 
 pub one_field : (a b c : Roomed) (xs : List Value) (n : ℕ) (x : Value) → length (take n xs) ≡ n → slice_get xs n ≡ Some x
     → Writes a b (static_lines 0 (take n xs)) → Writes b c (static_line n x) → Writes a c (static_lines 0 (take (n + 1) xs))

@@ -1,9 +1,9 @@
 -- What the readers of a run of verified code answer, of the words that it leaves.
-use Rattle.std.proofs.Common.{◌≡◌, ◌<◌, ℕ, ℤ, List, length, Option, Some, None, refl, sym, ap, subst, ◌∙◌}
+use Rattle.std.proofs.Common.{arith}
+use Rattle.std.proofs.Common.{◌≡◌, ◌<◌, ℕ, ℤ, List, length, Option, Some, sym, ap, subst, ◌∙◌}
 use Rattle.std.specs.Prelude.{slice_get, option_map, option_and_then}
 use Rattle.std.proofs.lemmas.Option.{slice_get-map}
 use Rattle.jc_base.specs.declared.ty.Ty.{Ty}
-use Rattle.jc_base.specs.declared.record.StaticRec.{StaticRec}
 use Rattle.jc_base.specs.World.{Linked}
 use Rattle.vm_store.specs.declared.cell.Cell.{Cell}
 use Rattle.vm_store.specs.Cells.{Cells, tagged, words}
@@ -12,7 +12,7 @@ use Rattle.vm_store.specs.Objects.{object_at}
 use Rattle.vm_step.specs.declared.ending.Value.{Value}
 use Rattle.vm_offend.specs.declared.words.Counts.{Counts}
 use Rattle.vm_offend.specs.Reads.{AreObjectsOf, AreStaticsOf}
-use Rattle.vm_defend.specs.Reading.{value_at, numbers_of_kind, static_value, array_kind, array_length, array_value}
+use Rattle.vm_defend.specs.Reading.{numbers_of_kind, static_value, array_kind, array_length, array_value}
 use Rattle.vm_text.specs.Left.{NumberArray, Readout, numbers_in, number_array, left_by}
 use Rattle.vm_text.specs.Lent.{lent_state, IsLentRun}
 use Rattle.vm_text.proofs.Alike.{left_alike}
@@ -26,19 +26,14 @@ lent_alike w accepted heap statics counts lent = left_alike w (lent_state heap s
 pub field_of : (w accepted : Linked) (heap statics : List ℕ) (counts : Counts) (n : ℕ) (value : Value) → IsLentRun w accepted heap statics counts
     → ((s : State Cell) → AreStaticsOf statics s → static_value tagged accepted n s ≡ Some value)
     → slice_get (left_by words w (lent_state heap statics counts)).statics n ≡ Some value
-field_of w accepted heap statics counts n value lent read =
-    ap (λ (l : Readout). slice_get l.statics n) (lent_alike w accepted heap statics counts lent)
-    ∙ slice_get-map (λ (f : StaticRec). value_at tagged f.kind lent.state.statics f.slot) w.statics n
-    ∙ subst (λ v. static_value tagged v n lent.state ≡ Some value) lent.world (read lent.state lent.fields)
+field_of w accepted heap statics counts n value lent read = grind (arith, lent_alike w accepted heap statics counts lent, slice_get-map)
 
 ty_in : (k : Cells Cell) (o : Object Cell) (ty : Option Ty) → ty ≡ option_map (λ (a : NumberArray). a.ty) (option_map (numbers_in k o) ty)
-ty_in k o None = refl
-ty_in k o (Some ty) = refl
+ty_in k o x = grind (arith)
 
 ty_at : (o : Option (Object Cell))
     → option_and_then (λ (x : Object Cell). numbers_of_kind x.kind) o ≡ option_map (λ (a : NumberArray). a.ty) (option_and_then (number_array tagged) o)
-ty_at None = refl
-ty_at (Some o) = ty_in tagged o (numbers_of_kind o.kind)
+ty_at x = grind (arith, ty_in)
 
 pub kind_of : (w accepted : Linked) (heap statics : List ℕ) (counts : Counts) (h : ℕ) (ty : Option Ty) → IsLentRun w accepted heap statics counts
     → ((s : State Cell) → AreObjectsOf heap counts s → array_kind s h ≡ ty)
