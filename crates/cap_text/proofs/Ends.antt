@@ -15,9 +15,7 @@ next_dropped zero (w ∷ ws) word tail is = cc
 next_dropped (suc n) (w ∷ ws) word tail is = next_dropped n ws word tail is
 
 dropped_one : (n : ℕ) (ws : List (List ℕ)) (word : List ℕ) (tail : List (List ℕ)) → drop n ws ≡ word ∷ tail → drop (n + 1) ws ≡ tail
-dropped_one n ws word tail is =
-    let same : n + 1 ≡ suc n = omega arith in
-    ap (λ k. drop k ws) same ∙ next_dropped n ws word tail is
+dropped_one n ws word tail is = grind (arith, suc, drop, next_dropped)
 
 at_end : (word : List ℕ) (tail : List (List ℕ)) → is_end word ≡ true → position_or_len is_end (word ∷ tail) ≡ 0
 at_end word tail is = rw is refl
@@ -29,10 +27,7 @@ past_one word tail is = rw is refl
 pub hit : (ws rest tail : List (List ℕ)) (word : List ℕ) (count : ℕ) → rest ≡ drop count ws → count + position_or_len is_end rest
     ≡ position_or_len is_end ws
     → rest ≡ word ∷ tail → is_end word ≡ true → tail ≡ after_first is_end ws
-hit ws rest tail word count left place is ends =
-    let none : position_or_len is_end rest ≡ 0 = ap (position_or_len is_end) is ∙ at_end word tail ends in
-    let here : position_or_len is_end ws ≡ count = omega (arith, none, place) in
-    sym (ap (λ n. drop (n + 1) ws) here ∙ dropped_one count ws word tail (sym left ∙ is))
+hit ws rest tail word count left place is ends = grind (arith, at_end, drop, dropped_one)
 
 pub left_one : (ws rest tail : List (List ℕ)) (word : List ℕ) (count : ℕ) → rest ≡ drop count ws → rest ≡ word ∷ tail
     → tail ≡ drop (count + 1) ws
@@ -40,9 +35,7 @@ left_one ws rest tail word count left is = sym (dropped_one count ws word tail (
 
 pub place_one : (ws rest tail : List (List ℕ)) (word : List ℕ) (count : ℕ) → count + position_or_len is_end rest ≡ position_or_len is_end ws
     → rest ≡ word ∷ tail → is_end word ≡ false → count + 1 + position_or_len is_end tail ≡ position_or_len is_end ws
-place_one ws rest tail word count place is goes =
-    let one : position_or_len is_end rest ≡ 1 + position_or_len is_end tail = ap (position_or_len is_end) is ∙ past_one word tail goes in
-    omega (arith, one, place)
+place_one ws rest tail word count place is goes = grind (arith, past_one)
 
 pub few_one : (ws rest tail : List (List ℕ)) (word : List ℕ) (count : ℕ) → count + length rest ≡ length ws → rest ≡ word ∷ tail
     → count + 1 + length tail ≡ length ws

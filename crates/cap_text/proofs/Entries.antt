@@ -31,10 +31,7 @@ split_same : (xs us ys vs : List ℕ) → AllDigits 10 xs → AllDigits 10 us �
 split_same [] [] ys vs all_xs all_us same = (refl, ap (drop 1) same)
 split_same [] (u ∷ us) ys vs all_xs all_us same = absurd (stop_is_none u (ap (λ (l : List ℕ). get_or l 0 0) same) all_us.0)
 split_same (x ∷ xs) [] ys vs all_xs all_us same = absurd (stop_is_none x (sym (ap (λ (l : List ℕ). get_or l 0 0) same)) all_xs.0)
-split_same (x ∷ xs) (u ∷ us) ys vs all_xs all_us same =
-    let head : x ≡ u = ap (λ (l : List ℕ). get_or l 0 0) same in
-    let rest = split_same xs us ys vs all_xs.1 all_us.1 (ap (drop 1) same) in
-    (λ i. head i ∷ rest.0 i, rest.1)
+split_same (x ∷ xs) (u ∷ us) ys vs all_xs all_us same = grind (arith, split_same xs us ys vs all_xs.1 all_us.1 (ap (drop 1) same), get_or)
 
 -- two texts of a number, a full stop and a number are of the same numbers
 pub entry_halves : (e f : Entry) → e.class_no < 2 ^ 16 → f.class_no < 2 ^ 16 → decimal e.class_no ++ (46 ∷ decimal e.method_no)

@@ -1,8 +1,8 @@
 -- Lists of folder words, whose words are visited one by one.
-use Rattle.std.proofs.Common.{◌≡◌, ℕ, ◌<◌, Bool, true, false, IsTrue, ◌↔◌, MatchBool, List, ◌∷◌, length, subst, sym, refl}
+use Rattle.std.proofs.Common.{arith}
+use Rattle.std.proofs.Common.{◌≡◌, ℕ, ◌<◌, Bool, IsTrue, ◌↔◌, MatchBool, List, ◌∷◌, length}
 use Rattle.std.proofs.lemmas.Bool.{false≢true}
 use Rattle.std.specs.List.{AllWithin, HoldsAt}
-use Rattle.std.proofs.lemmas.List.Elements.{All-from_all_within}
 use Rattle.std.proofs.lemmas.Iterator.Search.{true_from_All}
 use Rattle.cap_text.specs.Word.{IsFolderWord, AreFolderWords}
 
@@ -10,10 +10,4 @@ use Rattle.cap_text.specs.Word.{IsFolderWord, AreFolderWords}
 pub tells_folders : (told : Bool) (words : List (List ℕ)) (first : List ℕ) (rest : List (List ℕ)) → words ≡ first ∷ rest → IsFolderWord first
     → MatchBool told (AllWithin IsFolderWord rest 0 (length rest)) ((k : ℕ) × (k < length rest) × HoldsAt (λ w. IsFolderWord w → ⊥) rest k)
     → IsTrue told ↔ AreFolderWords words
-tells_folders true words first rest are names visit =
-    (λ yes. subst AreFolderWords (sym are) (names, All-from_all_within IsFolderWord rest visit), λ all. refl)
-tells_folders false words first rest are names visit = (
-  λ yes. absurd (false≢true yes),
-  λ all. true_from_All IsFolderWord (λ w. IsFolderWord w → ⊥) false rest (λ w is no. no is) visit
-      ((subst AreFolderWords are all).1),
-)
+tells_folders x words first rest are names visit = grind (arith, false≢true, true_from_All)

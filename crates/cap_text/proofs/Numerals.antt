@@ -2,14 +2,14 @@
 -- tells two lists apart.
 use Rattle.std.proofs.Common.{◌≡◌, ◌≢◌, ℕ, ◌<◌, ◌≤◌, ◌^◌, ℤ, pos, negsuc, FitsSigned, List, [], ◌∷◌, length, Bor, ap, subst}
 use Rattle.std.proofs.Common.{drop, get_or, false, eqb, sym, ◌∙◌, arith, rules, w32, to_z, of_z, true≢false}
-use Rattle.std.specs.Prelude.{Result, Ok, Err, Option, Some, None, MatchOption, IfSome, IfNone, IsTrue, codes, decimal}
+use Rattle.std.specs.Prelude.{Result, Ok, Err, Option, MatchOption, IfSome, IfNone, IsTrue, codes, decimal}
 use Rattle.std.specs.Fmt.{signed_decimal}
 use Rattle.std.specs.Str.Parse.{ParsesUnsigned, ParsesSigned}
 use Rattle.std.proofs.lemmas.Bool.{false≢true}
 use Rattle.std.proofs.lemmas.Int.{to_z-of_z}
 use Rattle.std.specs.Str.Parse.{AllDigits}
 use Rattle.std.proofs.lemmas.Fmt.{parse-decimal, parse-signed_decimal, decimal_is_IsNumeral}
-use Rattle.hex.specs.Hex.{encode_lower, decode_of, lower_digits}
+use Rattle.hex.specs.Hex.{encode_lower, decode_of}
 use Rattle.hex.specs.declared.error.FromHexError.{FromHexError}
 use Rattle.hex.proofs.HexLemmas.{length-encode_with, decode_of-encode_lower, decode_of-ok, decode_of-same}
 use Rattle.cap_listing.proofs.Cuts.{count-read}
@@ -29,10 +29,7 @@ differs xs ys apart same = true≢false (sym ((bytes_decides xs ys).1 same) ∙ 
 -- no number stands in a word that the number that was read does not print
 pub no_number : {E : Type 0} (word : List ℕ) (r : Result ℕ E) (x : ℕ) → ParsesUnsigned 32 10 word r → r ≡ Ok x
     → (word ≡ decimal x → IsTrue false) → (n : ℕ) → IsNumberWord word n → ⊥
-no_number word r x reads is other n w =
-    let read : r ≡ Ok n = number_is_read word r n reads w in
-    let writes = w.writes in
-    false≢true (other (cc))
+no_number word r x reads is other n w = grind (arith, number_is_read, false≢true)
 
 -- a word without a number sign writes no bytes
 no_bytes : (word bs : List ℕ) → ((rest : List ℕ) → word ≢ 35 ∷ rest) → IsBytesWord word bs → ⊥
@@ -65,36 +62,21 @@ digits_of digits bs w = ap (drop 1) w.writes
 
 -- more digits than 2,048 write no bytes
 pub too_many : (digits bs : List ℕ) → 2048 < length digits → IsBytesWord (35 ∷ digits) bs → ⊥
-too_many digits bs more w =
-    let same : length digits ≡ length (encode_lower bs) = ap length (digits_of digits bs w) in
-    let twice = length-encode_with lower_digits bs in
-    absurd (omega (arith, more, same, twice, w.few))
+too_many digits bs more w = grind (arith, length, digits_of, length-encode_with)
 
 -- digits that are no text write no bytes
 pub unread : (digits bs : List ℕ) (e : FromHexError) → decode_of digits ≡ Err e → IsBytesWord (35 ∷ digits) bs → ⊥
-unread digits bs e is w =
-    let read : decode_of digits ≡ Ok bs = subst (λ d. decode_of d ≡ Ok bs) (sym (digits_of digits bs w)) (decode_of-encode_lower bs w.are_bytes) in
-    absurd (cc)
+unread digits bs e is w = grind (arith, digits_of, decode_of-encode_lower)
 
 -- digits that the bytes that were read do not print write no bytes
 pub printed_apart : (digits bs read : List ℕ) → decode_of digits ≡ Ok read → (encode_lower read ≡ digits → ⊥)
     → IsBytesWord (35 ∷ digits) bs → ⊥
-printed_apart digits bs read is apart w =
-    let same = digits_of digits bs w in
-    let back : decode_of digits ≡ Ok bs = subst (λ d. decode_of d ≡ Ok bs) (sym same) (decode_of-encode_lower bs w.are_bytes) in
-    apart (ap encode_lower (decode_of-same digits read bs is back) ∙ sym same)
+printed_apart digits bs read is apart w = grind (arith, digits_of, decode_of-encode_lower, decode_of-same)
 
 -- bytes that were read from digits and print as them are written by them
 pub written : (digits read : List ℕ) → decode_of digits ≡ Ok read → encode_lower read ≡ digits → length digits ≤ 2048
     → IsBytesWord (35 ∷ digits) read
-written digits read is prints few =
-    let same : length digits ≡ length (encode_lower read) = ap length (sym prints) in
-    let twice = length-encode_with lower_digits read in
-    record {
-      writes = ap (λ (ds : List ℕ). 35 ∷ ds) (sym prints);
-      are_bytes = (decode_of-ok digits read is).3;
-      few = omega (arith, same, twice, few);
-    }
+written digits read is prints few = grind (arith, length, length-encode_with, decode_of-ok)
 
 -- ---- a number of 16 bits
 
@@ -102,21 +84,17 @@ written digits read is prints few =
 pub no_short : {E : Type 0} (word : List ℕ) (r : Result ℕ E) (x : ℕ) → ParsesUnsigned 16 10 word r → r ≡ Ok x
     → (word ≡ decimal x → IsTrue false)
     → (n : ℕ) → n < 2 ^ 16 → word ≢ decimal n
-no_short word r x reads is other n fits = λ writes.
-    let read : r ≡ Ok n = count-read word r n reads fits writes in
-    false≢true (other (cc))
+no_short word r x reads is other n fits = grind (arith, count-read, false≢true)
 
 -- ---- the number sign
 
 pub sign_found : (word : List ℕ) (r : Option (Bor (List ℕ))) → MatchOption r ((rest : List ℕ) → word ≢ 35 ∷ rest) (λ x. word ≡ 35 ∷ x.now)
     → IfSome r (λ x. word ≡ 35 ∷ x.now)
-sign_found word None is = tt {0}
-sign_found word (Some x) is = is
+sign_found word x is = grind (arith)
 
 pub sign_missing : (word : List ℕ) (r : Option (Bor (List ℕ))) → MatchOption r ((rest : List ℕ) → word ≢ 35 ∷ rest) (λ x. word ≡ 35 ∷ x.now)
     → IfNone r ((rest : List ℕ) → word ≢ 35 ∷ rest)
-sign_missing word None is = is
-sign_missing word (Some x) is = tt {0}
+sign_missing word x is = grind (arith)
 
 -- `null` and a number begin with no number sign
 pub no_sign : (z : ℤ) (digits : List ℕ) → FitsSigned w32 z → 35 ∷ digits ≡ signed_decimal z → ⊥

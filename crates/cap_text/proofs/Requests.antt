@@ -11,9 +11,7 @@ use Rattle.cap_text.specs.OfDir.{IsOfDir}
 use Rattle.cap_text.specs.OutOfDir.{OutOfDirRequest, IsOutOfDir}
 use Rattle.cap_text.specs.OfDirs.{IsOfDirs}
 use Rattle.cap_text.specs.Entry.{IsEntryWord}
-use Rattle.std.specs.List.{after_first}
 use Rattle.cap_text.specs.Run.{RunRequest, AreRunWords}
-use Rattle.cap_text.proofs.Ends.{is_end}
 use Rattle.cap_text.specs.OutOfDirs.{OutOfDirsRequest, IsOutOfDirs}
 use Rattle.cap_text.specs.Generate.{GenerateRequest, IsGenerate}
 use Rattle.cap_text.specs.EntryWords.{EntryRequest, AreEntryWords}
@@ -51,75 +49,32 @@ one_list (w ∷ ws) (x ∷ xs) [] p q = absurd q
 one_list (w ∷ ws) (x ∷ xs) (y ∷ ys) p q = let head = one_argument w x y p.0 q.0 in let tail = one_list ws xs ys p.1 q.1 in cc
 
 one_probe : (operands : List (List ℕ)) (p q : ProbeRequest) → IsProbe operands p → IsProbe operands q → p ≡ q
-one_probe [] p q is_p is_q = absurd is_p
-one_probe (dir ∷ []) p q is_p is_q = absurd is_p
-one_probe (dir ∷ budget ∷ args) p q is_p is_q =
-    let steps : p.budget ≡ q.budget = decimal_injective p.budget q.budget (omega (arith, is_p.2.fits)) (omega (arith, is_q.2.fits))
-    (sym is_p.2.writes ∙ is_q.2.writes) in
-    let same_dir : p.dir ≡ q.dir = is_p.0 ∙ sym is_q.0 in
-    let same_args = one_list args p.args q.args is_p.3 is_q.3 in
-    λ i. record { dir = same_dir i; budget = steps i; args = same_args i }
+one_probe x p q is_p is_q = grind (arith, decimal_injective, one_list)
 
 one_of_dir : (operands : List (List ℕ)) (d e : List ℕ) → IsOfDir operands d → IsOfDir operands e → d ≡ e
-one_of_dir [] d e is_d is_e = absurd is_d
-one_of_dir (dir ∷ []) d e is_d is_e = is_d.0 ∙ sym is_e.0
-one_of_dir (dir ∷ more ∷ rest) d e is_d is_e = absurd is_d
+one_of_dir x d e is_d is_e = grind (arith)
 
 one_out_of_dir : (operands : List (List ℕ)) (o p : OutOfDirRequest) → IsOutOfDir operands o → IsOutOfDir operands p → o ≡ p
-one_out_of_dir [] o p is_o is_p = absurd is_o
-one_out_of_dir (out ∷ []) o p is_o is_p = absurd is_o
-one_out_of_dir (out ∷ dir ∷ []) o p is_o is_p =
-    let same_out : o.out ≡ p.out = is_o.0 ∙ sym is_p.0 in
-    let same_dir : o.dir ≡ p.dir = is_o.1 ∙ sym is_p.1 in
-    λ i. record { out = same_out i; dir = same_dir i }
-one_out_of_dir (out ∷ dir ∷ more ∷ rest) o p is_o is_p = absurd is_o
+one_out_of_dir x o p is_o is_p = grind (arith)
 
 one_of_dirs : (operands : List (List ℕ)) (d e : List (List ℕ)) → IsOfDirs operands d → IsOfDirs operands e → d ≡ e
 one_of_dirs operands d e is_d is_e = is_d.0 ∙ sym is_e.0
 
 -- an entry has one word
 one_entry : (word : List ℕ) (e f : Entry) → IsEntryWord word e → IsEntryWord word f → e ≡ f
-one_entry word e f p q =
-    let same = entry_halves e f p.class_fits q.class_fits (sym p.writes ∙ q.writes) in
-    let class_no : e.class_no ≡ f.class_no = decimal_injective e.class_no f.class_no (omega (arith, p.class_fits)) (omega (arith, q.class_fits)) same.0 in
-    let method_no : e.method_no ≡ f.method_no = decimal_injective e.method_no f.method_no (omega (arith, p.method_fits)) (omega (arith, q.method_fits))
-    same.1 in
-    λ i. record { class_no = class_no i; method_no = method_no i }
+one_entry word e f p q = grind (arith, entry_halves, decimal_injective)
 
 one_run : (operands : List (List ℕ)) (r s : RunRequest) → AreRunWords operands r → AreRunWords operands s → r ≡ s
-one_run [] r s is_r is_s = absurd is_r
-one_run (budget ∷ []) r s is_r is_s = absurd is_r
-one_run (budget ∷ entry ∷ words) r s is_r is_s =
-    let steps : r.budget ≡ s.budget = decimal_injective r.budget s.budget (omega (arith, is_r.0.fits)) (omega (arith, is_s.0.fits))
-    (sym is_r.0.writes ∙ is_s.0.writes) in
-    let entries : r.entry ≡ s.entry = one_entry entry r.entry s.entry is_r.1 is_s.1 in
-    let same_dirs : r.dirs ≡ s.dirs = is_r.2.folders ∙ sym is_s.2.folders in
-    let same_args : r.args ≡ s.args = one_list (after_first is_end words) r.args s.args is_r.2.arguments is_s.2.arguments in
-    λ i. record { budget = steps i; entry = entries i; dirs = same_dirs i; args = same_args i }
+one_run x r s is_r is_s = grind (arith, decimal_injective, one_entry, one_list)
 
 one_out_of_dirs : (operands : List (List ℕ)) (t u : OutOfDirsRequest) → IsOutOfDirs operands t → IsOutOfDirs operands u → t ≡ u
-one_out_of_dirs [] t u is_t is_u = absurd is_t
-one_out_of_dirs (out ∷ dirs) t u is_t is_u =
-    let same_out : t.out ≡ u.out = is_t.0 ∙ sym is_u.0 in
-    let same_dirs : t.dirs ≡ u.dirs = is_t.1 ∙ sym is_u.1 in
-    λ i. record { out = same_out i; dirs = same_dirs i }
+one_out_of_dirs x t u is_t is_u = grind (arith)
 
 one_generate : (operands : List (List ℕ)) (g h : GenerateRequest) → IsGenerate operands g → IsGenerate operands h → g ≡ h
-one_generate [] g h is_g is_h = absurd is_g
-one_generate (seed ∷ []) g h is_g is_h = absurd is_g
-one_generate (seed ∷ out ∷ []) g h is_g is_h =
-    let same_seed : g.seed ≡ h.seed = decimal_injective g.seed h.seed (omega (arith, is_g.0.fits)) (omega (arith, is_h.0.fits))
-    (sym is_g.0.writes ∙ is_h.0.writes) in
-    let same_out : g.out ≡ h.out = is_g.1 ∙ sym is_h.1 in
-    λ i. record { seed = same_seed i; out = same_out i }
-one_generate (seed ∷ out ∷ more ∷ rest) g h is_g is_h = absurd is_g
+one_generate x g h is_g is_h = grind (arith, decimal_injective)
 
 one_at_entry : (operands : List (List ℕ)) (e f : EntryRequest) → AreEntryWords operands e → AreEntryWords operands f → e ≡ f
-one_at_entry [] e f is_e is_f = absurd is_e
-one_at_entry (entry ∷ dirs) e f is_e is_f =
-    let same_entry : e.entry ≡ f.entry = one_entry entry e.entry f.entry is_e.0 is_f.0 in
-    let same_dirs : e.dirs ≡ f.dirs = is_e.1 ∙ sym is_f.1 in
-    λ i. record { entry = same_entry i; dirs = same_dirs i }
+one_at_entry x e f is_e is_f = grind (arith, one_entry)
 
 -- ---- the commands' names are apart
 
@@ -151,21 +106,7 @@ key_of (install d) = 10507
 
 named : (name : List ℕ) (operands : List (List ℕ)) (r : Request) → IsRequest (name ∷ operands) r → key name ≡ key_of r
 unfolding first key key_of
-named name operands (probe p) is = ap key is.0
-named name operands (show d) is = ap key is.0
-named name operands (list d) is = ap key is.0
-named name operands (asm o) is = ap key is.0
-named name operands (check d) is = ap key is.0
-named name operands (verify d) is = ap key is.0
-named name operands (defend r) is = ap key is.0
-named name operands (run r) is = ap key is.0
-named name operands (transform t) is = ap key is.0
-named name operands (share o) is = ap key is.0
-named name operands (trial r) is = ap key is.0
-named name operands (generate g) is = ap key is.0
-named name operands (bound e) is = ap key is.0
-named name operands (pack o) is = ap key is.0
-named name operands (install d) is = ap key is.0
+named name operands x is = grind (arith, key)
 
 -- words that begin with a command's name and are outside its grammar ask for nothing: the commands of one shape with their names
 none_called : (name : List ℕ) (operands : List (List ℕ)) (called : List ℕ) → name ≡ called
@@ -175,20 +116,17 @@ none_called name operands called is none r asks = none r (sym (named name operan
 only_check : (name : List ℕ) (operands : List (List ℕ)) → ((d : List (List ℕ)) → IsOfDirs operands d → ⊥)
     → (r : Request) → key_of r ≡ 9905 → IsRequest (name ∷ operands) r → ⊥
 unfolding key_of
-only_check name operands none (check d) e is = none d is.1
-only_check name operands none r e is = eqb-false (key_of r) 9905 refl e
+only_check name operands none r e is = grind (arith, eqb-false, key_of)
 
 only_verify : (name : List ℕ) (operands : List (List ℕ)) → ((d : List (List ℕ)) → IsOfDirs operands d → ⊥)
     → (r : Request) → key_of r ≡ 11806 → IsRequest (name ∷ operands) r → ⊥
 unfolding key_of
-only_verify name operands none (verify d) e is = none d is.1
-only_verify name operands none r e is = eqb-false (key_of r) 11806 refl e
+only_verify name operands none r e is = grind (arith, eqb-false, key_of)
 
 only_install : (name : List ℕ) (operands : List (List ℕ)) → ((d : List (List ℕ)) → IsOfDirs operands d → ⊥)
     → (r : Request) → key_of r ≡ 10507 → IsRequest (name ∷ operands) r → ⊥
 unfolding key_of
-only_install name operands none (install d) e is = none d is.1
-only_install name operands none r e is = eqb-false (key_of r) 10507 refl e
+only_install name operands none r e is = grind (arith, eqb-false, key_of)
 
 -- whatever command it is, with arguments of a method or without
 none_such : (takes : Bool) (words : List (List ℕ)) → ((r : Request) → IsRequest words r → ⊥) → NoneSuch takes words
@@ -235,5 +173,4 @@ one_request (name ∷ operands) (generate g) (generate h) is_r is_s = ap generat
 one_request (name ∷ operands) (bound e) (bound f) is_r is_s = ap bound (one_at_entry operands e f is_r.1 is_s.1)
 one_request (name ∷ operands) (pack o) (pack p) is_r is_s = ap pack (one_out_of_dir operands o p is_r.1 is_s.1)
 one_request (name ∷ operands) (install d) (install e) is_r is_s = ap install (one_of_dirs operands d e is_r.1 is_s.1)
-one_request (name ∷ operands) r s is_r is_s =
-    absurd (eqb-false (key_of r) (key_of s) refl (sym (named name operands r is_r) ∙ named name operands s is_s))
+one_request (name ∷ operands) r s is_r is_s = grind (arith, eqb-false, key_of, named)
