@@ -1,4 +1,4 @@
-ghost use Rattle.std.specs.Prelude.{◌≡◌, ◌≤◌, length};
+ghost use Rattle.std.specs.Prelude.{length};
 
 use crate::fitting::{are_items, are_ranges, size};
 use cap_bytes::View;
