@@ -79,9 +79,6 @@ within_front n (suc k) [] h i d lt = absurd (omega (arith, lt))
 within_front n (suc k) (x ∷ xs) h zero d lt = h 0 x (omega arith)
 within_front n (suc k) (x ∷ xs) h (suc i) d lt = within_front n k xs (λ j e less. h (suc j) e (omega (arith, less))) i d (omega (arith, lt))
 
-within_taken : (p : ℕ → Bool) (n : ℕ) (xs : List ℕ) → All (λ a. a < n) xs → All (λ a. a < n) (take_while p xs)
-within_taken p n xs h = within_front n (prefix_len p xs) xs h
-
 -- ---- classes with more after them
 
 module _ (cs more : List NamedClass) (roles : List ℕ) (are : AreLines (outline cs roles)) (grown : AreLines (outline (cs ++ more) roles)) where
@@ -167,7 +164,7 @@ module _ (cs more : List NamedClass) (roles : List ℕ) (are : AreLines (outline
 
   run_within : (c : ℕ) → c < length cs → All (λ a. a < length cs) (home_run few c)
   unfolding home_run
-  run_within c lt = within_taken (λ a. package_of few a == package_of few c) (length cs) (chain few c) (chain_within c lt)
+  run_within c lt = grind (arith, length, chain_within, within_front)
 
   visible_front : (c : ℕ) → c < length cs → visible_entries many (cs ++ more) c ≡ visible_entries few cs c
   unfolding visible_entries visible_table

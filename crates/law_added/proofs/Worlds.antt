@@ -30,7 +30,7 @@ use Rattle.jc_resolve.proofs.ConditionLists.{AllEmpty-before}
 use Rattle.jc_resolve.proofs.NumberedLaws.{IsDescribed, all-described}
 use Rattle.jc_resolve.proofs.NamedClassLaws.{describes-class, class-described}
 use Rattle.jc_resolve.proofs.OwnClasses.{own-reference}
-use Rattle.jc_link.specs.World.{classes_of, lineage_of, table_of, methods_of, statics_of, first_classes, class_conditions, table_conditions}
+use Rattle.jc_link.specs.World.{classes_of, lineage_of, table_of, methods_of, statics_of, class_conditions, table_conditions}
 use Rattle.jc_link.specs.World.{member_conditions, conditions, AreListsOf, IsLinked}
 use Rattle.law_added.specs.Added.{Begins, HasMore}
 use Rattle.law_added.specs.Worlds.{WorldsBegin}
@@ -49,12 +49,8 @@ use Rattle.law_added.proofs.Statics.{arrays_begin, HaveStaticsThen, statics_then
 
 -- ---- conditions
 
-line_conditions : (ps : List PackageRecord) (roles : List ℕ) → AllEmpty (conditions ps roles)
-    → AllEmpty (lineage.conditions (classes_of ps roles) (first_classes ps) roles)
-line_conditions ps roles none = grind (arith)
-
 lines_of : (ps : List PackageRecord) (roles : List ℕ) → AllEmpty (conditions ps roles) → 0 < length roles → AreLines (lineage_of ps roles)
-lines_of ps roles none some = lines_are ps (slice_index roles 0) (first_classes ps) roles (line_conditions ps roles none) some
+lines_of ps roles none some = grind (arith, lines_are, slice_index)
 
 -- ---- lists
 
