@@ -23,7 +23,7 @@ use Rattle.jc_decode.specs.declared.symbols.Laid.{Laid}
 use Rattle.jc_resolve.specs.Numbering.{numbered_class, method_at}
 use Rattle.jc_resolve.specs.References.{class_named}
 use Rattle.jc_resolve.specs.WorldTypes.{class_or_object, type_class, type_of}
-use Rattle.jc_resolve.specs.NamedClasses.{fields_described, instance_fields, cells_by, cells_of_field, cells_of_fields, dispatch_entry}
+use Rattle.jc_resolve.specs.NamedClasses.{fields_described, instance_fields, cells_of_field, cells_of_fields, dispatch_entry}
 use Rattle.jc_resolve.specs.NamedClasses.{interface_named, implemented_interfaces, parent_named, named_class, named_classes}
 use Rattle.jc_resolve.proofs.Pairwise.{each-split}
 use Rattle.law_package.specs.Changes.{Change, changes, now_at}
@@ -56,10 +56,6 @@ pub type_same : (ps : List PackageRecord) (p q : PackageRecord) (laid : List (Op
 unfolding type_of
 type_same ps p q laid object k t r = rw (type_class_same ps p q laid object k t.class_ref r) refl
 
-cells_by_same : (ps : List PackageRecord) (p q : PackageRecord) (laid : List (Option Laid)) (object k : ℕ) (o : Option TypeItem)
-    → IsRewritten p laid q → cells_by (and_last ps q) object k o ≡ cells_by (and_last ps p) object k o
-cells_by_same ps p q laid object k x r = grind (arith, type_same)
-
 pub flat_same : {X Y : Type 0} (f g : X → List Y) (xs : List X) → ((x : X) → f x ≡ g x) → flat_map f xs ≡ flat_map g xs
 flat_same f g [] h = refl
 flat_same f g (x ∷ xs) h = ap (λ ys. ys ++ flat_map f xs) (h x) ∙ ap (λ ys. g x ++ ys) (flat_same f g xs h)
@@ -74,7 +70,7 @@ cells_same : (ps : List PackageRecord) (p q : PackageRecord) (laid : List (Optio
     (fields : List FieldDescriptor) → IsRewritten p laid q → ((f : FieldDescriptor) → field_type e f.ty ≡ field_type d f.ty)
     → cells_of_fields (and_last ps q) object k e fields ≡ cells_of_fields (and_last ps p) object k d fields
 unfolding cells_of_fields cells_of_field
-cells_same ps p q laid object k d e fields r h = grind (arith, flat_same, cells_by_same)
+cells_same ps p q laid object k d e fields r h = grind (arith, flat_same, type_same)
 
 instances_same : (p q : PackageRecord) (laid : List (Option Laid)) (offset : ℕ) → IsRewritten p laid q
     → instance_fields q.description.items.classes offset ≡ instance_fields p.description.items.classes offset

@@ -15,9 +15,8 @@ use Rattle.cap_laying.specs.Member.{numbers_of}
 use Rattle.jc_base.specs.declared.record.MethodRec.{MethodRec}
 use Rattle.jc_base.specs.declared.record.Sig.{Sig}
 use Rattle.jc_decode.specs.declared.symbols.Laid.{Laid}
-use Rattle.jc_resolve.specs.References.{class_named}
 use Rattle.jc_resolve.specs.WorldTypes.{declared_signature}
-use Rattle.jc_resolve.specs.NamedMethods.{offset_in_info, body_after, body_by, class_described, is_class, have_headers, method_with, named_method}
+use Rattle.jc_resolve.specs.NamedMethods.{offset_in_info, body_after, body_by, class_described, have_headers, method_with, named_method}
 use Rattle.law_package.specs.Changes.{Change, sources, changes, changes_of}
 use Rattle.law_package.specs.Written.{IsAs, IsMethodWritten}
 use Rattle.law_package.specs.Rewritten.{IsRewritten}
@@ -87,14 +86,11 @@ twin_changes p q laid P r h =
 
 -- ---- headers
 
-placed_by : (b c : Bool) → not b && c ≡ true → b ≡ false
-placed_by x c e = grind (arith, false≢true)
-
 -- a method that has a header is one of a class
 pub of_class : (ps : List PackageRecord) (k : ℕ) (p : PackageRecord) (c : ClassDescriptor) → have_headers ps k p c ≡ true
     → names_interface p.classes c.class_ref ≡ false
 unfolding have_headers
-of_class ps k p c e = placed_by (names_interface p.classes c.class_ref) (is_class ps (class_named ps k c.class_ref)) e
+of_class ps k p c e = grind (arith, false≢true)
 
 pub twin_headers : (ps : List PackageRecord) (k : ℕ) (p q : PackageRecord) (laid : List (Option Laid)) (t : Twin)
     → IsRewritten p laid q → IsKnownTwin p q laid t → have_headers ps k q t.new_class ≡ have_headers ps k p t.old_class
@@ -165,10 +161,6 @@ abbrev pub abstract_of : Option Header → Bool
 abstract_of None = true
 abstract_of (Some h) = is_abstract h
 
-abstract_body : (ps : List PackageRecord) (throwable k : ℕ) (x : PackageRecord) (m : MethodDescriptor) (sig : Sig) (o : Option Header)
-    → (body_by ps throwable k x m sig o).is_abstract ≡ abstract_of o
-abstract_body ps throwable k x m sig x2 = grind (arith)
-
 header_as : (p q : PackageRecord) (all : List Change) (n : ℕ) (t : Twin) (k : IsKnown p q all (change_of n t)) (o : Option Laid)
     → IsAs p q t.old o t.new → ((l : Laid) → o ≡ Some l → is_abstract k.was.header ≡ false)
     → abstract_of (header_in q.methods.info t.new.method_offset) ≡ is_abstract k.was.header
@@ -196,4 +188,4 @@ pub abstract_bodies : (ps qs : List PackageRecord) (throwable k : ℕ) (x y : Pa
     → abstract_of (header_in y.methods.info n.method_offset) ≡ abstract_of (header_in x.methods.info m.method_offset)
     → (body_by qs throwable k y n sig' (header_in y.methods.info n.method_offset)).is_abstract
     ≡ (body_by ps throwable k x m sig (header_in x.methods.info m.method_offset)).is_abstract
-abstract_bodies ps qs throwable k x y m n sig sig' e = grind (arith, abstract_body)
+abstract_bodies ps qs throwable k x y m n sig sig' e = grind (arith)

@@ -9,11 +9,11 @@ use Rattle.std.proofs.lemmas.Option.{slice_get-map}
 use Rattle.jc_base.specs.declared.record.Iface.{Iface}
 use Rattle.jc_base.specs.declared.record.MethodRec.{MethodRec}
 use Rattle.jc_base.specs.Class.{ClassTable}
-use Rattle.jc_base.specs.Dispatch.{has_body_in, all_have_bodies, is_concrete}
+use Rattle.jc_base.specs.Dispatch.{has_body_in, is_concrete}
 use Rattle.jc_resolve.specs.declared.fault.LinkFault.TheVariants.{InterfaceType, RoleAbstract}
 use Rattle.jc_resolve.specs.declared.named.NamedClass.{NamedClass}
 use Rattle.jc_classes.specs.Outline.{LineTable}
-use Rattle.jc_classes.specs.TableConditions.{DispatchEntry, may_stand, hole_fault, Replacement, override_fault}
+use Rattle.jc_classes.specs.TableConditions.{DispatchEntry, hole_fault, Replacement, override_fault}
 use Rattle.jc_classes.specs.TableConditions.{Implementation, serves, serves_all, interface_type_fault, conditions}
 use Rattle.jc_classes.specs.Signatures.{entry_method, entry_signature, same_signature}
 use Rattle.jc_link.specs.Roles.{role_fault, thrown_roles, abstract_roles}
@@ -43,12 +43,9 @@ signature_of x = grind (arith)
 signature_bare : (ms : List MethodRec) (entry : Option ℕ) → entry_signature (bare ms) entry ≡ entry_signature ms entry
 signature_bare ms entry = ap (option_map (λ (m : MethodRec). m.sig)) (method_bare ms entry) ∙ signature_of (entry_method ms entry)
 
-stands_bare : (t : LineTable) (c : ℕ) (o : Option MethodRec) → may_stand t c (option_map apart_from_code o) ≡ may_stand t c o
-stands_bare t c x = grind (arith)
-
 hole_bare : (t : LineTable) (ms : List MethodRec) (e : DispatchEntry) → hole_fault t (bare ms) e ≡ hole_fault t ms e
 unfolding hole_fault
-hole_bare t ms e = grind (arith, method_bare, stands_bare)
+hole_bare t ms e = grind (arith, method_bare)
 
 override_bare : (ms : List MethodRec) (x : Replacement) → override_fault (bare ms) x ≡ override_fault ms x
 unfolding override_fault
@@ -86,12 +83,9 @@ class_conditions_same t cs now old e = sym (classes_bare t cs now) ∙ ap (condi
 body_bare : (o : Option MethodRec) → has_body_in (option_map apart_from_code o) ≡ has_body_in o
 body_bare x = grind (arith)
 
-bodies_bare : (ms : List MethodRec) (ns : List ℕ) → all_have_bodies (bare ms) ns ≡ all_have_bodies ms ns
-bodies_bare ms ns = grind (arith, tests_same, slice_get-map, body_bare, slice_get)
-
 concrete_bare : (t : ClassTable) (ms : List MethodRec) (c : ℕ) → is_concrete t (bare ms) c ≡ is_concrete t ms c
 unfolding is_concrete
-concrete_bare t ms c = grind (arith, length, not, bodies_bare, tests_same)
+concrete_bare t ms c = grind (arith, length, not, tests_same, slice_get-map, body_bare, slice_get)
 
 role_bare : (t : ClassTable) (ms : List MethodRec) (k : ℕ) → role_fault t (bare ms) k ≡ role_fault t ms k
 unfolding role_fault
