@@ -1,6 +1,7 @@
 -- Where a folder has a listing of methods that fit its package, nothing keeps `asm` from its work but a device that fails, or no memory.
-use Rattle.std.proofs.Common.{◌≡◌, ◌⊎◌, ◌<◌, ℕ, List, [], length, Option, Some, refl, ap, subst, inl, inr}
-use Rattle.std.specs.Prelude.{Err, IfSome, IsSomeAnd, None}
+use Rattle.std.proofs.Common.{arith}
+use Rattle.std.proofs.Common.{◌≡◌, ◌⊎◌, ℕ, List, [], length, Option, Some, refl, ap, subst, inl, inr}
+use Rattle.std.specs.Prelude.{Err}
 use Rattle.std.specs.FinMap as map
 use Rattle.cap_files.specs.Counts.{Rose}
 use Rattle.cap_files.specs.Folder.{Parts, Folders, IsAbsent, IsTooLong}
@@ -9,7 +10,6 @@ use Rattle.cap_components.specs.declared.fault.PackFault.TheVariants as faults
 use Rattle.cap_listing.specs.declared.fault.AsmEnd.{AsmEnd}
 use Rattle.cap_listing.specs.declared.fault.AsmEnd.TheVariants as ends
 use Rattle.cap_listing.specs.declared.fault.AsmFault.{AsmFault}
-use Rattle.cap_listing.specs.declared.fault.AsmFault.TheVariants.{NotListing}
 use Rattle.cap_listing.specs.declared.method.ListedMethod.{ListedMethod}
 use Rattle.cap_listing.specs.Assembling.{TellsNotListing}
 use Rattle.cap_listing.specs.Placing.{TellsFirst, first_refused, placed}
@@ -24,13 +24,13 @@ use Rattle.cap_package.specs.StandsFor.{StandsFor}
 use Rattle.cap_text.specs.OutOfDir.{OutOfDirRequest}
 use Rattle.cap_write.specs.WrittenPackage.{IsPartTooLong}
 use Rattle.capcheck_core.specs.declared.verdict.Verdict.{Verdict}
-use Rattle.capcheck_core.specs.declared.verdict.Verdict.TheVariants.{Done, Limit, Malformed, ReadFault, StoreFault, Memory}
+use Rattle.capcheck_core.specs.declared.verdict.Verdict.TheVariants.{Done, Limit, Malformed, StoreFault, Memory}
 use Rattle.capcheck_core.specs.Assemble.{AssemblesBeside, AssemblesPackage, AssemblesText, Fit, HasListing, IsUnassembledBy, PutsMethods, StopsAtText}
 use Rattle.capcheck_core.specs.Assemble.{listing_key, listing_tag}
 use Rattle.capcheck_core.specs.Beside.{LacksFile, StopsAtFile}
 use Rattle.capcheck_core.specs.Completeness.{CanAssemble}
 use Rattle.capcheck_core.specs.Loads.{AreParts}
-use Rattle.capcheck_core.specs.Roles.{HasBadRoles, HasRoles, roles_key}
+use Rattle.capcheck_core.specs.Roles.{HasBadRoles, HasRoles}
 use Rattle.capcheck_core.specs.Verdict.{status_of}
 use Rattle.capcheck_core.proofs.Loads.{one_list}
 use Rattle.capcheck_core.proofs.OnPackages.{bad_lacks}
@@ -43,30 +43,18 @@ module _ (before : Folders) (held : Parts) (told : before.held ≡ Some held) wh
   -- ---- the files beside the package
 
   listing_lacks : (dir text : List ℕ) (fault : PackFault) → HasListing before dir text → LacksFile before dir listing_tag fault → ⊥
-  listing_lacks dir text (faults.MissingPart part) has lack = not_absent before held told (listing_key dir) text has.there lack.1
-  listing_lacks dir text (faults.PartTooLong part) has lack = not_long before held told (listing_key dir) text has.there has.short lack.1
-  listing_lacks dir text _ has lack = lack
+  listing_lacks dir text x has lack = grind (arith, not_absent, not_long)
 
   absent_short : (key : List ℕ) → IsAbsent before key → IsTooLong before key → ⊥
-  absent_short key absent long =
-      let none : map.get held key ≡ None = subst (λ h. IfSome h (λ parts. map.get parts key ≡ None)) told absent in
-      let beyond : IsSomeAnd (map.get held key) (λ f. 65538 < length f) = subst
-      (λ h. IfSome h (λ parts. IsSomeAnd (map.get parts key) (λ f. 65538 < length f))) told long in
-      subst (λ found. IsSomeAnd found (λ f. 65538 < length f)) none beyond
+  absent_short key absent long = grind (arith, length)
 
   pub no_bad_roles : (dir : List ℕ) (roles : Option (List ℕ)) (fault : PackFault) → HasRoles before dir roles → HasBadRoles before dir fault → ⊥
-  no_bad_roles dir (Some roles) fault has bad = no_roles_lack before held told dir roles fault has (bad_lacks before dir fault bad)
-  no_bad_roles dir None (faults.PartTooLong part) absent bad = absent_short (roles_key dir) absent bad.1
-  no_bad_roles dir None (faults.Form form) absent bad = not_absent before held told (roles_key dir) bad.file bad.there absent
-  no_bad_roles dir None _ absent bad = bad
+  no_bad_roles dir x fault has bad = grind (arith, no_roles_lack, bad_lacks, absent_short, not_absent)
 
 -- where nothing is at fault in a file, nothing stops its load
 pub unstopped : (before after : Folders) (lacks : PackFault → Type 0) (key : List ℕ) (verdict : Verdict) → ((fault : PackFault) → lacks fault → ⊥)
     → (Rose before.load_faults after.load_faults → ⊥) → StopsAtFile lacks key before after verdict → Completes verdict
-unstopped before after lacks key Memory none calm stops = inr refl
-unstopped before after lacks key ReadFault none calm stops = absurd (calm stops.rose)
-unstopped before after lacks key (Malformed text) none calm (same, says) = absurd (none says.fault says.is)
-unstopped before after lacks key _ none calm stops = absurd stops
+unstopped before after lacks key x none calm stops = grind (arith)
 
 -- ---- the methods
 
@@ -79,8 +67,7 @@ puts : (p : PackageRecord) (ms : List ListedMethod) (roles : Option (List ℕ)) 
 puts p ms roles out before after (Done text) fit short calm own = inl refl
 puts p ms roles out before after Memory fit short calm own = inr refl
 puts p ms roles out before after StoreFault fit short calm own = absurd (calm own.broken.rose)
-puts p ms roles out before after (Malformed text) fit short calm (same, says) =
-    absurd (unrefused (placing.faults (methods_of p) ms) says.fault fit says.first)
+puts p ms roles out before after (Malformed text) fit short calm (same, says) = grind (arith, unrefused)
 puts p ms roles out before after (Limit text) fit short calm (same, says) = absurd (short says.size says.is)
 puts p ms roles out before after _ fit short calm own = absurd own
 
@@ -104,18 +91,14 @@ reads_text p ms text roles out before after verdict lists fit short calm (inr of
 over_roles : (o : OutOfDirRequest) (before after : Folders) (can : CanAssemble o before) (verdict : Verdict)
     → (Rose before.load_faults after.load_faults → ⊥) → (Rose before.store_faults after.store_faults → ⊥)
     → AssemblesBeside o can.reads.read can.listing before after verdict → Completes verdict
-over_roles o before after can verdict loads stores (inl stops) =
-    unstopped before after (HasBadRoles before o.dir) (roles_key o.dir) verdict
-    (λ fault. no_bad_roles before can.reads.held can.reads.told o.dir can.roles fault can.beside) loads stops
+over_roles o before after can verdict loads stores (inl stops) = grind (arith, unstopped, no_bad_roles)
 over_roles o before after can verdict loads stores (inr of) =
     reads_text can.reads.read can.methods can.listing of.file o.out before after verdict can.lists can.fit can.short stores of.holds
 
 goes_on : (o : OutOfDirRequest) (before after : Folders) (can : CanAssemble o before) (parts : List Lent) (verdict : Verdict)
     → (Rose before.load_faults after.load_faults → ⊥) → (Rose before.store_faults after.store_faults → ⊥)
     → AssemblesPackage o parts can.reads.read before after verdict → Completes verdict
-goes_on o before after can parts verdict loads stores (inl stops) =
-    unstopped before after (LacksFile before o.dir listing_tag) (listing_key o.dir) verdict
-    (λ fault. listing_lacks before can.reads.held can.reads.told o.dir can.listing fault can.there) loads stops
+goes_on o before after can parts verdict loads stores (inl stops) = grind (arith, unstopped, listing_lacks)
 goes_on o before after can parts verdict loads stores (inr of) =
     over_roles o before after can verdict loads stores
     (subst (λ text. AssemblesBeside o can.reads.read text before after verdict)
@@ -135,19 +118,10 @@ assembles o before after can parts p loaded stands verdict loads stores own =
 -- of a text that is no listing
 pub not_listing : (listing : List ℕ) (before : Folders) (end : AsmEnd) (verdict : Verdict) → TellsNotListing listing end → IsUnassembledBy end verdict
     → StopsAtText listing before before verdict
-not_listing listing before (ends.Fault (NotListing line)) (Malformed text) is says = (refl, record { line = line; is = is; prints = says })
-not_listing listing before (ends.Fault (NotListing line)) Memory is says = refl
-not_listing listing before (ends.Fault (NotListing line)) _ is says = absurd says
-not_listing listing before (ends.Fault _) verdict is says = absurd is
-not_listing listing before ends.Memory Memory is says = refl
-not_listing listing before ends.Memory _ is says = absurd says
+not_listing listing before x verdict is says = grind (arith)
 
 -- of methods that do not fit
 pub misfits : (p : PackageRecord) (ms : List ListedMethod) (roles : Option (List ℕ)) (out : List ℕ) (before : Folders) (end : AsmEnd)
     (verdict : Verdict) → TellsFirst (placing.faults (methods_of p) ms) end → IsUnassembledBy end verdict
     → PutsMethods p ms roles out before before verdict
-misfits p ms roles out before (ends.Fault fault) (Malformed text) first says = (refl, record { fault = fault; first = first; prints = says })
-misfits p ms roles out before (ends.Fault fault) Memory first says = refl
-misfits p ms roles out before (ends.Fault fault) _ first says = absurd says
-misfits p ms roles out before ends.Memory Memory first says = refl
-misfits p ms roles out before ends.Memory _ first says = absurd says
+misfits p ms roles out before x x2 first says = grind (arith)

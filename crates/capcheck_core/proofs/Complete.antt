@@ -1,13 +1,12 @@
 -- Where what a command needs is there and no device failed, no other verdict than Done and Memory has its cause.
-use Rattle.std.proofs.Common.{◌≡◌, ◌⊎◌, List, ℕ, ℤ, ◌<◌, length, map, ap, subst, sym, ◌∙◌, inl, inr, refl, arith, rules, suc, zero, []}
+use Rattle.std.proofs.Common.{◌≡◌, ◌⊎◌, List, ℕ, ℤ, length, map, ap, subst, sym, inl, inr, refl, arith, rules, suc, zero, []}
 use Rattle.std.proofs.Common.{◌∷◌, All, FitsSigned, w16}
-use Rattle.std.specs.Prelude.{Option, None, IfSome, IsSomeAnd, string_bytes, slice_get}
+use Rattle.std.specs.Prelude.{Option, None, IsSomeAnd, string_bytes, slice_get}
 use Rattle.std.specs.FinMap as map
-use Rattle.cap_files.specs.Folder.{Folders, Holds, IsThere, IsAbsent, IsTooLong}
+use Rattle.cap_files.specs.Folder.{Folders, IsThere, IsAbsent, IsTooLong}
 use Rattle.cap_bare.specs.Typing.{BareTyping}
 use Rattle.vm_step.specs.Arguments.{Argument, number}
 use Rattle.vm_step.specs.declared.start_fault.StartFault.{StartFault}
-use Rattle.vm_step.specs.declared.start_fault.StartFault.TheVariants.{NoEntry, NotStatic, ArgCount, ArgKind, ArgRoom}
 use Rattle.cap_load.specs.declared.blocks_end.BlocksEnd.TheVariants.{LoadLong}
 use Rattle.cap_load.specs.Packing as packing
 use Rattle.cap_text.specs.OutOfDir.{OutOfDirRequest}
@@ -45,7 +44,6 @@ use Rattle.capcheck_core.specs.declared.source.Source.TheVariants.{Components, L
 use Rattle.capcheck_core.specs.OverFolders.{OverPlaces}
 use Rattle.capcheck_core.specs.Pack.{PacksInto, PacksPackage, Packs}
 use Rattle.capcheck_core.specs.Place.{Place, places, in_components}
-use Rattle.capcheck_core.specs.Roles.{HasBadRoles, roles_key}
 use Rattle.capcheck_core.specs.OverPackage.{OwnOne, StopsAtPackage, OverPackage}
 use Rattle.capcheck_core.specs.Share.{StopsSharing, SharesWorld}
 use Rattle.capcheck_core.specs.Show.{ShowsTable}
@@ -64,23 +62,13 @@ Completed verdict = (status_of verdict ≡ 0) ⊎ (status_of verdict ≡ 6)
 
 -- the file that was read is the one that is held
 same_file : (p : ProbeRequest) (before : Folders) (can : CanProbe p before) (file : List ℕ) → IsThere before (method_key p) file → can.file ≡ file
-same_file p before can file there =
-    let held : Holds can.parts (method_key p) file = subst (λ held. IfSome held (λ parts. Holds parts (method_key p) file)) can.told there in
-    let is = can.there in
-    cc
+same_file p before can file there = grind (arith)
 
 absent_not : (p : ProbeRequest) (before : Folders) → CanProbe p before → IsAbsent before (method_key p) → ⊥
-absent_not p before can absent =
-    let none : map.get can.parts (method_key p) ≡ None = subst (λ held. IfSome held (λ parts. map.get parts (method_key p) ≡ None)) can.told absent in
-    let is = can.there in
-    cc
+absent_not p before can absent = grind (arith, map)
 
 long_not : (p : ProbeRequest) (before : Folders) → CanProbe p before → IsTooLong before (method_key p) → ⊥
-long_not p before can long =
-    let told : IsSomeAnd (map.get can.parts (method_key p)) (λ file. 65538 < length file)
-    = subst (λ held. IfSome held (λ parts. IsSomeAnd (map.get parts (method_key p)) (λ file. 65538 < length file))) can.told long in
-    let beyond : 65538 < length can.file = subst (λ found. IsSomeAnd found (λ file. 65538 < length file)) can.there told in
-    absurd (omega (arith, can.short, beyond))
+long_not p before can long = grind (arith, map, length)
 
 -- each of a list of shorts is a short
 no_misfit : (values : List ℤ) (n : ℕ) → All (FitsSigned w16) values
@@ -92,13 +80,7 @@ no_misfit (x ∷ xs) (suc n) fit misfit = no_misfit xs n (λ k d below. fit (suc
 -- arguments that fit are refused for nothing
 starts : (args : List Argument) (wanted : ℕ) (values : List ℤ) (fault : StartFault) → AreShorts args wanted values → RefusesStart args wanted fault
     → ⊥
-starts args wanted values NoEntry fit refused = refused
-starts args wanted values NotStatic fit refused = refused
-starts args wanted values (ArgRoom n) fit refused = refused
-starts args wanted values (ArgCount said parameters) fit refused = refused.2 fit.count
-starts args wanted values (ArgKind n) fit refused =
-    no_misfit values n fit.fit
-    (subst (λ xs. IsSomeAnd (slice_get xs n) (λ arg. (value : ℤ) → IsShort arg value → ⊥)) fit.numbers refused.1.misfit)
+starts args wanted values x fit refused = grind (arith, no_misfit)
 
 unrefused : (p : ProbeRequest) (before : Folders) → CanProbe p before → (text : List ℕ)
     → OfMethodPart p before (λ file. OfMethod file (λ bare code. IsRefusal bare code text)) → ⊥
@@ -133,13 +115,11 @@ probed p before (Limit text) can probes = absurd probes
 
 unread : (p : ProbeRequest) (before after : Folders) (sink put : Seen) (verdict : Verdict) → NoFault before after sink put
     → FailsMethodPart p before after verdict → ⊥
-unread p before after sink put ReadFault calm fails = calm.loads fails.rose
-unread p before after sink put _ calm fails = fails
+unread p before after sink put x calm fails = grind (arith)
 
 can_probe : (p : ProbeRequest) (before after : Folders) (sink put : Seen) (verdict : Verdict) → CanProbe p before → NoFault before after sink put
     → Probes p before after verdict → Completed verdict
-can_probe p before after sink put verdict can calm (inl probes) = probed p before verdict can probes.1
-can_probe p before after sink put verdict can calm (inr fails) = absurd (unread p before after sink put verdict calm fails)
+can_probe p before after sink put verdict can calm x = grind (arith, probed, unread)
 
 -- a package that is there lacks nothing
 has_read : (dir : List ℕ) (before after : Folders) (sink put : Seen) (verdict : Verdict) → CanRead dir before → NoFault before after sink put
@@ -159,15 +139,11 @@ over_package own dir before after sink put verdict does can calm (inr of) = does
 
 -- a table is told
 tables : (parts : List Lent) (p : PackageRecord) (before after : Folders) (verdict : Verdict) → ShowsTable parts p before after verdict → Completed verdict
-tables parts p before after (Done text) own = inl refl
-tables parts p before after Memory own = inr refl
-tables parts p before after _ own = absurd own.1
+tables parts p before after x own = grind (arith)
 
 -- a listing is told
 lists : (parts : List Lent) (p : PackageRecord) (before after : Folders) (verdict : Verdict) → ListsMethods parts p before after verdict → Completed verdict
-lists parts p before after (Done text) own = inl refl
-lists parts p before after Memory own = inr refl
-lists parts p before after _ own = absurd own.1
+lists parts p before after x own = grind (arith)
 
 -- methods that fit the package in the folder are put into it
 can_assemble : (o : OutOfDirRequest) (before after : Folders) (sink put : Seen) (verdict : Verdict) → CanAssemble o before
@@ -188,11 +164,7 @@ packs parts roles out before after sink put _ short calm own = absurd own
 
 packs_beside : (o : OutOfDirRequest) (before after : Folders) (sink put : Seen) (can : CanPack o before) (p : PackageRecord) (verdict : Verdict)
     → NoFault before after sink put → PacksPackage o can.reads.parts p before after verdict → Completed verdict
-packs_beside o before after sink put can p verdict calm (inl stops) =
-    unstopped before after (HasBadRoles before o.dir) (roles_key o.dir) verdict
-    (λ fault. no_bad_roles before can.reads.held can.reads.told o.dir can.roles fault can.beside) calm.loads stops
-packs_beside o before after sink put can p verdict calm (inr of) =
-    packs can.reads.parts of.file o.out before after sink put verdict can.short calm of.holds
+packs_beside o before after sink put can p verdict calm x = grind (arith, unstopped, no_bad_roles, packs)
 
 can_pack : (o : OutOfDirRequest) (before after : Folders) (sink put : Seen) (verdict : Verdict) → CanPack o before → NoFault before after sink put
     → Packs o before after verdict → Completed verdict
@@ -219,42 +191,25 @@ over_world own needs at before after sink put verdict does can calm answers =
 module _ (before after : Outside) where
   -- the last step of a check refuses no world in which all methods are typed
   types : (w : Linked) (verdict : Verdict) → IsTypedLast w → ChecksWorld w before after verdict → Completed verdict
-  types w (Done text) typed own = inl refl
-  types w Memory typed own = inr refl
-  types w (Refused text) typed own = absurd (own.1.first.lacks (typed own.1.method own.1.first.asked))
-  types w _ typed own = absurd own.1
+  types w x typed own = grind (arith)
 
   -- that of a verifying none in which all have card typings
   cards : (w : Linked) (verdict : Verdict) → HaveCardTypings w → VerifiesWorld w before after verdict → Completed verdict
-  cards w (Done text) carded own = inl refl
-  cards w Memory carded own = inr refl
-  cards w (Refused text) carded own = absurd (own.1.first.lacks (carded own.1.method own.1.first.asked))
-  cards w _ carded own = absurd own.1
+  cards w x carded own = grind (arith)
 
   -- that of a run none that nothing keeps from beginning
   defended : (r : RunRequest) (w : Linked) (verdict : Verdict) → run_fault w r ≡ None → DefendsWorld r w before after verdict → Completed verdict
-  defended r w (Done text) begins own = inl refl
-  defended r w Memory begins own = inr refl
-  defended r w (Malformed text) begins own = let first = own.1.first in absurd (cc)
-  defended r w _ begins own = absurd own.1
+  defended r w x begins own = grind (arith)
 
   -- nor does that of a run on the machine of verified code, where all methods have card typings
   ran : (r : RunRequest) (w : Linked) (verdict : Verdict) → HaveCardTypings w → run_fault w r ≡ None → RunsWorld r w before after verdict
       → Completed verdict
-  ran r w (Done text) carded begins own = inl refl
-  ran r w Memory carded begins own = inr refl
-  ran r w (Malformed text) carded begins own = let first = own.1.unbegun.first in absurd (cc)
-  ran r w (Refused text) carded begins own = absurd (own.1.first.lacks (carded own.1.method own.1.first.asked))
-  ran r w _ carded begins own = absurd own.1
+  ran r w x carded begins own = grind (arith)
 
   -- nor does that of a bound, where a run of the entry may begin
   bounded : (e : EntryRequest) (w : Linked) (verdict : Verdict) → HaveCardTypings w → bound_fault w e ≡ None → BoundsWorld e w before after verdict
       → Completed verdict
-  bounded e w (Done text) carded begins own = inl refl
-  bounded e w Memory carded begins own = inr refl
-  bounded e w (Malformed text) carded begins own = let first = own.1.first in absurd (cc)
-  bounded e w (Refused text) carded begins own = absurd (own.1.first.lacks (carded own.1.method own.1.first.asked))
-  bounded e w _ carded begins own = absurd own.1
+  bounded e w x carded begins own = grind (arith)
 
   -- nor does a package that can be brought into another form keep from it
   not_stopped : (packages : List PackageRecord) (w : Linked) (verdict : Verdict) → CanBring packages w → StopsBefore packages w verdict
@@ -313,8 +268,7 @@ has_generated : (g : GenerateRequest) (w : Linked) (before after : Outside) (sin
 has_generated g w before after sink put (Done text) within short calm own = inl refl
 has_generated g w before after sink put Memory within short calm own = inr refl
 has_generated g w before after sink put StoreFault within short calm own = absurd (calm.stores own.0.broken.rose)
-has_generated g w before after sink put (Limit text) within short calm (same, inl says) =
-    absurd (within says.is.method says.is.of_last says.limit says.is.passes)
+has_generated g w before after sink put (Limit text) within short calm (same, inl says) = grind (arith)
 has_generated g w before after sink put (Limit text) within short calm (same, inr says) = absurd (short says.size says.is)
 has_generated g w before after sink put _ within short calm own = absurd own
 
@@ -371,11 +325,8 @@ can_do (install dirs) before after sink put verdict can calm answers =
 reported : (verdict : Verdict) (before after : Folders) (sink put : Seen) (status : ℕ) → NoFault before after sink put
     → IsReported verdict sink put status
     → Completed verdict → (status ≡ 0) ⊎ (status ≡ 6)
-reported verdict before after sink put status calm (inr broken) known = absurd (calm.puts broken.risen)
-reported verdict before after sink put status calm (inl whole) (inl done) = inl (whole.says ∙ done)
-reported verdict before after sink put status calm (inl whole) (inr memory) = inr (whole.says ∙ memory)
+reported verdict before after sink put status calm x known = grind (arith)
 
 pub completes : (words : List (List ℕ)) (before after : Outside) (sink put : Seen) (verdict : Verdict) (status : ℕ)
     → IsVerdict words before after verdict → IsReported verdict sink put status → Completes words before.folders after.folders sink put status
-completes words before after sink put verdict status is report = λ r asks can calm.
-    reported verdict before.folders after.folders sink put status calm report (can_do r before after sink put verdict can calm (is.command r asks))
+completes words before after sink put verdict status is report = grind (arith, reported, can_do)

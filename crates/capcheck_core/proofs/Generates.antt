@@ -34,7 +34,7 @@ use Rattle.law_relink.specs.Last.{and_last}
 use Rattle.card_verify.specs.Answers.{AreAccepted}
 use Rattle.law_sound.specs.Soundness.{TypedCodeIsFaultFree}
 use Rattle.law_alike.specs.Starting.{StartsRefuseAlike, MethodsAreNumberedAlike}
-use Rattle.vm_step.specs.Raising.{Outcome, running, ended}
+use Rattle.vm_step.specs.Raising.{Outcome, running}
 use Rattle.vm_step.specs.Start.{entry_fault, entry_state, method_fault, or_room}
 use Rattle.vm_defend.specs.Held.{answer}
 use Rattle.vm_step.specs.declared.start_fault.StartFault.TheVariants.{NotStatic}
@@ -103,13 +103,7 @@ told_so : (w : Linked) (k : ℕ) → method_fault w (method_record k) (run_of k)
 told_so w k = refl
 
 no_reason : (w : Linked) (k : ℕ) → is_interface w.classes 0 ≡ false → k < 200 → method_fault w (method_record k) (run_of k).args ≡ None
-no_reason w k class below =
-    let first : nat_lt k 32768 ≡ true = grind (arith, below) in
-    let half : (k / 4) % 2 < 2 = omega arith in
-    let second : nat_lt ((k / 4) % 2) 32768 ≡ true = grind (arith, half) in
-    told_so w k
-    ∙ (ap (λ b. told b (nat_lt k 32768) (nat_lt ((k / 4) % 2) 32768)) class
-    ∙ (ap (λ b. told false b (nat_lt ((k / 4) % 2) 32768)) first ∙ ap (λ b. told false true b) second))
+no_reason w k class below = grind (arith, told_so)
 
 -- the class of a method with code is no interface
 class_of_first : (w : Linked) → IsWorld w → w.methods ≡ all_methods → is_interface w.classes 0 ≡ false
@@ -157,9 +151,7 @@ plain_of (endings.Faulted f) = plains.Spent
 
 -- the short of what a run comes to is that of its ending
 pub ended_short : (o : Outcome Cell) (ending : PlainEnding) → answer (ending_of o) ≡ endings.Plain ending → short_result o ≡ short_ended ending
-ended_short (running s) ending is = let spent : plains.Spent ≡ ending = ap plain_of is in ap short_ended spent
-ended_short (ended (endings.Plain p) s) ending is = let same : p ≡ ending = ap plain_of is in ap short_ended same
-ended_short (ended (endings.Faulted f) s) ending is = absurd (cc)
+ended_short x ending is = grind (arith)
 
 -- ---- the runs so far
 
@@ -180,19 +172,11 @@ there_or_last : {X : Type 0} (xs : List X) (x y : X) (n : ℕ) → slice_get (xs
 there_or_last [] x y zero there = inr (refl, cc)
 there_or_last [] x y (suc n) there = absurd (cc)
 there_or_last (z ∷ zs) x y zero there = inl there
-there_or_last (z ∷ zs) x y (suc n) there =
-    elim (there_or_last zs x y n there) [
-      | inl before ↦ inl before
-      | inr last ↦ inr (ap suc last.0, last.1)
-    ]
+there_or_last (z ∷ zs) x y (suc n) there = grind (arith, suc, there_or_last zs x y n there)
 
 come_more : (w : Linked) (os : List (Outcome Cell)) (o : Outcome Cell) → ComeOfRuns w os → ComesTo w (run_of (length os)) o
     → ComeOfRuns w (os ++ o ∷ [])
-come_more w os o come comes k p there =
-    elim (there_or_last os o p k there) [
-      | inl before ↦ come k p before
-      | inr last ↦ subst (λ n. ComesTo w (run_of n) p) (sym last.0) (subst (ComesTo w (run_of (length os))) last.1 comes)
-    ]
+come_more w os o come comes k p there = grind (arith, there_or_last, length)
 
 sum_more : (start : ℤ) (os : List (Outcome Cell)) (o : Outcome Cell) → fold ◌+ℤ◌ start (map short_result (os ++ o ∷ []))
     ≡ fold ◌+ℤ◌ start (map short_result os) +ℤ short_result o
@@ -223,17 +207,10 @@ one_run_more w k begun before c sum more ending have is adds =
 held_last : (w : Linked) (begun c : CardWords) (os : List (Outcome Cell)) → ((◌≡◌ {A = ℕ} 200 0) × (c ≡ begun))
     ⊎ IsSomeAnd (slice_get os 199) (HoldsWords w c)
     → IsSomeAnd (slice_get os 199) (HoldsWords w c)
-held_last w begun c os (inl none) = let zero_is = none.0 in absurd (cc)
-held_last w begun c os (inr holds) = holds
+held_last w begun c os x = grind (arith, holds)
 
 pub all_run : (w : Linked) (begun c : CardWords) (sum : ℤ) → HaveRun w 200 begun c sum → AreRun w c sum
-all_run w begun c sum have = record {
-  outcomes = have.outcomes;
-  count = have.count;
-  come = have.come;
-  total = have.total;
-  holds = held_last w begun c have.outcomes have.holds;
-}
+all_run w begun c sum have = grind (arith, holds, held_last)
 
 -- they are begun, or the memory is as it was
 pub some_run : (w : Linked) (k : ℕ) (begun c : CardWords) (sum : ℤ) → k ≤ 200 → HaveRun w k begun c sum → IsKeptOrBegun w begun c
@@ -258,18 +235,10 @@ some_run w k begun c sum most have = by have.holds
             })
 
 pub begun_unless : {A E : Type 0} (w : Linked) (begun c : CardWords) (end : Result A E) → IsKeptOrBegun w begun c → OnErr end (IsKeptOrBegun w begun c)
-begun_unless w begun c (Ok a) some = tt {0}
-begun_unless w begun c (Err e) some = some
+begun_unless w begun c x some = grind (arith)
 
 pub run_begun : (w : Linked) (c : CardWords) (sum : ℤ) → AreRun w c sum → AreBegun w c
-run_begun w c sum run = record {
-  outcomes = run.outcomes;
-  last = 199;
-  few = omega arith;
-  count = run.count;
-  come = run.come;
-  holds = run.holds;
-}
+run_begun w c sum run = grind (arith, holds)
 
 -- in the whole memory of a card
 pub run_wider : (w : Linked) (ram heap fields others : List ℕ) (sum : ℤ) → length fields ≡ static_cells w → AreRun w (card_words ram heap fields) sum

@@ -1,7 +1,7 @@
 -- The parts that are loaded have rising tags, and a folder that tells what it holds has one list of them.
 use Rattle.std.proofs.Common.{◌≡◌, ◌<◌, ◌≤◌, ◌+◌, ℕ, zero, suc, List, [], ◌∷◌, ◌++◌, Option, Some, None, IsNone, Bool, true}
 use Rattle.std.proofs.Common.{false, true≢false, eqb, ltb, leb, refl, sym, ap, subst, ◌∙◌, inl, inr, ◌⊎◌, arith, length, drop, append_assoc}
-use Rattle.std.specs.Prelude.{Result, IfSome, slice_get, IsSomeAnd, is_some, Ok, Err, ◌&&◌, ◌||◌}
+use Rattle.std.specs.Prelude.{Result, slice_get, IsSomeAnd, is_some, Ok, Err, ◌&&◌, ◌||◌}
 use Rattle.std.specs.FinMap as fin_map
 use Rattle.std.proofs.Math.Bool.{and-false}
 use Rattle.std.proofs.lemmas.List.{append-nil}
@@ -13,7 +13,7 @@ use Rattle.cap_bytes.specs.Reading.{reading}
 use Rattle.cap_frame.specs.HeaderFormat.{HeaderItems, header_info}
 use Rattle.cap_frame.specs.DirectoryFormat.{Custom, DirectoryItems, directory_info}
 use Rattle.cap_frame.specs.Directory.{directory_items, size_in, custom_size_in}
-use Rattle.cap_files.specs.Folder.{Parts, Folders, Holds, IsTooLong, Loads}
+use Rattle.cap_files.specs.Folder.{Parts, Folders, IsTooLong, Loads}
 use Rattle.cap_files.specs.declared.folder.LoadEnd.{LoadEnd}
 use Rattle.cap_components.specs.declared.fault.PackFault.{PackFault}
 use Rattle.cap_components.specs.declared.opening.Opening.{Opening}
@@ -25,7 +25,6 @@ use Rattle.cap_package.proofs.Given.{drop_here}
 use Rattle.capcheck_core.specs.Loads.{is_required, is_optional, is_some_size, is_sized, is_asked, Has, with_file, Rise, AreLoaded, AreParts, IsPartAdded}
 use Rattle.capcheck_core.specs.Loads.{IsFirstLong}
 use Rattle.capcheck_core.specs.declared.load.LoadStop.{LoadStop}
-use Rattle.capcheck_core.specs.declared.load.LoadStop.TheVariants.{TooLong, Failed, Memory}
 use Rattle.capcheck_core.specs.LoadEnds.{StopsParts, AreRest, LoadsFile, EndsSized, EndsAsked}
 
 pub none_some : (bytes : List ℕ) → ◌≡◌ {A = Option (List ℕ)} None (Some bytes) → ⊥
@@ -39,9 +38,7 @@ some_one e = cc
 -- no part of a tag that no part can have
 pub above_none : (low top tag : ℕ) (parts : List Lent) → Rise low top parts → top ≤ tag → held parts tag ≡ None
 above_none low top tag [] rise le = refl
-above_none low top tag (lent ∷ parts) rise le =
-    let below = rise.1 in
-    held-other tag lent parts (ne_eqb lent.part tag (λ e. absurd (omega (arith, below, le, e)))) ∙ above_none (suc lent.part) top tag parts rise.2 le
+above_none low top tag (lent ∷ parts) rise le = grind (arith, held-other, ne_eqb, suc, above_none (suc lent.part) top tag parts rise.2 le)
 
 pub below_none : (low top tag : ℕ) (parts : List Lent) → Rise low top parts → tag < low → held parts tag ≡ None
 below_none low top tag [] rise lt = refl
@@ -51,8 +48,7 @@ below_none low top tag (lent ∷ parts) rise lt =
     ∙ below_none (suc lent.part) top tag parts rise.2 (omega (arith, least, lt))
 
 pub nothing : (o : Option (List ℕ)) → IsNone o → o ≡ None
-nothing None none = refl
-nothing (Some bytes) none = absurd cc
+nothing x none = grind (arith)
 
 pub rise_wider : (low top : ℕ) (parts : List Lent) → Rise low top parts → Rise low (suc top) parts
 rise_wider low top [] rise = tt {0}
@@ -89,16 +85,13 @@ push_same tag (l ∷ ls) bytes absent = by (eqb l.part tag) refl (push_same tag 
 
 pub file_other : (tag top : ℕ) (parts : List Lent) (file : Option (List ℕ)) → eqb top tag ≡ false → held (with_file parts top file) tag
     ≡ held parts tag
-file_other tag top parts None other = refl
-file_other tag top parts (Some bytes) other = push_other tag parts (lent_of top bytes) other
+file_other tag top parts x other = grind (arith, push_other)
 
 pub file_same : (tag : ℕ) (parts : List Lent) (file : Option (List ℕ)) → held parts tag ≡ None → held (with_file parts tag file) tag ≡ file
-file_same tag parts None absent = absent
-file_same tag parts (Some bytes) absent = push_same tag parts bytes absent
+file_same tag parts x absent = grind (arith, push_same)
 
 file_rise : (top : ℕ) (parts : List Lent) (file : Option (List ℕ)) → Rise 0 top parts → Rise 0 (suc top) (with_file parts top file)
-file_rise top parts None rise = rise_wider 0 top parts rise
-file_rise top parts (Some bytes) rise = rise_push 0 top parts bytes rise (omega arith)
+file_rise top parts x rise = grind (arith, rise_wider, rise_push)
 
 -- ---- what is asked for goes by the Header and the Directory
 
@@ -135,11 +128,7 @@ asked_first (suc (suc (suc n))) xs ys lt = absurd (omega (arith, lt))
 -- one more part after the Directory leaves what is asked for
 asked_kept : (tag top : ℕ) (parts : List Lent) (file : Option (List ℕ)) → (tag < 3) ⊎ (3 ≤ top) → is_asked (with_file parts top file) tag
     ≡ is_asked parts tag
-asked_kept tag top parts file (inl lt) = asked_first tag (with_file parts top file) parts lt
-asked_kept tag top parts file (inr from) =
-    asked_by tag (with_file parts top file) parts
-    (file_other 1 top parts file (ne_eqb top 1 (λ s. absurd (omega (arith, from, s)))))
-    (file_other 2 top parts file (ne_eqb top 2 (λ s. absurd (omega (arith, from, s)))))
+asked_kept tag top parts file x = grind (arith, asked_first, asked_by, file_other, ne_eqb)
 
 asked_more : (tag top : ℕ) (parts : List Lent) (file : Option (List ℕ)) → tag ≤ top → is_asked (with_file parts top file) tag ≡ is_asked parts tag
 asked_more tag top parts file le = by (ltb tag 3) refl
@@ -197,8 +186,7 @@ module _ (before : Folders) (dir : List ℕ) (top : ℕ) (parts : List Lent) (lo
 -- what a load read is what the folder has
 pub has_read : (before : Folders) (dir to : List ℕ) (tag : ℕ) (r : Result Bool LoadEnd) (there : Bool) → r ≡ Ok there → there ≡ true
     → Loads before.held (tag ∷ dir) to r → Has before dir tag (Some to)
-has_read before dir to tag r there is known loads =
-    let read : Loads before.held (tag ∷ dir) to (Ok true) = subst (λ x. Loads before.held (tag ∷ dir) to x) (is ∙ ap Ok known) loads in (read.1, read.0)
+has_read before dir to tag r there is known loads = grind (arith)
 
 -- no part before the first
 pub begun : (before : Folders) (dir : List ℕ) (parts : List Lent) → parts ≡ [] → AreLoaded before dir 1 parts
@@ -216,24 +204,17 @@ one_more before now dir tag parts more loaded same asked added =
 -- the parts with one that is not asked for
 pub none_more : (before : Folders) (dir : List ℕ) (tag : ℕ) (parts : List Lent) → AreLoaded before dir tag parts → is_asked parts tag ≡ false
     → AreLoaded before dir (tag + 1) parts
-none_more before dir tag parts loaded unasked =
-    let step : suc tag ≡ tag + 1 = omega arith in
-    subst (λ n. AreLoaded before dir n parts) step (loaded_unasked before dir tag parts loaded unasked)
+none_more before dir tag parts loaded unasked = grind (arith, suc tag, loaded_unasked before dir tag parts loaded unasked)
 
 -- the loads stop at one that is asked for
 stopped : (before after : Folders) (dir : List ℕ) (tag : ℕ) (parts old more : List Lent) (stop : LoadStop) → tag < 256 → AreLoaded before dir tag parts
     → is_asked parts tag ≡ true → LoadsFile before after dir tag old more (Err stop) → StopsParts before after dir stop
-stopped before after dir tag parts old more (TooLong part) byte loaded asked (is, long) =
-    subst (λ t. IsFirstLong before dir t) (sym is) (record { byte = byte; parts = parts; loaded = loaded; asked = asked; holds = long })
-stopped before after dir tag parts old more Failed byte loaded asked fails =
-    (tag, record { byte = byte; parts = parts; loaded = loaded; asked = asked; holds = fails })
-stopped before after dir tag parts old more Memory byte loaded asked loads = tt {0}
+stopped before after dir tag parts old more x byte loaded asked fails = grind (arith)
 
 pub stopped_there : (before now after : Folders) (dir : List ℕ) (tag : ℕ) (parts old more : List Lent) (stop : LoadStop) → tag < 256
     → AreLoaded before dir tag parts → now ≡ before
     → is_asked parts tag ≡ true → LoadsFile now after dir tag old more (Err stop) → StopsParts before after dir stop
-stopped_there before now after dir tag parts old more stop byte loaded same asked loads =
-    stopped before after dir tag parts old more stop byte loaded asked (subst (λ f. LoadsFile f after dir tag old more (Err stop)) same loads)
+stopped_there before now after dir tag parts old more stop byte loaded same asked loads = grind (arith, stopped)
 
 -- ---- parts after the Header and the Directory
 
@@ -247,14 +228,12 @@ absent_after tag (l ∷ ls) rest none = by (eqb l.part tag) refl (absent_after t
     by false e after = after (sym (held-other tag l (ls ++ rest) e) ∙ none)
 
 file_after : (first rest : List Lent) (tag : ℕ) (file : Option (List ℕ)) → first ++ with_file rest tag file ≡ with_file (first ++ rest) tag file
-file_after first rest tag None = refl
-file_after first rest tag (Some bytes) = sym (append_assoc first rest (lent_of tag bytes ∷ []))
+file_after first rest tag x = grind (arith, append_assoc)
 
 -- what is added to the rest is added to all
 pub added_after : (before : Folders) (dir : List ℕ) (tag : ℕ) (first rest more : List Lent) → IsPartAdded before dir tag rest more
     → IsPartAdded before dir tag (first ++ rest) (first ++ more)
-added_after before dir tag first rest more added =
-    record { file = added.file; has = added.has; adds = ap (λ ps. first ++ ps) added.adds ∙ file_after first rest tag added.file }
+added_after before dir tag first rest more added = grind (arith, file_after)
 
 -- the Header and the Directory of the first parts
 abbrev pub Kept : List Lent → List Lent → Type 0
@@ -265,10 +244,7 @@ kept_none first = (ap (λ ps. held ps 1) (append-nil first), ap (λ ps. held ps 
 
 pub kept_more : (before : Folders) (dir : List ℕ) (tag : ℕ) (first parts more : List Lent) → 3 ≤ tag → Kept first parts
     → IsPartAdded before dir tag parts more → Kept first more
-kept_more before dir tag first parts more from kept added = (
-  ap (λ ps. held ps 1) added.adds ∙ file_other 1 tag parts added.file (ne_eqb tag 1 (λ s. absurd (omega (arith, from, s)))) ∙ kept.0,
-  ap (λ ps. held ps 2) added.adds ∙ file_other 2 tag parts added.file (ne_eqb tag 2 (λ s. absurd (omega (arith, from, s)))) ∙ kept.1,
-)
+kept_more before dir tag first parts more from kept added = grind (arith, file_other, ne_eqb)
 
 pub kept_asked : (tag : ℕ) (first parts : List Lent) → Kept first parts → is_asked parts tag ≡ is_asked first tag
 kept_asked tag first parts kept = asked_by tag parts first kept.0 kept.1
@@ -276,8 +252,7 @@ kept_asked tag first parts kept = asked_by tag parts first kept.0 kept.1
 -- tags that rise are each once
 pub rise_once : (low top : ℕ) (parts : List Lent) → Rise low top parts → HasEachOnce parts
 rise_once low top [] rise = tt {0}
-rise_once low top (lent ∷ parts) rise =
-    (ap is_some (below_none (suc lent.part) top lent.part parts rise.2 (omega arith)), rise_once (suc lent.part) top parts rise.2)
+rise_once low top (lent ∷ parts) rise = grind (arith, below_none, suc, rise_once (suc lent.part) top parts rise.2)
 
 -- the parts that were loaded one list after the other are each once
 pub lent_once : (before : Folders) (dir : List ℕ) (first rest : List Lent) → AreRest before dir first rest → HasEachOnce (first ++ rest)
@@ -301,28 +276,21 @@ another tag (l ∷ ls) lent more absent = by (eqb l.part tag) refl (another tag 
 -- where each part stands once, those before one are of other tags
 absent_before : (parts : List Lent) (lent : Lent) (more : List Lent) → HasEachOnce (parts ++ lent ∷ more) → IsNone (held parts lent.part)
 absent_before [] lent more each = refl
-absent_before (l ∷ ls) lent more each =
-    let other : eqb l.part lent.part ≡ false = ne_eqb l.part lent.part (λ h. eqb-false lent.part l.part (another l.part ls lent more each.0) (sym h)) in
-    subst (λ o. IsNone o) (sym (held-other lent.part l ls other)) (absent_before ls lent more each.1)
+absent_before (l ∷ ls) lent more each = grind (arith, eqb, ne_eqb, eqb-false, another, held-other, absent_before ls lent more each.1)
 
 pub next_new : (all parts more : List Lent) (n : ℕ) (lent : Lent) → slice_get more n ≡ Some lent → all ++ drop n more ≡ parts ++ more
     → HasEachOnce (parts ++ more) → IsNone (held all lent.part)
-next_new all parts more n lent at whole each =
-    absent_before all lent (drop (n + 1) more) (subst HasEachOnce (sym whole ∙ ap (λ ps. all ++ ps) (drop_here more n lent at)) each)
+next_new all parts more n lent at whole each = grind (arith, absent_before, drop, drop_here)
 
 pub next_lent : (all parts more new : List Lent) (n : ℕ) (lent : Lent) → slice_get more n ≡ Some lent → new ≡ all ++ lent ∷ []
     → all ++ drop n more ≡ parts ++ more → new ++ drop (n + 1) more ≡ parts ++ more
-next_lent all parts more new n lent at pushed whole =
-    ap (λ ps. ps ++ drop (n + 1) more) pushed ∙ append_assoc all (lent ∷ []) (drop (n + 1) more)
-    ∙ ap (λ ps. all ++ ps) (sym (drop_here more n lent at)) ∙ whole
+next_lent all parts more new n lent at pushed whole = grind (arith, drop, append_assoc, drop_here)
 
 -- ---- the end of the loads
 
 rise_up : (low top more : ℕ) (parts : List Lent) → Rise low top parts → top ≤ more → Rise low more parts
 rise_up low top more [] rise le = tt {0}
-rise_up low top more (lent ∷ parts) rise le =
-    let below = rise.1 in
-    (rise.0, omega (arith, below, le), rise_up (suc lent.part) top more parts rise.2 le)
+rise_up low top more (lent ∷ parts) rise le = grind (arith, suc, rise_up (suc lent.part) top more parts rise.2 le)
 
 -- all parts are loaded where no other is asked for
 pub loaded_all : (before : Folders) (dir : List ℕ) (top : ℕ) (parts : List Lent) → top ≤ 256 → AreLoaded before dir top parts
@@ -346,24 +314,14 @@ unnamed [] tag none = refl
 unnamed (custom ∷ customs) tag none = absurd cc
 
 pub unrequired : (tag : ℕ) → 13 ≤ tag → is_required tag ≡ false
-unrequired tag from =
-    let low : leb tag 2 ≡ false = lt-leb tag 2 (omega (arith, from)) in
-    let middle : leb tag 9 ≡ false = lt-leb tag 9 (omega (arith, from)) in
-    let last : eqb tag 11 ≡ false = ne_eqb tag 11 (λ s. absurd (omega (arith, from, s))) in
-    rw (low, middle, last, and-false (leb 1 tag), and-false (leb 4 tag)) refl
+unrequired tag from = grind (arith, leb, lt-leb, eqb, ne_eqb, and-false)
 
 unasked : (parts : List Lent) (tag : ℕ) → 13 ≤ tag → is_sized (read_directory parts) tag ≡ false → is_asked parts tag ≡ false
 unasked parts tag from none = rw (unrequired tag from, none, and-false (is_optional tag)) refl
 
 ends_asked : (parts : List Lent) (directory : DirectoryItems) (top : ℕ) → read_directory parts ≡ Ok directory → EndsSized directory top
     → EndsAsked parts top
-ends_asked parts directory top read ends = record {
-  low = ends.low;
-  high = ends.high;
-  none = λ tag from below.
-      let low = ends.low in
-      unasked parts tag (omega (arith, from, low)) (ap (λ d. is_sized d tag) read ∙ ends.none tag from below);
-}
+ends_asked parts directory top read ends = grind (arith, unasked)
 
 pub ends_read : (parts : List Lent) (o : Opening) (top : ℕ) → IsOpening parts o → EndsSized (directory_items o.directory) top → EndsAsked parts top
 ends_read parts o top is = ends_asked parts (directory_items o.directory) top (opening_directory parts o is)
@@ -376,16 +334,12 @@ sized_read parts o tag is = ap (λ d. is_sized d tag) (opening_directory parts o
 
 told_file : (before : Folders) (parts : Parts) (dir : List ℕ) (tag : ℕ) (file : Option (List ℕ)) → before.held ≡ Some parts
     → Has before dir tag file → fin_map.get parts (tag ∷ dir) ≡ file
-told_file before parts dir tag None told has = subst (λ held. IfSome held (λ ps. fin_map.get ps (tag ∷ dir) ≡ None)) told has
-told_file before parts dir tag (Some bytes) told has = subst (λ held. IfSome held (λ ps. Holds ps (tag ∷ dir) bytes)) told has.0
+told_file before parts dir tag x told has = grind (arith)
 
 -- the lesser of two first tags is held by one list alone
 apart : (top : ℕ) (l m : Lent) (ls ms : List Lent) → Rise (suc m.part) top ms → l.part < m.part → held (l ∷ ls) l.part ≡ held (m ∷ ms) l.part
     → ⊥
-apart top l m ls ms rise lt one =
-    let none : held (m ∷ ms) l.part ≡ None
-    = held-other l.part m ms (ne_eqb m.part l.part (λ e. absurd (omega (arith, lt, e)))) ∙ below_none (suc m.part) top l.part ms rise (omega (arith, lt)) in
-    none_some l.bytes (sym none ∙ sym one ∙ held-same l.part l ls (eq-eqb l.part l.part refl))
+apart top l m ls ms rise lt one = grind (arith, held-other, ne_eqb, below_none, suc, none_some, held-same, eq-eqb)
 
 module _ (top : ℕ) (x y : Lent) (xs ys : List Lent) (rx : Rise (suc x.part) top xs) (ry : Rise (suc y.part) top ys)
     (same : (tag : ℕ) → held (x ∷ xs) tag ≡ held (y ∷ ys) tag) where
@@ -407,11 +361,7 @@ module _ (top : ℕ) (x y : Lent) (xs ys : List Lent) (rx : Rise (suc x.part) to
   one_by : (l g : Bool) → ltb x.part y.part ≡ l → ltb y.part x.part ≡ g → (x.part ≡ y.part → xs ≡ ys) → x ∷ xs ≡ y ∷ ys
   one_by true g lt gt rest = absurd (apart top x y xs ys ry (ltb-true x.part y.part lt) (same x.part))
   one_by false true lt gt rest = absurd (apart top y x ys xs rx (ltb-true y.part x.part gt) (sym (same y.part)))
-  one_by false false lt gt rest =
-      let up = ltb-false x.part y.part lt in
-      let down = ltb-false y.part x.part gt in
-      let e : x.part ≡ y.part = omega (arith, up, down) in
-      ap (λ l. l ∷ xs) (first_one e) ∙ ap (λ ls. y ∷ ls) (rest e)
+  one_by false false lt gt rest = grind (arith, ltb-false, first_one)
 
 -- tags that rise and hold the same are one list
 rise_one : (low top : ℕ) (xs ys : List Lent) → Rise low top xs → Rise low top ys → ((tag : ℕ) → held xs tag ≡ held ys tag) → xs ≡ ys
@@ -426,9 +376,7 @@ module _ (before : Folders) (parts : Parts) (dir : List ℕ) (told : before.held
   -- two lists that are loaded have the same for a tag that both ask for
   file_alike : (a b tag : ℕ) (xs ys : List Lent) → AreLoaded before dir a xs → AreLoaded before dir b ys → tag < a → tag < b
       → is_asked xs tag ≡ true → is_asked ys tag ≡ true → held xs tag ≡ held ys tag
-  file_alike a b tag xs ys l m below under asked wanted =
-      sym (told_file before parts dir tag (held xs tag) told (l.asked tag below asked))
-      ∙ told_file before parts dir tag (held ys tag) told (m.asked tag under wanted)
+  file_alike a b tag xs ys l m below under asked wanted = grind (arith, told_file)
 
   -- and ask for the same
   asked_alike : (a b tag : ℕ) (xs ys : List Lent) → AreLoaded before dir a xs → AreLoaded before dir b ys → tag ≤ a → tag ≤ b
@@ -455,9 +403,7 @@ module _ (before : Folders) (parts : Parts) (dir : List ℕ) (told : before.held
 
       by : (b : Bool) → ltb tag top ≡ b → held xs tag ≡ held ys tag
       by true e = under (ltb-true tag top e) (is_asked xs tag) refl
-      by false e =
-          let from : top ≤ tag = ltb-false tag top e in
-          above_none 0 top tag xs l.rising from ∙ sym (above_none 0 top tag ys m.rising from)
+      by false e = grind (arith, ltb-false, above_none)
 
 pub one_list : (before : Folders) (parts : Parts) (dir : List ℕ) (tag : ℕ) (xs ys : List Lent) → before.held ≡ Some parts
     → AreLoaded before dir tag xs → AreLoaded before dir tag ys → xs ≡ ys
@@ -465,18 +411,13 @@ one_list before parts dir tag xs ys told l m = rise_one 0 tag xs ys l.rising m.r
 
 not_long : (before : Folders) (dir : List ℕ) (tag : ℕ) (file : Option (List ℕ)) → Has before dir tag file
     → IsSomeAnd file (λ bytes. 65538 < length bytes) → ⊥
-not_long before dir tag None has beyond = absurd beyond
-not_long before dir tag (Some bytes) has beyond = let short = has.1 in absurd (omega (arith, short, beyond))
+not_long before dir tag x has beyond = grind (arith)
 
 -- no part is too long where the parts of all tags are loaded
 has_no_long : (before : Folders) (parts : Parts) (dir : List ℕ) (tag : ℕ) (file : Option (List ℕ)) → before.held ≡ Some parts
     → Has before dir tag file
     → IsTooLong before (tag ∷ dir) → ⊥
-has_no_long before parts dir tag file told has long =
-    let is : fin_map.get parts (tag ∷ dir) ≡ file = told_file before parts dir tag file told has in
-    let beyond : IsSomeAnd (fin_map.get parts (tag ∷ dir)) (λ bytes. 65538 < length bytes)
-    = subst (λ held. IfSome held (λ ps. IsSomeAnd (fin_map.get ps (tag ∷ dir)) (λ bytes. 65538 < length bytes))) told long in
-    not_long before dir tag file has (subst (λ found. IsSomeAnd found (λ bytes. 65538 < length bytes)) is beyond)
+has_no_long before parts dir tag file told has long = grind (arith, told_file, length, not_long)
 
 -- no part below a tag is the first that is too long where the parts below it are loaded
 pub none_long : (before : Folders) (parts : Parts) (dir : List ℕ) (top tag : ℕ) (xs : List Lent) → before.held ≡ Some parts

@@ -1,5 +1,5 @@
 -- A file holds at most one bare method, and none where an item breaks it.
-use Rattle.std.proofs.Common.{◌≡◌, ◌≤◌, List, ℕ, length, subst, ap, inl, inr, arith}
+use Rattle.std.proofs.Common.{◌≡◌, ◌≤◌, List, ℕ, length, inl, inr, arith}
 use Rattle.cap_bytes.specs.Spelling.{Stands, file_of, info_of}
 use Rattle.cap_bytes.proofs.Laws.{is_exact}
 use Rattle.cap_frame.specs.Frame.{component}
@@ -17,23 +17,15 @@ same_bare info m m' stands stands' = (is_exact (info_of method_tag) method_info 
 
 pub same_method : (file : List ℕ) (bare bare' : Bare) (code code' : List ℕ) → IsMethodFile file bare code → IsMethodFile file bare' code'
     → (P : Bare → List ℕ → Type 0) → P bare code → P bare' code'
-same_method file bare bare' code code' m m' P p =
-    let method : Stands method_info m'.info (record { bare = bare; code = code })
-    = subst (λ info. Stands method_info info (record { bare = bare; code = code })) (same_info file m.info m'.info m.framed m'.framed) m.method in
-    subst (λ (w : MethodFile). P w.bare w.code)
-    (same_bare m'.info (record { bare = bare; code = code }) (record { bare = bare'; code = code' }) method m'.method) p
+same_method file bare bare' code code' m m' P p = grind (arith, same_info, same_bare)
 
 -- the info of a bare method breaks nowhere, and its code has no bad length
 whole_info : (info : List ℕ) (m : MethodFile) → Stands method_info info m → 1 ≤ length m.code → length m.code ≤ 32767 → (fault : PackFault)
     → IsFileFault info fault → ⊥
 whole_info info m stands filled short (Form form) breaks = (is_exact (info_of method_tag) method_info info).apart m form stands breaks
-whole_info info m stands filled short (MethodLength offset n) (other, stands', at, counts, bad) =
-    let same : length other.code ≡ length m.code = ap (λ (w : MethodFile). length w.code) (same_bare info other m stands' stands) in
-    elim bad [ inl none ↦ absurd (omega (arith, same, counts, none, filled)) | inr long ↦ absurd (omega (arith, same, counts, long, short)) ]
+whole_info info m stands filled short (MethodLength offset n) (other, stands', at, counts, bad) = grind (arith, length, same_bare)
 whole_info info m stands filled short _ breaks = breaks
 
 pub no_breach : (file : List ℕ) (bare : Bare) (code : List ℕ) (fault : PackFault) → IsMethodFile file bare code → RefusesFile file fault → ⊥
 no_breach file bare code fault m (inl f) = (is_exact (file_of method_tag) (component method_tag) file).apart m.info f.form m.framed f.breaks
-no_breach file bare code fault m (inr f) =
-    let breaks = subst (λ info. IsFileFault info fault) (same_info file f.info m.info f.framed m.framed) f.breaks in
-    whole_info m.info (record { bare = bare; code = code }) m.method m.filled m.short fault breaks
+no_breach file bare code fault m (inr f) = grind (arith, same_info, whole_info)

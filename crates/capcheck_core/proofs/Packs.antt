@@ -1,7 +1,7 @@
 -- The parts of a folder's package are framed, so that they can be packed, and how many blocks that makes.
-use Rattle.std.proofs.Common.{◌≡◌, ◌<◌, ◌≤◌, ◌+◌, ◌*◌, ◌/◌, ℕ, zero, suc, List, [], ◌∷◌, ◌++◌, Option, Some, None, IsNone, Bool, true, false}
+use Rattle.std.proofs.Common.{◌≡◌, ◌<◌, ◌≤◌, ◌+◌, ◌*◌, ◌/◌, ℕ, zero, suc, List, [], ◌∷◌, Option, Some, None, IsNone, Bool, true}
 use Rattle.std.proofs.Common.{length, length-append, map, refl, sym, ap, subst, ◌∙◌, arith, eqb, leb, find, option_map, cond}
-use Rattle.std.specs.Prelude.{Result, Ok, Err, ◌&&◌, ◌||◌}
+use Rattle.std.specs.Prelude.{Result, Ok, ◌&&◌, ◌||◌}
 use Rattle.std.specs.List.{AllByRecursion, cons_option}
 use Rattle.std.proofs.lemmas.Bool.{ne_eqb, eq-eqb, eqb-true, lt-leb, false≢true}
 use Rattle.std.proofs.Math.Bool.{and-false}
@@ -20,7 +20,7 @@ use Rattle.cap_components.specs.PartChecks.{form_by, form_fault}
 use Rattle.cap_components.specs.Saying.{HoldsComponent, Says, SaysIf}
 use Rattle.cap_components.proofs.PartsLemmas.{held-other, held-same}
 use Rattle.cap_components.proofs.Saying.{part_read, formed_ok}
-use Rattle.cap_load.specs.LoadFile.{block, in_blocks, stream_of}
+use Rattle.cap_load.specs.LoadFile.{stream_of}
 use Rattle.cap_load.specs.Packing.{AreFull, IsFramed}
 use Rattle.cap_package.specs.PackageRecord.{PackageRecord}
 use Rattle.cap_package.specs.StandsFor.{StandsFor}
@@ -64,8 +64,7 @@ same_bytes o xs ys a b = cc
 module _ (parts : List Lent) (p : PackageRecord) (stands : StandsFor parts p) where
   of_component : {X : Type 0} (tag : ℕ) (g : Grammar X) (info : List ℕ) (items : X) (bytes : List ℕ) → HoldsComponent parts tag g info items
       → held parts tag ≡ Some bytes → IsComponent tag bytes
-  of_component tag g info items bytes h is =
-      (info, subst (λ file. Stands (component tag) file info) (same_bytes (held parts tag) h.file bytes h.there is) h.framed)
+  of_component tag g info items bytes h is = grind (arith, same_bytes)
 
   of_said : {X : Type 0} (tag : ℕ) (g : Grammar X) (items : X) (bytes : List ℕ) → Says parts tag g items → held parts tag ≡ Some bytes
       → IsComponent tag bytes
@@ -73,8 +72,7 @@ module _ (parts : List Lent) (p : PackageRecord) (stands : StandsFor parts p) wh
 
   of_said_if : {X : Type 0} (tag : ℕ) (g : Grammar X) (items : Option X) (bytes : List ℕ) → SaysIf parts tag g items
       → held parts tag ≡ Some bytes → IsComponent tag bytes
-  of_said_if tag g None bytes none is = absurd (none_some (held parts tag) bytes none is)
-  of_said_if tag g (Some items) bytes says is = of_said tag g items bytes says is
+  of_said_if tag g x bytes none is = grind (arith, none_some, of_said)
 
   -- ---- custom components
 
@@ -98,13 +96,10 @@ module _ (parts : List Lent) (p : PackageRecord) (stands : StandsFor parts p) wh
 
       by : (b : Bool) → eqb c.tag tag ≡ b → (o : Option PackFault) → cons_option o others ≡ [] → form_fault parts c.tag ≡ o
           → (is_some_size (custom_size_in customs tag) ≡ true → others ≡ [] → form_fault parts tag ≡ None) → form_fault parts tag ≡ None
-      by true e None empty f rest = subst (λ t. form_fault parts t ≡ None) (eqb-true c.tag tag e) f
-      by false e None empty f rest = rest (sym (ap size_by e) ∙ sized) empty
-      by b e (Some fault) empty f rest = absurd cc
+      by b e x empty f rest = grind (arith, eqb-true, size_by, sized)
 
   formed_by : (tag : ℕ) (bytes : List ℕ) (r : Result (List ℕ) PackFault) → form_by (Some bytes) r ≡ None → (info : List ℕ) × (r ≡ Ok info)
-  formed_by tag bytes (Ok info) none = (info, refl)
-  formed_by tag bytes (Err fault) none = absurd (cc)
+  formed_by tag bytes x none = grind (arith)
 
   of_formed : (tag : ℕ) (bytes : List ℕ) → held parts tag ≡ Some bytes → form_fault parts tag ≡ None → IsComponent tag bytes
   unfolding form_fault info_in
@@ -122,8 +117,7 @@ module _ (parts : List Lent) (p : PackageRecord) (stands : StandsFor parts p) wh
           (subst (λ b. (b || (is_optional tag && is_sized (read_directory parts) tag)) ≡ true) (unrequired tag from) asked)
 
       sized : (b : Bool) → (b && is_some_size (size_in p.directory tag)) ≡ true → is_some_size (custom_size_in p.directory.customs tag) ≡ true
-      sized true e = let above : leb tag 12 ≡ false = lt-leb tag 12 (omega (arith, from)) in sym (rw (above, and-false (leb 1 tag)) refl) ∙ e
-      sized false e = absurd (false≢true e)
+      sized x e = grind (arith, leb, lt-leb, and-false, false≢true)
 
   -- ---- by the tag
 
@@ -139,11 +133,9 @@ module _ (parts : List Lent) (p : PackageRecord) (stands : StandsFor parts p) wh
   of_asked (suc (suc (suc (suc (suc (suc (suc (suc zero)))))))) bytes asked is = of_said 8 _ p.statics bytes stands.said.statics is
   of_asked (suc (suc (suc (suc (suc (suc (suc (suc (suc zero))))))))) bytes asked is = of_said 9 _ p.locations bytes stands.said.locations is
   of_asked (suc (suc (suc (suc (suc (suc (suc (suc (suc (suc zero)))))))))) bytes asked is = of_said_if 10 _ p.export bytes stands.said.export is
-  of_asked (suc (suc (suc (suc (suc (suc (suc (suc (suc (suc (suc zero))))))))))) bytes asked is =
-      of_component 11 _ p.description.info p.description.items bytes stands.said.description is
+  of_asked (suc (suc (suc (suc (suc (suc (suc (suc (suc (suc (suc zero))))))))))) bytes asked is = grind (arith, of_component)
   of_asked (suc (suc (suc (suc (suc (suc (suc (suc (suc (suc (suc (suc zero)))))))))))) bytes asked is = absurd (false≢true asked)
-  of_asked (suc (suc (suc (suc (suc (suc (suc (suc (suc (suc (suc (suc (suc n))))))))))))) bytes asked is =
-      of_custom (suc (suc (suc (suc (suc (suc (suc (suc (suc (suc (suc (suc (suc n))))))))))))) bytes (omega arith) asked is
+  of_asked (suc (suc (suc (suc (suc (suc (suc (suc (suc (suc (suc (suc (suc n))))))))))))) bytes asked is = grind (arith, of_custom, suc)
 
   -- each part of a folder is one
   of_held : (before : Folders) (dir : List ℕ) → AreParts before dir parts → (l : Lent) → IsHeld parts l → IsFramed l
@@ -154,8 +146,7 @@ module _ (parts : List Lent) (p : PackageRecord) (stands : StandsFor parts p) wh
       some_none (Some x) bytes e none = absurd cc
 
       by : (b : Bool) → is_asked parts l.part ≡ b → IsComponent l.part l.bytes
-      by true asked = of_asked l.part l.bytes asked is.1
-      by false unasked = absurd (some_none (held parts l.part) l.bytes is.1 (loaded.unasked l.part is.0 unasked))
+      by x asked = grind (arith, of_asked)
 
 pub all_framed : (parts : List Lent) (p : PackageRecord) → StandsFor parts p → IsOfFolder parts → AllByRecursion IsFramed parts
 all_framed parts p stands of =
@@ -169,32 +160,13 @@ record FitsBlocks (count length : ℕ) : Type 0 where
   high : length + 254 < 256 * count + 256
 
 stream_more : (content : List ℕ) (blocks : List (List ℕ)) → length (stream_of (content ∷ blocks)) ≡ suc (length content) + length (stream_of blocks)
-stream_more content blocks =
-    let whole = length-append (block content ++ in_blocks blocks) (0 ∷ []) in
-    let front = length-append (block content) (in_blocks blocks) in
-    let rest = length-append (in_blocks blocks) (0 ∷ []) in
-    omega (arith, whole, front, rest)
+stream_more content blocks = grind (arith, length-append)
 
 fits_blocks : (blocks : List (List ℕ)) → AreFull blocks → FitsBlocks (length blocks) (length (stream_of blocks))
 fits_blocks [] full = record { low = omega arith; high = omega arith }
-fits_blocks (content ∷ []) full =
-    let some = full.0 in
-    let few = full.1 in
-    let long = stream_more content [] in
-    record { low = omega (arith, some, few, long); high = omega (arith, some, few, long) }
-fits_blocks (content ∷ next ∷ blocks) full =
-    let rest = fits_blocks (next ∷ blocks) full.1 in
-    let whole = full.0 in
-    let long = stream_more content (next ∷ blocks) in
-    let low = rest.low in
-    let high = rest.high in
-    record { low = omega (arith, whole, long, low); high = omega (arith, whole, long, high) }
+fits_blocks (content ∷ []) full = grind (arith, stream_more content [])
+fits_blocks (content ∷ next ∷ blocks) full = grind (arith, fits_blocks (next ∷ blocks) full.1, stream_more content (next ∷ blocks))
 
 pub counts_blocks : (stream : List ℕ) (blocks : List (List ℕ)) → AreFull blocks → stream ≡ stream_of blocks
     → (length stream + 254) / 256 ≡ length blocks
-counts_blocks stream blocks full is =
-    let fits = fits_blocks blocks full in
-    let low = fits.low in
-    let high = fits.high in
-    let long = ap length is in
-    omega (arith, low, high, long)
+counts_blocks stream blocks full is = grind (arith, fits_blocks, length)

@@ -99,9 +99,7 @@ module _ (dir : List ℕ) where
           → IfSome now
           (λ n. IsSomeAnd old (λ o. (key : List ℕ) → ((tag : ℕ) → key ≡ tag ∷ dir → IsNone (held stores tag))
           → map.get n key ≡ map.get o key))
-      others_in None old told = tt {0}
-      others_in (Some n) None told = absurd told
-      others_in (Some n) (Some o) told = λ key none. ap (λ m. map.get m key) told ∙ get_other o stores key none
+      others_in x old told = grind (arith, get_other)
 
   -- ---- the parts of a package in the order of the stores
 
@@ -173,8 +171,7 @@ over own dirs before after text answers = over_by own Components dirs before aft
 
 -- the Load file and the roles are each once
 load_once : (stream : List ℕ) (roles : Option (List ℕ)) → HasEachOnce (load_stores stream roles)
-load_once stream None = (refl, tt {0})
-load_once stream (Some bytes) = (refl, (refl, tt {0}))
+load_once stream x = grind (arith)
 
 packed : (o : OutOfDirRequest) (before after : Folders) (text : _)
     → OfPackage before o.dir (λ parts p. PacksPackage o parts p before after (Done text)) → Packed o before after (string_bytes text)

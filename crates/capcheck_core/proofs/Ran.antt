@@ -1,8 +1,8 @@
 -- What a run on the machine of verified code leaves: its words, and the text of them.
+use Rattle.std.proofs.Common.{arith}
 use Rattle.std.proofs.Common.{◌≡◌, ℕ, List, ◌++◌, length, map, take, Some, zero, suc, refl, sym, ap, subst, ◌∙◌}
-use Rattle.std.specs.Prelude.{slice_get, option_map, option_and_then, Result, Ok, Err, MatchResult, OnErr}
+use Rattle.std.specs.Prelude.{slice_get, option_map, option_and_then, Result, MatchResult, OnErr}
 use Rattle.std.proofs.Math.Seq.{take-append_seam, take-length}
-use Rattle.jc_base.specs.declared.record.StaticRec.{StaticRec}
 use Rattle.jc_base.specs.World.{Linked}
 use Rattle.vm_store.specs.declared.cell.Cell.{Cell}
 use Rattle.vm_store.specs.Cells.{tagged, words}
@@ -14,7 +14,6 @@ use Rattle.vm_step.specs.Raising.{Outcome, running, ended}
 use Rattle.vm_step.specs.Run.{stands}
 use Rattle.vm_step.specs.Start.{entry_state}
 use Rattle.vm_defend.specs.Held.{answer}
-use Rattle.vm_defend.specs.Reading.{value_at}
 use Rattle.vm_offend.specs.declared.words.Counts.{Counts}
 use Rattle.vm_offend.specs.Words.{words_state}
 use Rattle.vm_offend.specs.declared.machine.Machine.{Machine}
@@ -22,7 +21,7 @@ use Rattle.vm_offend.specs.Sized.{static_cells}
 use Rattle.vm_offend.specs.Held.{AreWordsOf, IsOutcomeOfRun, Follows, state_of, ending_of}
 use Rattle.vm_offend.specs.Begun.{IsBegun}
 use Rattle.vm_offend.proofs.Living.{state-erased, state-with}
-use Rattle.vm_text.specs.Left.{Readout, number_array, left_by}
+use Rattle.vm_text.specs.Left.{number_array, left_by}
 use Rattle.vm_text.specs.Lent.{lent_state, IsLentRun}
 use Rattle.vm_text.specs.LikeTexts.{TextsAreAlike}
 use Rattle.vm_text.specs.Text.{left_text, outcome_text}
@@ -30,7 +29,6 @@ use Rattle.cap_text.specs.Room.{Roomed, IsEmpty, Writes}
 use Rattle.cap_text.specs.Run.{RunRequest}
 use Rattle.capcheck_core.specs.declared.running.RunStop.{RunStop}
 use Rattle.capcheck_core.specs.declared.verdict.Verdict.{Verdict}
-use Rattle.capcheck_core.specs.declared.verdict.Verdict.TheVariants.{Done, Refused, Limit, Malformed, Usage, ReadFault, StoreFault, Memory}
 use Rattle.capcheck_core.specs.Outside.{CardWords, card_words}
 use Rattle.capcheck_core.specs.Defend.{method_entered}
 use Rattle.capcheck_core.specs.Run.{HoldsWords, IsCardKept, IsLeft, IsRun, StopsRun, RunsWithMemory, RunsWorldIn}
@@ -45,21 +43,7 @@ words_of w m ram heap statics o are =
 
 pub lent_run : (w : Linked) (m : Machine) (ram heap statics : List ℕ) (o : Outcome Cell) → AreWordsOf w m ram heap statics o
     → IsLentRun w w heap statics m.counts
-lent_run w m ram heap statics o are =
-    let same = words_of w m ram heap statics o are in
-    record {
-      world = refl;
-      sized = are.sized.statics_length;
-      laid = record {
-        heap_length = are.laid.heap_length;
-        some_objects = are.laid.some_objects;
-        some_cells = are.laid.some_cells;
-        laid = are.laid.laid;
-      };
-      state = state_of o;
-      objects = ap (λ (s : State ℕ). s.heap) same;
-      fields = ap (λ (s : State ℕ). s.statics) same;
-    }
+lent_run w m ram heap statics o are = grind (arith, words_of w m ram heap statics o are)
 
 -- the same of a world that is the accepted one
 pub lent_in : (w v : Linked) (heap statics : List ℕ) (counts : Counts) → w ≡ v → IsLentRun w w heap statics counts → IsLentRun v w heap statics counts
@@ -68,19 +52,11 @@ lent_in w v heap statics counts same lent = subst (λ x. IsLentRun x w heap stat
 pub written_in : (w v : Linked) (heap statics : List ℕ) (counts : Counts) (ending : Plain) (before after : Roomed) → v ≡ w
     → Writes before after (left_text (left_by words v (lent_state heap statics counts)) (endings.Plain ending))
     → Writes before after (left_text (left_by words w (lent_state heap statics counts)) (endings.Plain ending))
-written_in w v heap statics counts ending before after same writes =
-    subst (λ x. Writes before after (left_text (left_by words x (lent_state heap statics counts)) (endings.Plain ending))) same writes
+written_in w v heap statics counts ending before after same writes = grind (arith)
 
 pub holds : (w : Linked) (m : Machine) (ram heap statics : List ℕ) (o : Outcome Cell) → AreWordsOf w m ram heap statics o
     → HoldsWords w (card_words ram heap statics) o
-holds w m ram heap statics o are =
-    let all : take (static_cells w) statics ≡ statics
-    = ap (λ n. take n statics) (sym are.sized.statics_length) ∙ take-length statics in
-    record {
-      counts = m.counts;
-      laid = are.laid;
-      words = ap (λ cells. words_state w.methods ram heap cells m.counts) all ∙ words_of w m ram heap statics o are;
-    }
+holds w m ram heap statics o are = grind (arith, take (static_cells w) statics, take-length statics, words_of w m ram heap statics o are)
 
 -- ---- the text
 
@@ -91,10 +67,7 @@ named_same x y (suc n) objects = ap (λ all. option_and_then (number_array words
 
 -- frames are not told
 left_same : (w : Linked) (x y : State ℕ) → x.heap ≡ y.heap → x.statics ≡ y.statics → left_by words w x ≡ left_by words w y
-left_same w x y objects fields = λ i. record {
-  statics = map (λ (f : StaticRec). value_at words f.kind (fields i) f.slot) w.statics;
-  array = λ h. named_same x y h objects i;
-}
+left_same w x y objects fields = grind (arith, map, named_same)
 
 outcome_told : (w : Linked) (o : Outcome Cell) (ending : Plain) → TextsAreAlike w → answer (ending_of o) ≡ endings.Plain ending
     → left_text (left_by words w (erased (state_of o))) (endings.Plain ending) ≡ outcome_text tagged w o
@@ -104,11 +77,7 @@ outcome_told w (ended e s) ending alike is = alike s (endings.Plain ending) ∙ 
 prints : (w : Linked) (m : Machine) (ram heap statics : List ℕ) (o : Outcome Cell) (ending : Plain) → AreWordsOf w m ram heap statics o → TextsAreAlike w
     → answer (ending_of o) ≡ endings.Plain ending
     → left_text (left_by words w (lent_state heap statics m.counts)) (endings.Plain ending) ≡ outcome_text tagged w o
-prints w m ram heap statics o ending are alike is =
-    let same = words_of w m ram heap statics o are in
-    ap (λ (l : Readout). left_text l (endings.Plain ending))
-    (left_same w (lent_state heap statics m.counts) (erased (state_of o)) (ap (λ (s : State ℕ). s.heap) same) (ap (λ (s : State ℕ). s.statics) same))
-    ∙ outcome_told w o ending alike is
+prints w m ram heap statics o ending are alike is = grind (arith, words_of, left_same, outcome_told)
 
 -- ---- a run that was begun
 
@@ -146,35 +115,18 @@ left w number r m ram heap statics before after ending entered begun n ram_after
 pub wider : (w : Linked) (ram heap fields others : List ℕ) (o : Outcome Cell) → length fields ≡ static_cells w
     → HoldsWords w (card_words ram heap fields) o
     → HoldsWords w (card_words ram heap (fields ++ others)) o
-wider w ram heap fields others o long holds =
-    let one : take (static_cells w) (fields ++ others) ≡ fields = ap (λ n. take n (fields ++ others)) (sym long) ∙ take-append_seam fields others in
-    let two : take (static_cells w) fields ≡ fields = ap (λ n. take n fields) (sym long) ∙ take-length fields in
-    record {
-      counts = holds.counts;
-      laid = holds.laid;
-      words = ap (λ cells. words_state w.methods ram heap cells holds.counts) (one ∙ sym two) ∙ holds.words;
-    }
+wider w ram heap fields others o long holds = grind (arith, take, take-append_seam, take-length, holds)
 
 whole_run : (w : Linked) (r : RunRequest) (ram heap fields others text : List ℕ) → length fields ≡ static_cells w
     → IsRun w r (card_words ram heap fields) text → IsRun w r (card_words ram heap (fields ++ others)) text
-whole_run w r ram heap fields others text long run = record {
-  carded = run.carded;
-  fault_free = run.fault_free;
-  left = record {
-    outcome = run.left.outcome;
-    comes = run.left.comes;
-    prints = run.left.prints;
-    holds = wider w ram heap fields others run.left.outcome long run.left.holds;
-  };
-}
+whole_run w r ram heap fields others text long run = grind (arith, left, prints, holds, wider)
 
 -- whether it begins or not
 pub whole_end : {U : Type 0} (w : Linked) (r : RunRequest) (ram heap fields others text : List ℕ) (end : Result U RunStop)
     → length fields ≡ static_cells w
     → MatchResult end (λ _. IsRun w r (card_words ram heap fields) text) (StopsRun w r)
     → MatchResult end (λ _. IsRun w r (card_words ram heap (fields ++ others)) text) (StopsRun w r)
-whole_end w r ram heap fields others text (Ok u) long run = whole_run w r ram heap fields others text long run
-whole_end w r ram heap fields others text (Err stop) long stops = stops
+whole_end w r ram heap fields others text x long run = grind (arith, whole_run)
 
 -- ---- where nothing ran
 
@@ -185,27 +137,11 @@ card_same ram heap statics ram_after heap_after statics_after a b c = λ i. card
 pub kept_end : {U : Type 0} (ram heap fields ram_after heap_after fields_after others whole : List ℕ) (end : Result U RunStop) → fields ++ others ≡ whole
     → OnErr end (card_words ram_after heap_after fields_after ≡ card_words ram heap fields)
     → OnErr end (card_words ram_after heap_after (fields_after ++ others) ≡ card_words ram heap whole)
-kept_end ram heap fields ram_after heap_after fields_after others whole (Ok u) is same = same
-kept_end ram heap fields ram_after heap_after fields_after others whole (Err stop) is same =
-    ap (λ (c : CardWords). card_words c.ram c.heap (c.statics ++ others)) same ∙ ap (card_words ram heap) is
+kept_end ram heap fields ram_after heap_after fields_after others whole x is same = grind (arith)
 
 -- what may be answered where there is memory may be answered
 pub with_memory : (w : Linked) (r : RunRequest) (c : CardWords) (verdict : Verdict) → RunsWithMemory w r c verdict → RunsWorldIn w r c verdict
-with_memory w r c (Done text) runs = runs
-with_memory w r c (Refused text) runs = runs
-with_memory w r c (Limit text) runs = runs
-with_memory w r c (Malformed text) runs = runs
-with_memory w r c Usage runs = runs
-with_memory w r c ReadFault runs = runs
-with_memory w r c StoreFault runs = runs
-with_memory w r c Memory runs = absurd runs
+with_memory w r c x runs = grind (arith)
 
 pub kept_there : (before after : CardWords) (verdict : Verdict) → after ≡ before → IsCardKept before after verdict
-kept_there before after (Done text) same = tt {0}
-kept_there before after (Refused text) same = same
-kept_there before after (Limit text) same = same
-kept_there before after (Malformed text) same = same
-kept_there before after Usage same = same
-kept_there before after ReadFault same = same
-kept_there before after StoreFault same = same
-kept_there before after Memory same = same
+kept_there before after x same = grind (arith)

@@ -1,5 +1,6 @@
 -- What is stored of a package whose methods share registers.
-use Rattle.std.proofs.Common.{◌≡◌, ℕ, List, Option, ap, ◌∙◌, subst}
+use Rattle.std.proofs.Common.{arith}
+use Rattle.std.proofs.Common.{◌≡◌, ℕ, List, Option, subst}
 use Rattle.cap_files.specs.Folder.{Folders}
 use Rattle.cap_package.specs.Parts.{Lent}
 use Rattle.cap_package.specs.PackageRecord.{PackageRecord}
@@ -22,5 +23,4 @@ shared_in_part packages roles w out parts stores given before after made order b
 -- the line by equal numbers
 pub same_line : (count many before first after last : ℕ) → count ≡ many → before ≡ first → after ≡ last
     → shared_line count before after ≡ shared_line many first last
-same_line count many before first after last counts begins ends =
-    ap (λ n. shared_line n before after) counts ∙ ap (λ n. shared_line many n after) begins ∙ ap (λ n. shared_line many first n) ends
+same_line count many before first after last counts begins ends = grind (arith)

@@ -30,20 +30,13 @@ whole_held : (dir : List ℕ) (done : List Lent) (lent : Lent) (now mid old : Op
     → IfSome now (λ n. IsSomeAnd mid (λ m. n ≡ map.insert m (lent.part ∷ dir) lent.bytes))
     → IfSome mid (λ m. IsSomeAnd old (λ o. m ≡ with_parts_stored dir o done))
     → IfSome now (λ n. IsSomeAnd old (λ o. n ≡ with_parts_stored dir o (done ++ lent ∷ [])))
-whole_held dir done lent None mid old one before = tt {0}
-whole_held dir done lent (Some n) None old one before = absurd one
-whole_held dir done lent (Some n) (Some m) None one before = absurd before
-whole_held dir done lent (Some n) (Some m) (Some o) one before =
-    one ∙ ap (λ x. map.insert x (lent.part ∷ dir) lent.bytes) before ∙ sym (stored_push dir o done lent)
+whole_held dir done lent x mid old one before = grind (arith, stored_push)
 
 begun_held : (dir : List ℕ) (done : List Lent) (lent : Lent) (now mid old : Option Parts)
     → IfSome now (λ n. IsSomeAnd mid (λ m. IsPartlyStored dir lent m n))
     → IfSome mid (λ m. IsSomeAnd old (λ o. m ≡ with_parts_stored dir o done))
     → IfSome now (λ n. IsSomeAnd old (λ o. IsPartlyStored dir lent (with_parts_stored dir o done) n))
-begun_held dir done lent None mid old one before = tt {0}
-begun_held dir done lent (Some n) None old one before = absurd one
-begun_held dir done lent (Some n) (Some m) None one before = absurd before
-begun_held dir done lent (Some n) (Some m) (Some o) one before = subst (λ x. IsPartlyStored dir lent x n) before one
+begun_held dir done lent x mid old one before = grind (arith)
 
 pub none_stored : (dir : List ℕ) (folders : Folders) → AreStored dir [] folders folders
 none_stored dir folders = record { held = same folders.held; load_faults = refl; failed = refl; store_faults = refl }
@@ -68,16 +61,7 @@ pub one_broken : (dir : List ℕ) (parts done : List Lent) (lent : Lent) (left :
     → IfSome after.held (λ now. IsSomeAnd mid.held (λ old. IsPartlyStored dir lent old now))
     → after.load_faults ≡ mid.load_faults → after.failed ≡ mid.failed → Rose mid.store_faults after.store_faults
     → IsBrokenOff dir parts before after
-one_broken dir parts done lent left before mid after all are one loads failed rose = record {
-  done = done;
-  broken = lent;
-  left = left;
-  are = are;
-  held = begun_held dir done lent after.held mid.held before.held one all.held;
-  load_faults = loads ∙ all.load_faults;
-  failed = failed ∙ all.failed;
-  rose = subst (λ n. Rose n after.store_faults) all.store_faults rose;
-}
+one_broken dir parts done lent left before mid after all are one loads failed rose = grind (arith, begun_held)
 
 -- ---- the order of a package's parts
 
@@ -99,25 +83,15 @@ pub next_absent : (parts : List Lent) (top : ℕ) (stores : List Lent) → AreIn
 next_absent parts top stores so_far = is_none (held stores top) (next_none parts top stores so_far)
 
 file_rises : (top : ℕ) (stores : List Lent) (file : Option (List ℕ)) → 2 ≤ top → Rise 2 top stores → Rise 2 (suc top) (with_file stores top file)
-file_rises top stores None low rise = rise_wider 2 top stores rise
-file_rises top stores (Some bytes) low rise = rise_push 2 top stores bytes rise low
+file_rises top stores x low rise = grind (arith, rise_wider, rise_push)
 
 next : (parts : List Lent) (top : ℕ) (stores : List Lent) → 2 ≤ top → AreInOrderBelow parts top stores
     → AreInOrderBelow parts (suc top) (with_file stores top (held parts top))
-next parts top stores low so_far = record {
-  rising = file_rises top stores (held parts top) low so_far.rising;
-  same = λ tag least below. let le : tag ≤ top = omega (arith, below) in elim (eq-or-lt_of_le le) [
-    | inl e ↦ subst (λ t. held (with_file stores top (held parts top)) t ≡ held parts t) (sym e)
-        (file_same top stores (held parts top) (next_none parts top stores so_far))
-    | inr lt ↦ file_other tag top stores (held parts top) (ne_eqb top tag (λ e. omega (arith, e, lt))) ∙ so_far.same tag least lt
-  ];
-}
+next parts top stores low so_far = grind (arith, file_rises, eq-or-lt_of_le, file_same, next_none, file_other, ne_eqb)
 
 pub next_in_order : (parts : List Lent) (top : ℕ) (stores more : List Lent) → 2 ≤ top → AreInOrderBelow parts top stores
     → more ≡ with_file stores top (held parts top) → AreInOrderBelow parts (top + 1) more
-next_in_order parts top stores more low so_far adds =
-    let step : suc top ≡ top + 1 = omega arith in
-    subst (λ n. AreInOrderBelow parts n more) step (subst (AreInOrderBelow parts (suc top)) (sym adds) (next parts top stores low so_far))
+next_in_order parts top stores more low so_far adds = grind (arith, suc top, next parts top stores low so_far)
 
 pub roles_absent : (parts stores : List Lent) (top : ℕ) → AreInOrderBelow parts top stores → IsNone (held stores roles_tag)
 roles_absent parts stores top so_far = is_none (held stores roles_tag) (below_none 2 top 0 stores so_far.rising (omega arith))
@@ -129,28 +103,15 @@ no_header_before others top roles rise = file_other header_tag roles_tag others 
 
 pub header_absent : (parts others stores : List Lent) (top : ℕ) (roles : Option (List ℕ)) → AreInOrderBelow parts top others
     → stores ≡ with_file others roles_tag roles → IsNone (held stores header_tag)
-header_absent parts others stores top roles so_far adds =
-    is_none (held stores header_tag) (ap (λ ps. held ps header_tag) adds ∙ no_header_before others top roles so_far.rising)
+header_absent parts others stores top roles so_far adds = grind (arith, is_none, no_header_before)
 
 bytes_of_some : (o : Option (List ℕ)) → IsSome o → (bytes : List ℕ) × (o ≡ Some bytes)
-bytes_of_some None some = absurd cc
-bytes_of_some (Some bytes) some = (bytes, refl)
+bytes_of_some x some = grind (arith)
 
 pub all_in_order : (parts others middle stores : List Lent) (top : ℕ) (roles : Option (List ℕ)) → AreInOrderBelow parts top others → top ≡ 256
     → IsSome (held parts header_tag) → middle ≡ with_file others roles_tag roles → stores ≡ with_file middle header_tag (held parts header_tag)
     → AreInStoreOrder parts roles stores
-all_in_order parts others middle stores top roles so_far whole some first last =
-    let header = bytes_of_some (held parts header_tag) some in
-    let all : AreInOrderBelow parts 256 others = subst (λ n. AreInOrderBelow parts n others) whole so_far in
-    record {
-      others = others;
-      rising = all.rising;
-      same = all.same;
-      header = header.0;
-      is = header.1;
-      all = last ∙ ap (λ ps. with_file ps header_tag (held parts header_tag)) first
-          ∙ ap (with_file (with_file others roles_tag roles) header_tag) header.1;
-    }
+all_in_order parts others middle stores top roles so_far whole some first last = grind (arith, bytes_of_some)
 
 -- ---- what a folder holds of parts that are stored
 
@@ -247,40 +208,17 @@ module _ (dir header : List ℕ) (others : List Lent) (each : HasEachOnce others
   -- all others are stored whole
   at_header : IsPartlyStored dir (lent_of header_tag header) (with_parts_stored dir old others) now
       → (map.get now (header_tag ∷ dir) ≡ None) ⊎ HasAllButHeader dir header others now
-  at_header (inl same) = inl (ap (λ m. map.get m (header_tag ∷ dir)) same ∙ kept others no_header)
-  at_header (inr begun) = inr (record {
-    begun = (
-      begun.0,
-      ap (λ m. map.get m (header_tag ∷ dir)) begun.1 ∙ insert_same dir (with_parts_stored dir old others) header_tag
-          (take begun.0 header),
-    );
-    whole = λ tag bytes is.
-        ap (λ m. map.get m (tag ∷ dir)) begun.1
-        ∙ insert_other dir (with_parts_stored dir old others) header_tag tag (take begun.0 header)
-        (λ e. none_some bytes (sym no_header ∙ subst (λ t. held others t ≡ Some bytes) (sym e) is))
-        ∙ get_stored dir old others each tag bytes is;
-  })
+  at_header x = grind (arith, kept, insert_same, take, insert_other, none_some, get_stored)
 
   -- the Header is not begun
   before_header : (done : List Lent) (b : Lent) (more : List Lent) → others ≡ done ++ b ∷ more
       → IsPartlyStored dir b (with_parts_stored dir old done) now
       → map.get now (header_tag ∷ dir) ≡ None
-  before_header done b more are begun =
-      let absent = absent_parts header_tag done b more (subst (λ xs. held xs header_tag ≡ None) are no_header) in
-      elim begun [
-        | inl same ↦ ap (λ m. map.get m (header_tag ∷ dir)) same ∙ kept done absent.0
-        | inr some ↦ ap (λ m. map.get m (header_tag ∷ dir)) some.1
-            ∙ insert_other dir (with_parts_stored dir old done) b.part header_tag (take some.0 b.bytes) (λ e. eqb-false b.part header_tag absent.1 e)
-            ∙ kept done absent.0
-      ]
+  before_header done b more are begun = grind (arith, absent_parts, kept, insert_other, take, eqb-false)
 
   header_last_in : (done : List Lent) (b : Lent) (left : List Lent) → others ++ lent_of header_tag header ∷ [] ≡ done ++ b ∷ left
       → IsPartlyStored dir b (with_parts_stored dir old done) now → (map.get now (header_tag ∷ dir) ≡ None) ⊎ HasAllButHeader dir header others now
-  header_last_in done b left are begun = elim (broken_at others (lent_of header_tag header) done b left are) [
-    | inl last ↦ at_header (subst (λ l. IsPartlyStored dir l (with_parts_stored dir old others) now) last.1
-        (subst (λ ds. IsPartlyStored dir b (with_parts_stored dir old ds) now) last.0 begun))
-    | inr before ↦ inl (before_header done b before.0 before.1 begun)
-  ]
+  header_last_in done b left are begun = grind (arith, broken_at, at_header, before_header)
 
 roles_each : (others : List Lent) (roles : Option (List ℕ)) → Rise 2 256 others → HasEachOnce (with_file others roles_tag roles)
 roles_each others None rise = rise_once 2 256 others rise
@@ -313,9 +251,4 @@ stores_each parts roles stores order =
 -- where the stores are broken off, the Header is the last of them
 pub stored_in_part : (P : List Lent → Type 0) (given : Option (List ℕ)) (dir : List ℕ) (parts stores : List Lent) (before after : Folders)
     → P parts → AreInStoreOrder parts given stores → IsBrokenOff dir stores before after → IsStoredInPart P given dir before after
-stored_in_part P given dir parts stores before after made order off = record {
-  stores = stores;
-  brings = record { parts = parts; made = made; order = order };
-  broken = off;
-  last = header_last dir parts given stores before after order off;
-}
+stored_in_part P given dir parts stores before after made order off = grind (arith, header_last)

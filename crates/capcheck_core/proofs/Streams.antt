@@ -1,9 +1,9 @@
 -- The parts of a package in its Load file, from the bytes that a loader took.
-use Rattle.std.proofs.Common.{◌≡◌, ℕ, List, [], ◌++◌, Result, Ok, Err, ◌∙◌}
+use Rattle.std.proofs.Common.{arith}
+use Rattle.std.proofs.Common.{◌≡◌, ℕ, List, [], ◌++◌, Result, ◌∙◌}
 use Rattle.cap_files.specs.Folder.{Folders}
 use Rattle.cap_load.specs.Loaded.{Loaded, StandsFor}
 use Rattle.capcheck_core.specs.declared.packages.PackagesStop.{PackagesStop}
-use Rattle.capcheck_core.specs.declared.packages.PackagesStop.TheVariants.{TooMany, Malformed, Failed, Memory}
 use Rattle.capcheck_core.specs.PackageEnds.{HasTaken, PackagesLeave, PackagesStopLeaves}
 
 -- ---- a loader that takes all of the bytes
@@ -16,14 +16,10 @@ takes loader new stream empty room stands same = record { room = same ∙ room; 
 
 -- where the folders are as before they may be left
 pub stop_leaves : (before after : Folders) (stop : PackagesStop) → after ≡ before → PackagesStopLeaves before after stop
-stop_leaves before after (TooMany count) same = same
-stop_leaves before after (Malformed number fault) same = same
-stop_leaves before after Failed same = tt {0}
-stop_leaves before after Memory same = same
+stop_leaves before after x same = grind (arith)
 
 pub leaves : {A : Type 0} (before after : Folders) (result : Result A PackagesStop) → after ≡ before → PackagesLeave before after result
-leaves before after (Ok x) same = same
-leaves before after (Err stop) same = stop_leaves before after stop same
+leaves before after x same = grind (arith, stop_leaves)
 
 -- ---- the parts in it
 

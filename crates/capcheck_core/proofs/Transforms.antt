@@ -1,5 +1,6 @@
 -- What is stored of a package that is transformed, and which method is named where it is not.
-use Rattle.std.proofs.Common.{◌≡◌, ℕ, List, Option, Some, IsSome, option_map, slice_get, refl, sym, ap, subst, ◌∙◌}
+use Rattle.std.proofs.Common.{arith}
+use Rattle.std.proofs.Common.{◌≡◌, ℕ, List, Option, Some, IsSome, option_map, slice_get, refl, sym, subst}
 use Rattle.cap_files.specs.Folder.{Folders}
 use Rattle.cap_package.specs.Parts.{Lent, held}
 use Rattle.cap_package.specs.PackageRecord.{PackageRecord}
@@ -29,7 +30,4 @@ brought_in_part packages roles w out parts stores given before after made order 
 
 pub named : (w : Linked) (m : Method) (n : ℕ) (number : MethodNumber) → IsMethodOf w m → m.number ≡ n
     → option_map numbers_of_method (slice_get w.methods n) ≡ Some number → number ≡ numbers_of_method m.rec
-named w m n number is e told =
-    let at : slice_get w.methods n ≡ Some m.rec = subst (λ k. slice_get w.methods k ≡ Some m.rec) e is.rec in
-    let same : Some (numbers_of_method m.rec) ≡ Some number = sym (ap (option_map numbers_of_method) at) ∙ told in
-    cc
+named w m n number is e told = grind (arith, slice_get, option_map)

@@ -1,12 +1,12 @@
 -- The package that was made anew makes one world with the libraries, and nothing keeps its runs from beginning.
-use Rattle.std.proofs.Common.{◌≡◌, ℕ, List, [], ◌∷◌, ◌++◌, length, Some, None, inl, refl, sym, ap, subst, ◌∙◌}
-use Rattle.std.specs.Prelude.{◌-◌, ◌*◌, suc, Err}
+use Rattle.std.proofs.Common.{arith}
+use Rattle.std.proofs.Common.{◌≡◌, ℕ, List, [], ◌∷◌, ◌++◌, length, None, refl, sym, ap, subst, ◌∙◌}
+use Rattle.std.specs.Prelude.{◌*◌, suc, Err}
 use Rattle.std.proofs.lemmas.List.{length-map}
 use Rattle.cap_package.specs.PackageRecord.{PackageRecord}
 use Rattle.cap_package.specs.Parts.{Lent}
 use Rattle.cap_package.specs.StandsFor.{StandsFor, HavePackage}
-use Rattle.jc_base.specs.World.{Linked, method_numbered}
-use Rattle.law_laid.specs.Apart.{IsSameBut}
+use Rattle.jc_base.specs.World.{Linked}
 use Rattle.jc_link.specs.World.{IsLinked, LinkTells}
 use Rattle.jc_link.specs.LinkEnd.TheVariants as ends
 use Rattle.jc_link.specs.LinkFault.{LinkFault}
@@ -17,8 +17,7 @@ use Rattle.law_alike.specs.Starting.{StartsRefuseAlike, MethodsAreNumberedAlike}
 use Rattle.cap_text.specs.Run.{RunRequest}
 use Rattle.cap_text.specs.Trial.{trial_text}
 use Rattle.capcheck_core.specs.declared.verdict.Verdict.{Verdict}
-use Rattle.capcheck_core.specs.declared.verdict.Verdict.TheVariants.{Done, Refused, Limit, Malformed, Usage, ReadFault, StoreFault, Memory}
-use Rattle.capcheck_core.specs.Defend.{method_entered, fault_of, run_fault, IsDefended}
+use Rattle.capcheck_core.specs.Defend.{run_fault, IsDefended}
 use Rattle.capcheck_core.specs.Outside.{CardWords}
 use Rattle.capcheck_core.specs.Run.{with_budget, IsRun}
 use Rattle.capcheck_core.specs.Trial.{steps_each, HasNew, IsTried, IsUntriedKept}
@@ -32,9 +31,7 @@ module _ (packages : List PackageRecord) (roles : List ℕ) (w : Linked) (parts 
   pub with_made : (made : PackageRecord) (all : List PackageRecord) → StandsFor parts made
       → ((ls : List PackageRecord) (source : PackageRecord) → packages ≡ and_last ls source → all ≡ and_last ls made)
       → all ≡ and_last t.keeps.libraries t.keeps.made
-  with_made made all stands pushed =
-      pushed t.keeps.libraries t.keeps.source t.keeps.are
-      ∙ ap (λ p. and_last t.keeps.libraries p) (one_package parts made t.keeps.made stands t.keeps.stands)
+  with_made made all stands pushed = grind (arith, one_package parts made t.keeps.made stands t.keeps.stands)
 
   pub has_new : (all : List PackageRecord) (new : Linked) → all ≡ and_last t.keeps.libraries t.keeps.made → IsLinked all roles new
       → HasNew packages roles w parts new
@@ -43,9 +40,7 @@ module _ (packages : List PackageRecord) (roles : List ℕ) (w : Linked) (parts 
 
   pub never_at_fault : (all : List PackageRecord) (fault : LinkFault) → all ≡ and_last t.keeps.libraries t.keeps.made
       → LinkTells all roles (Err (ends.Fault fault)) → ⊥
-  never_at_fault all fault are tells =
-      linked_faultless (and_last t.keeps.libraries t.keeps.made) roles t.keeps.world fault t.keeps.linked
-      (subst (λ ps. LinkTells ps roles (Err (ends.Fault fault))) are tells)
+  never_at_fault all fault are tells = grind (arith, linked_faultless)
 
 -- ---- the second run
 
@@ -63,18 +58,11 @@ module _ (packages : List PackageRecord) (roles : List ℕ) (w : Linked) (linked
     t = has.0
 
     counted : length new.infos ≡ length w.infos
-    counted =
-        ap (λ v. length (v.infos)) (sym has.1) ∙ infos_counted (and_last t.keeps.libraries t.keeps.made) roles t.keeps.world t.keeps.linked
-        ∙ as_many t.keeps.libraries t.keeps.made t.keeps.source ∙ ap length (sym t.keeps.are) ∙ sym (infos_counted packages roles w linked)
+    counted = grind (arith, length, infos_counted, as_many)
 
     -- the entry of the new package is a method that begins where its source does
     pub begins : (r : RunRequest) (text : List ℕ) → IsDefended w r text → run_fault new r ≡ None
-    begins r text d =
-        let same : IsSameBut w new = subst (λ v. IsSameBut w v) has.1 t.anew.same in
-        let entered : method_entered new r.entry ≡ Some d.comes.number =
-        ap (λ n. method_numbered new.methods (n - 1) r.entry.class_no r.entry.method_no) counted
-        ∙ sym (numbered new (length w.infos - 1) r.entry.class_no r.entry.method_no same) ∙ d.comes.entered in
-        ap (fault_of new r.args) entered ∙ sym (alike new d.comes.number r.args same) ∙ d.comes.begins
+    begins r text d = grind (arith, counted, length)
 
 -- what is told of both
 pub tried : (packages : List PackageRecord) (roles : List ℕ) (w : Linked) (parts : List Lent) (new : Linked) (r : RunRequest) (steps : ℕ) (c : CardWords)
@@ -94,11 +82,4 @@ tried packages roles w parts new r steps c source target text has count d run pr
 
 pub untried_there : (packages : List PackageRecord) (roles : List ℕ) (w : Linked) (r : RunRequest) (c : CardWords) (verdict : Verdict)
     → IsUntriedKept packages roles w r c c verdict
-untried_there packages roles w r c (Done text) = tt {0}
-untried_there packages roles w r c (Refused text) = refl
-untried_there packages roles w r c (Limit text) = refl
-untried_there packages roles w r c (Malformed text) = refl
-untried_there packages roles w r c Usage = refl
-untried_there packages roles w r c ReadFault = refl
-untried_there packages roles w r c StoreFault = refl
-untried_there packages roles w r c Memory = inl refl
+untried_there packages roles w r c x = grind (arith)

@@ -1,6 +1,6 @@
 -- The methods with code of the last package, one after the other.
 use Rattle.std.proofs.Common.{count_by, ◌≡◌, ◌⊎◌, ℕ, ◌+◌, ◌<◌, ◌≤◌, Bool, true, false, List, length, take, Option, Some, None}
-use Rattle.std.proofs.Common.{option_map, slice_get, refl, sym, ap, subst, ◌∙◌, inl, inr, arith}
+use Rattle.std.proofs.Common.{option_map, slice_get, refl, arith}
 use Rattle.std.specs.Prelude.{IsSomeAnd, codes, ◌==◌, nat_lt}
 use Rattle.std.proofs.lemmas.Bool.{eq-eqb, eqb-true, lt-ltb, and_parts}
 use Rattle.std.proofs.lemmas.List.{take_all}
@@ -14,12 +14,12 @@ use Rattle.jc_base.specs.World.{Linked}
 use Rattle.jc_control.specs.Method.{Method, IsMethodOf, method_with}
 use Rattle.jc_rules.specs.Flow.{HasFlowTyping}
 use Rattle.jc_flow.specs.declared.end.FlowEnd.{FlowEnd}
-use Rattle.jc_flow.specs.declared.end.FlowEnd.TheVariants.{NoTyping, Code, BadTarget, FallsOff, BadHandler, Memory}
+use Rattle.jc_flow.specs.declared.end.FlowEnd.TheVariants.{Memory}
 use Rattle.jc_flow.specs.Infer.{TellsEnd, LacksTyping}
 use Rattle.cap_text.specs.declared.line.MethodNumber.{MethodNumber}
 use Rattle.cap_text.specs.Line.{methods_line, refused_flow_line}
 use Rattle.law_laid.proofs.Methods.{known}
-use Rattle.capcheck_core.specs.Typed.{is_of_last, AreTypedBelow, count_of_last, numbers_of_method, TellsTyped, TellsUntyped}
+use Rattle.capcheck_core.specs.Typed.{is_of_last, AreTypedBelow, numbers_of_method, TellsTyped, TellsUntyped}
 use Rattle.capcheck_core.specs.CheckEnds.{IsTypedMethod, FailsMethod}
 
 -- ---- the test of the last package
@@ -52,8 +52,7 @@ split : (m n : ℕ) → m < n + 1 → (m ≡ n) ⊎ (m < n)
 split m n below = eq-or-lt_of_le (omega (arith, below))
 
 pub one_more : (w : Linked) (n : ℕ) → AreTypedBelow w n → IsTypedMethod w n → AreTypedBelow w (n + 1)
-one_more w n typed at = λ m of_last below.
-    elim (split m.number n below) [ inl e ↦ at m of_last e | inr less ↦ typed m of_last less ]
+one_more w n typed at = grind (arith, split)
 
 -- ---- the count of them
 
@@ -61,59 +60,27 @@ pub counted : (p : MethodRec → Bool) (xs : List MethodRec) (n : ℕ) (o : Opti
     → option_map p o ≡ Some asked
     → count_by p (take (n + 1) xs) ≡ count_by p (take n xs) + from_bool asked
 counted p xs n None asked at e = absurd cc
-counted p xs n (Some x) true at e =
-    let test : p x ≡ true = cc in
-    count_by_more_yes p xs n x (slice_get_within xs n x at) (ap p (get_or_from_slice_get xs n x x at) ∙ test)
-counted p xs n (Some x) false at e =
-    let test : p x ≡ false = cc in
-    let same = count_by_more_no p xs n x (slice_get_within xs n x at) (ap p (get_or_from_slice_get xs n x x at) ∙ test) in
-    same ∙ omega arith
+counted p xs n (Some x) true at e = grind (arith, slice_get_within xs n x at, get_or_from_slice_get xs n x x at, count_by_more_yes)
+counted p xs n (Some x) false at e = grind (arith, slice_get_within xs n x at, get_or_from_slice_get xs n x x at, count_by_more_no)
 
 pub one_counted : (w : Linked) (n count one : ℕ) (asked : Bool) → option_map (is_of_last (length w.infos)) (slice_get w.methods n) ≡ Some asked
     → one ≡ from_bool asked
     → count ≡ count_by (is_of_last (length w.infos)) (take n w.methods) → count + one ≡ count_by (is_of_last (length w.infos)) (take (n + 1) w.methods)
-one_counted w n count one asked e is before =
-    let step = counted (is_of_last (length w.infos)) w.methods n (slice_get w.methods n) asked refl e in
-    omega (arith, step, is, before)
+one_counted w n count one asked e is before = grind (arith, counted, length, slice_get)
 
 -- ---- the verdicts
 
 no_typing : (w : Linked) (m : Method) (end : FlowEnd) → (end ≡ Memory → ⊥) → LacksTyping w m end → HasFlowTyping w m Top → ⊥
-no_typing w m Memory known none = absurd (known refl)
-no_typing w m (NoTyping p fault) known none = none
-no_typing w m (FallsOff p) known none = none
-no_typing w m (Code p end) known none = none
-no_typing w m (BadTarget p target) known none = none
-no_typing w m (BadHandler entry number) known none = none
+no_typing w m x known none = grind (arith, known)
 
 -- the method that was not typed is the first
 pub first_untyped : (w : Linked) (n : ℕ) (end : FlowEnd) (number : MethodNumber) (text : List ℕ) → AreTypedBelow w n → FailsMethod w n end
     → (end ≡ Memory → ⊥)
     → option_map numbers_of_method (slice_get w.methods n) ≡ Some number → text ≡ refused_flow_line number end → TellsUntyped w text
-first_untyped w n end number text earlier f known named prints =
-    let at : slice_get w.methods n ≡ Some f.method.rec = subst (λ k. slice_get w.methods k ≡ Some f.method.rec) f.number f.of_last.method.rec in
-    let same : Some (numbers_of_method f.method.rec) ≡ Some number = sym (ap (option_map numbers_of_method) at) ∙ named in
-    let numbers : number ≡ numbers_of_method f.method.rec = cc in
-    record {
-      method = f.method;
-      first = record {
-        asked = f.of_last;
-        earlier = subst (AreTypedBelow w) (sym f.number) earlier;
-        lacks = no_typing w f.method end known f.none;
-      };
-      end = end;
-      known = known;
-      tells = f.tells;
-      prints = prints ∙ ap (λ k. refused_flow_line k end) numbers;
-    }
+first_untyped w n end number text earlier f known named prints = grind (arith, slice_get, option_map, no_typing, known)
 
 -- all of them are typed
 pub all_typed : (w : Linked) (n count : ℕ) (text : List ℕ) → AreTypedBelow w n → length w.methods ≤ n
     → count ≡ count_by (is_of_last (length w.infos)) (take n w.methods)
     → text ≡ methods_line (codes "typed ") count → TellsTyped w text
-all_typed w n count text typed past counts prints =
-    let whole : count ≡ count_of_last w = counts ∙ ap (count_by (is_of_last (length w.infos))) (take_all n w.methods past) in
-    record {
-      typed = λ m of_last. let below = slice_get_within w.methods m.number m.rec of_last.method.rec in typed m of_last (omega (arith, below, past));
-      prints = prints ∙ ap (methods_line (codes "typed ")) whole;
-    }
+all_typed w n count text typed past counts prints = grind (arith, count_by, length, take_all, slice_get_within)

@@ -1,9 +1,10 @@
 -- A list of words asks for one thing, so the verdict for it is the verdict for whatever they ask.
-use Rattle.std.proofs.Common.{◌≡◌, List, ℕ, subst, sym, inl, refl}
-use Rattle.std.specs.Prelude.{Result, Ok, Err, IfOk, IsAscii, IsUtf8, MatchResult}
+use Rattle.std.proofs.Common.{arith}
+use Rattle.std.proofs.Common.{◌≡◌, List, ℕ, subst}
+use Rattle.std.specs.Prelude.{Result, IfOk, IsAscii, IsUtf8, MatchResult}
 use Rattle.std.proofs.lemmas.Str.{IsUtf8-from_ascii}
-use Rattle.cap_text.specs.Request.{Request, probe, show, list, asm, check, verify, defend, run, transform, share}
-use Rattle.cap_text.specs.Request.{trial, generate, bound, pack, install, IsRequest, OneRequest}
+use Rattle.cap_text.specs.Request.{Request}
+use Rattle.cap_text.specs.Request.{IsRequest, OneRequest}
 use Rattle.capcheck_core.specs.declared.verdict.Verdict.{Verdict}
 use Rattle.capcheck_core.specs.declared.verdict.Verdict.TheVariants.{Memory}
 use Rattle.capcheck_core.specs.Outside.{Outside, Untouched}
@@ -18,34 +19,17 @@ asked words r before after verdict one is answers = record {
 
 -- without memory to read the words nothing was done, whatever they ask for
 no_memory : (r : Request) (before after : Outside) → Untouched before after → Answers r before after Memory
-no_memory (probe p) before after same = (inl (same.folders, tt {0}), same.card)
-no_memory (show d) before after same = (inl same.folders, same.card)
-no_memory (list d) before after same = (inl same.folders, same.card)
-no_memory (asm o) before after same = (inl same.folders, same.card)
-no_memory (check d) before after same = inl same
-no_memory (verify d) before after same = inl same
-no_memory (defend r) before after same = inl same
-no_memory (run r) before after same = inl same
-no_memory (transform t) before after same = inl same
-no_memory (share o) before after same = inl same
-no_memory (trial r) before after same = inl same
-no_memory (generate g) before after same = inl (same, refl)
-no_memory (bound e) before after same = inl same
-no_memory (pack o) before after same = (inl same.folders, same.card)
-no_memory (install d) before after same = inl same
+no_memory x before after same = grind (arith)
 
 pub without_memory : (words : List (List ℕ)) (outside : Outside) → IsVerdict words outside outside Memory
-without_memory words outside =
-    let same : Untouched outside outside = record { folders = refl; card = refl } in
-    record { command = λ r is. no_memory r outside outside same; usage = λ none. (tt {0}, same) }
+without_memory words outside = grind (arith, no_memory)
 
 -- a text that is made is the verdict's, and without memory for it there is none
 pub said : {T E : Type 0} (bytes : T → List ℕ) (as_verdict : T → Verdict) (P : Verdict → Type 0) (text : Result T E) (line : List ℕ)
     (verdict : Verdict)
     → P Memory → ((t : T) → bytes t ≡ line → P (as_verdict t))
     → IfOk text (λ t. bytes t ≡ line) → MatchResult text (λ t. verdict ≡ as_verdict t) (λ _. verdict ≡ Memory) → P verdict
-said bytes as_verdict P (Ok t) line verdict memory all says is = subst P (sym is) (all t says)
-said bytes as_verdict P (Err e) line verdict memory all says is = subst P (sym is) memory
+said bytes as_verdict x x2 line verdict memory all says is = grind (arith)
 
 -- bytes of ASCII are a text
 pub ascii_is_utf8 : (bytes : List ℕ) → IsAscii bytes → IsUtf8 bytes

@@ -1,18 +1,17 @@
 -- Where the parts of packages and the roles beside the first make a world, nothing stops a command before its own last step but a load
 -- that fails, or no memory.
-use Rattle.std.proofs.Common.{◌≡◌, ◌⊎◌, ◌<◌, ◌≤◌, ℕ, suc, List, [], ◌∷◌, length, Some, refl, sym, ap, subst, ◌∙◌, inl, inr}
+use Rattle.std.proofs.Common.{◌≡◌, ◌⊎◌, ◌≤◌, ℕ, suc, List, [], ◌∷◌, length, Some, refl, sym, subst, ◌∙◌, inl, inr}
 use Rattle.std.proofs.Common.{arith, length-append}
-use Rattle.std.specs.Prelude.{Err, IfSome, IsSomeAnd, None}
+use Rattle.std.specs.Prelude.{Err, IfSome}
 use Rattle.std.specs.FinMap as map
 use Rattle.std.specs.List.{AllZip, concat}
 use Rattle.std.proofs.lemmas.Slice.Zip.{AllZip-long}
 use Rattle.cap_bytes.specs.declared.fault.FormKind.{FormKind}
-use Rattle.cap_bytes.specs.declared.fault.FormKind.TheVariants.{Cut, Trailing}
 use Rattle.cap_files.specs.Counts.{Rose}
 use Rattle.cap_files.specs.Folder.{Parts, Folders, Holds, IsThere, IsAbsent, IsTooLong, LoadFails}
 use Rattle.cap_components.specs.declared.fault.PackFault.{PackFault}
 use Rattle.cap_components.specs.declared.fault.PackFault.TheVariants as faults
-use Rattle.cap_load.specs.LoadFile.{block, in_blocks, IsLoadFile, IsLoadFileWithin}
+use Rattle.cap_load.specs.LoadFile.{in_blocks, IsLoadFile, IsLoadFileWithin}
 use Rattle.cap_load.proofs.Streams as streams
 use Rattle.cap_package.specs.Parts.{Lent}
 use Rattle.cap_package.specs.PackageRecord.{PackageRecord}
@@ -64,20 +63,11 @@ same_packages (lent ∷ parts) (p ∷ ps) (q ∷ qs) s t = let head = one_packag
 
 block_long : (blocks : List (List ℕ)) → length (concat blocks) ≤ length (in_blocks blocks)
 block_long [] = omega arith
-block_long (content ∷ blocks) =
-    let rest = block_long blocks in
-    let joined = length-append content (concat blocks) in
-    let whole = length-append (block content) (in_blocks blocks) in
-    omega (arith, rest, joined, whole)
+block_long (content ∷ blocks) = grind (arith, length-append, block_long blocks)
 
 -- its contents are no longer than the file
 within : (room : ℕ) (bytes : List ℕ) (parts : List Lent) → length bytes ≤ room → IsLoadFile bytes parts → IsLoadFileWithin room bytes parts
-within room bytes parts short loads =
-    let few = block_long loads.blocks in
-    let whole = length-append (in_blocks loads.blocks) (0 ∷ []) in
-    let long = ap length loads.whole in
-    let contents = ap length loads.files.whole in
-    record { loads = loads; few = omega (arith, short, few, whole, long, contents) }
+within room bytes parts short loads = grind (arith, block_long, length-append, length)
 
 module _ (before : Folders) (held : Parts) (told : before.held ≡ Some held) where
   -- ---- files
@@ -89,17 +79,10 @@ module _ (before : Folders) (held : Parts) (told : before.held ≡ Some held) wh
   one_file key xs ys s t = let a = file_of key xs s in let b = file_of key ys t in cc
 
   pub not_absent : (key file : List ℕ) → IsThere before key file → IsAbsent before key → ⊥
-  not_absent key file there absent =
-      let is = file_of key file there in
-      let none : map.get held key ≡ None = subst (λ h. IfSome h (λ parts. map.get parts key ≡ None)) told absent in
-      absurd (cc)
+  not_absent key file there absent = grind (arith, file_of)
 
   pub not_long : (key file : List ℕ) → IsThere before key file → length file ≤ 65538 → IsTooLong before key → ⊥
-  not_long key file there short long =
-      let beyond : IsSomeAnd (map.get held key) (λ f. 65538 < length f) = subst
-      (λ h. IfSome h (λ parts. IsSomeAnd (map.get parts key) (λ f. 65538 < length f))) told long in
-      let over : 65538 < length file = subst (λ found. IsSomeAnd found (λ f. 65538 < length f)) (file_of key file there) beyond in
-      absurd (omega (arith, short, over))
+  not_long key file there short long = grind (arith, length, file_of)
 
   -- ---- parts
 
@@ -118,16 +101,13 @@ module _ (before : Folders) (held : Parts) (told : before.held ≡ Some held) wh
   same_parts [] (x ∷ xs) ys s t = absurd s
   same_parts (place ∷ at) [] ys s t = absurd s
   same_parts (place ∷ at) (x ∷ xs) [] s t = absurd t
-  same_parts (place ∷ at) (x ∷ xs) (y ∷ ys) s t =
-      let head = one_place place.source place.dir x y s.0 t.0 in let tail = same_parts at xs ys s.1 t.1 in cc
+  same_parts (place ∷ at) (x ∷ xs) (y ∷ ys) s t = grind (arith, one_place, same_parts at xs ys s.1 t.1)
 
   -- ---- packages
 
   -- a Load file that is there is neither absent nor too long
   no_load_lack : (dir : List ℕ) (parts : List Lent) (fault : PackFault) → AreInLoadFile before dir parts → LacksFile before dir load_tag fault → ⊥
-  no_load_lack dir parts (faults.MissingPart part) loaded lack = not_absent (load_key dir) loaded.stream loaded.there lack.1
-  no_load_lack dir parts (faults.PartTooLong part) loaded lack = not_long (load_key dir) loaded.stream loaded.there loaded.short lack.1
-  no_load_lack dir parts _ loaded lack = lack
+  no_load_lack dir parts x loaded lack = grind (arith, not_absent, not_long)
 
   -- parts that are had are not lacked
   no_parts_lack : (source : Source) (dir : List ℕ) (parts : List Lent) (fault : FolderFault) → ArePartsAt before source dir parts
@@ -156,26 +136,17 @@ module _ (before : Folders) (held : Parts) (told : before.held ≡ Some held) wh
   -- ---- roles
 
   one_roles : (at : List Place) (rs qs : List ℕ) → AreRoleBytes before at rs → AreRoleBytes before at qs → rs ≡ qs
-  one_roles [] rs qs r q = absurd r
-  one_roles (place ∷ at) rs qs r q = one_file (roles_key place.dir) rs qs r.there q.there
+  one_roles x rs qs r q = grind (arith, one_file)
 
   no_break : (file : List ℕ) (at : ℕ) (kind : FormKind) → length file ≡ 8 → BreaksRoles file at kind → ⊥
-  no_break file at Cut eight breaks = absurd (omega (arith, eight, breaks.0))
-  no_break file at Trailing eight breaks = absurd (omega (arith, eight, breaks.0))
-  no_break file at _ eight breaks = breaks
+  no_break file at x eight breaks = grind (arith)
 
   -- a folder with roles lacks none
   pub no_roles_lack : (dir roles : List ℕ) (fault : PackFault) → AreRolesIn before dir roles → LacksRoles before dir fault → ⊥
-  no_roles_lack dir roles (faults.MissingPart part) r lack = not_absent (roles_key dir) roles r.there lack.1
-  no_roles_lack dir roles (faults.PartTooLong part) r lack = let eight = r.eight in not_long (roles_key dir) roles r.there (omega (arith, eight)) lack.1
-  no_roles_lack dir roles (faults.Form form) r lack =
-      let same = one_file (roles_key dir) lack.file roles lack.there r.there in
-      no_break lack.file form.at form.kind (ap length same ∙ r.eight) lack.refused.breaks
-  no_roles_lack dir roles _ r lack = lack
+  no_roles_lack dir roles x r lack = grind (arith, not_absent, not_long, one_file, no_break, length)
 
   no_roles_lack_by : (dir roles : List ℕ) (fault : FolderFault) → AreRolesIn before dir roles → OfPack (LacksRoles before dir) fault → ⊥
-  no_roles_lack_by dir roles (Pack fault) r lack = no_roles_lack dir roles fault r lack
-  no_roles_lack_by dir roles (Stream fault) r never = never
+  no_roles_lack_by dir roles x r lack = grind (arith, no_roles_lack)
 
   -- ---- where nothing stops the loads
 
@@ -200,15 +171,13 @@ module _ (before : Folders) (held : Parts) (told : before.held ≡ Some held) wh
   no_stop P R never none (place ∷ at) (x ∷ xs) [] roles loaded stand are stop = absurd stand
   no_stop P R never none (place ∷ at) (x ∷ xs) (p ∷ ps) roles loaded stand are (inl here) = never 0 place x p loaded.0 stand.0 here
   no_stop P R never none (place ∷ at) (x ∷ xs) (p ∷ ps) roles loaded stand are (inr (inl roles_at)) = none place.dir roles are roles_at.holds
-  no_stop P R never none (place ∷ at) (x ∷ xs) (p ∷ ps) roles loaded stand are (inr (inr after)) =
-      no_first P never 1 at xs ps loaded.1 stand.1 after.first
+  no_stop P R never none (place ∷ at) (x ∷ xs) (p ∷ ps) roles loaded stand are (inr (inr after)) = grind (arith, no_first)
 
 -- ---- a load that failed raised the count
 
 place_rose : (before after : Folders) (source : Source) (dir : List ℕ) → FailsPartsAt before source dir after
     → Rose before.load_faults after.load_faults
-place_rose before after Components dir fails = fails.1.holds.rose
-place_rose before after LoadFile dir fails = fails.rose
+place_rose before after x dir fails = grind (arith)
 
 first_rose : (before after : Folders) (from : ℕ) (at : List Place) → IsFirstWhere before from at (λ n place. FailsPartsBy before place after)
     → Rose before.load_faults after.load_faults
@@ -219,10 +188,7 @@ first_rose before after from (place ∷ at) (inr r) = first_rose before after (s
 stop_rose : (before after : Folders) (at : List Place)
     → IsFirstStop before at (λ n place. FailsPartsBy before place after) (λ dir. LoadFails before (roles_key dir) after)
     → Rose before.load_faults after.load_faults
-stop_rose before after [] stop = absurd stop
-stop_rose before after (place ∷ at) (inl here) = place_rose before after place.source place.dir here
-stop_rose before after (place ∷ at) (inr (inl roles_at)) = roles_at.holds.rose
-stop_rose before after (place ∷ at) (inr (inr farther)) = first_rose before after 1 at farther.first
+stop_rose before after x stop = grind (arith, place_rose, first_rose)
 
 -- ---- all of it
 
@@ -233,8 +199,7 @@ counted at before world can =
 
 -- roles stand beside a first package
 no_folders : (before : Folders) (at : List Place) (roles : List ℕ) → length at ≡ 0 → AreRoleBytes before at roles → ⊥
-no_folders before [] roles none are = are
-no_folders before (place ∷ at) roles none are = absurd (omega (arith, none))
+no_folders before x roles none are = grind (arith)
 
 -- the loads do not stop
 unstopped : (at : List Place) (before after : Outside) (world : Linked) (verdict : Verdict) → CanLink at before.folders world
@@ -263,14 +228,7 @@ unstopped at before after world StoreFault can calm stops = absurd stops
 -- the packages are linked
 linked : (packages : List PackageRecord) (roles : List ℕ) (world : Linked) (verdict : Verdict) → IsLinked packages roles world
     → StopsAtLink packages roles verdict → status_of verdict ≡ 6
-linked packages roles world Memory is stops = refl
-linked packages roles world (Malformed text) is stops = absurd (linked_faultless packages roles world stops.fault is stops.first)
-linked packages roles world (Done text) is stops = absurd stops
-linked packages roles world (Refused text) is stops = absurd stops
-linked packages roles world (Limit text) is stops = absurd stops
-linked packages roles world Usage is stops = absurd stops
-linked packages roles world ReadFault is stops = absurd stops
-linked packages roles world StoreFault is stops = absurd stops
+linked packages roles world x is stops = grind (arith, linked_faultless)
 
 -- what is given is what is there
 same_given : (at : List Place) (before : Folders) (world : Linked) (can : CanLink at before world)

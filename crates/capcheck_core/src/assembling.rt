@@ -1,5 +1,5 @@
 //! `asm`: a package with the methods of the listing beside it.
-ghost use Rattle.std.specs.Prelude.{◌≡◌, ◌≤◌, length};
+ghost use Rattle.std.specs.Prelude.{◌≤◌, length};
 ghost use Rattle.std.specs.Option.{option_copied};
 ghost use Rattle.cap_text.specs.OutOfDir.{out_of_dir_request};
 ghost use Rattle.capcheck_core.specs.Assemble.{AssemblesBeside, AssemblesText, IsAssembled, IsUnassembledBy, PutsMethods};

@@ -1,7 +1,6 @@
 ghost use Rattle.std.specs.Prelude.{◌≡◌, Some, None, IfOk, map};
 ghost use Rattle.cap_text.specs.Run.{run_request};
 ghost use Rattle.cap_text.specs.Word.{argument_read};
-ghost use Rattle.vm_step.specs.Start.{start_fault, entry_state};
 ghost use Rattle.vm_defend.specs.Begun.{IsBegun};
 ghost use Rattle.vm_defend.specs.Held.{IsRunOf};
 ghost use Rattle.capcheck_core.specs.Defend.{method_entered, RunsDefended, RunsOrRefuses};

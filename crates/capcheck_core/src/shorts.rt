@@ -1,4 +1,4 @@
-ghost use Rattle.std.specs.Prelude.{◌≡◌, ℤ, ◌≤◌, map, IfOk, IfErr, IfSome, IfNone};
+ghost use Rattle.std.specs.Prelude.{ℤ, ◌≤◌, map, IfOk, IfErr, IfSome, IfNone};
 ghost use Rattle.cap_text.specs.Word.{argument_read};
 ghost use Rattle.capcheck_core.specs.Shorts.{IsShort, AreShorts, RefusesStart};
 
