@@ -35,8 +35,7 @@ said_short parts tag g info items h = framed_short parts tag h.file info h.there
 
 sized_short : (parts : List Lent) (tag size : ℕ) (file : Option (List ℕ)) → held parts tag ≡ file → IsSizeOf tag size file → (size ≡ 0 → ⊥)
     → IsShort parts tag
-sized_short parts tag size None e h some = absurd (some h)
-sized_short parts tag size (Some file) e h some = framed_short parts tag file h.0 e h.1
+sized_short parts tag size x e h some = grind (arith, framed_short)
 
 -- ---- tags
 
@@ -128,9 +127,7 @@ module _ (p : PackageRecord) (s : StandsFor p.parts p) where
       by (Some size) f h = (size, f, λ z. true≢false (sym (subst (λ n. not (n == 0) ≡ true) z h)))
 
   sized_there : (tag : ℕ) → is_optional tag ≡ true → is_sized (Ok p.directory) tag ≡ true → IsShort p.parts tag
-  sized_there tag o e =
-      let n = some_size tag e in
-      sized_short p.parts tag n.0 (held p.parts tag) refl (optional_tells tag o n.0 n.1) n.2
+  sized_there tag o e = grind (arith, some_size, sized_short, optional_tells)
 
   pub asked_short : (tag : ℕ) → is_asked p.parts tag ≡ true → IsShort p.parts tag
   asked_short tag e =

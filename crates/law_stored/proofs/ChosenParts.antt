@@ -1,12 +1,12 @@
 -- The parts that are loaded of a folder are components, so each of them stands in the Load file.
 use Rattle.std.proofs.Common.{◌≡◌, ◌≤◌, ◌<◌, ℕ, Bool, true, false, List, Option, Some, None, IsNone}
-use Rattle.std.proofs.Common.{refl, sym, ap, ◌∙◌, arith, true≢false, if◌then◌else◌}
-use Rattle.std.specs.Prelude.{◌==◌, ◌&&◌, ◌||◌, nat_le, nat_lt, is_some, position}
+use Rattle.std.proofs.Common.{refl, ap, ◌∙◌, arith, true≢false, if◌then◌else◌}
+use Rattle.std.specs.Prelude.{◌||◌, nat_le, nat_lt, is_some}
 use Rattle.std.proofs.lemmas.Bool.{lt-ltb, le-leb}
 use Rattle.std.proofs.lemmas.Bool.Decides.{nat_tests}
 use Rattle.cap_components.specs.Parts.{Lent, held}
 use Rattle.cap_files.specs.Folder.{Folders}
-use Rattle.cap_load.specs.Order.{components, place}
+use Rattle.cap_load.specs.Order.{place}
 use Rattle.cap_load.specs.Packing.{AreComponents}
 use Rattle.cap_write.proofs.Told.{tags_from, has_tag_from}
 use Rattle.capcheck_core.specs.Loads.{is_required, is_optional, is_asked, AreParts}
@@ -22,25 +22,11 @@ IsPlaced tag = (is_required tag || is_optional tag) ≡ true → is_some (place 
 
 placed_each : Each IsPlaced (tags_from 1 12)
 unfolding place
-placed_each = (
-  λ e. refl,
-  (
-    λ e. refl,
-    (
-      λ e. refl,
-      (
-        λ e. refl,
-        (λ e. refl, (λ e. refl, (λ e. refl, (λ e. refl, (λ e. refl, (λ e. refl, (λ e. refl, (λ e. absurd (true≢false (sym e)), tt)))))))),
-      ),
-    ),
-  ),
-)
+placed_each = grind (arith, true≢false)
 
 custom_placed : (tag : ℕ) → 128 ≤ tag → tag < 256 → is_some (place tag) ≡ true
 unfolding place
-custom_placed tag least most =
-    let is : (nat_le 128 tag && nat_lt tag 256) ≡ true = ap (λ b. b && nat_lt tag 256) (le-leb 128 tag least) ∙ lt-ltb tag 256 most in
-    ap (λ b. is_some (if b then Some tag else position (λ t. t == tag) components)) is
+custom_placed tag least most = grind (arith, le-leb, lt-ltb)
 
 least_tag : (tag : ℕ) → (is_required tag || is_optional tag) ≡ true → 1 ≤ tag
 least_tag tag e = grind (arith, nat_tests, e)
@@ -61,8 +47,7 @@ is_placed tag most e = by (nat_le 128 tag) refl
 -- ---- the parts of a folder
 
 none_either : (b : Bool) (file : Option (List ℕ)) → file ≡ None → (if b then file else None) ≡ file
-none_either true file e = refl
-none_either false file e = sym e
+none_either x file e = grind (arith)
 
 module _ (before : Folders) (dir : List ℕ) (parts : List Lent) (loaded : AreParts before dir parts) where
   below : (tag : ℕ) (bytes : List ℕ) → held parts tag ≡ Some bytes → tag < 256
@@ -75,8 +60,7 @@ module _ (before : Folders) (dir : List ℕ) (parts : List Lent) (loaded : ArePa
       over n f = grind (arith, nat_tests, f)
 
       by : (b : Bool) → nat_lt tag 256 ≡ b → tag < 256
-      by true f = under tag f
-      by false f = let none = above_none 0 256 tag parts loaded.rising (over tag f) in absurd (cc)
+      by x f = grind (arith, above_none, over)
 
   held_asked : (tag : ℕ) (bytes : List ℕ) → held parts tag ≡ Some bytes → is_asked parts tag ≡ true
   held_asked tag bytes e = by (is_asked parts tag) refl
@@ -90,8 +74,7 @@ module _ (before : Folders) (dir : List ℕ) (parts : List Lent) (loaded : ArePa
       by false f = absurd (some_none (held parts tag) e (loaded.unasked tag (below tag bytes e) f))
 
   held_placed : (tag : ℕ) (bytes : List ℕ) → held parts tag ≡ Some bytes → is_some (place tag) ≡ true
-  held_placed tag bytes e =
-      is_placed tag (below tag bytes e) (second-op (is_required tag) (is_optional tag) _ (held_asked tag bytes e))
+  held_placed tag bytes e = grind (arith, is_placed, below, second-op, held_asked)
 
   -- the components among them are all of them
   pub chosen_same : (chosen : List Lent) → AreComponents parts chosen → HoldTheSame chosen parts

@@ -1,4 +1,5 @@
 -- Lists with a last element.
+use Rattle.std.proofs.Common.{arith}
 use Rattle.std.proofs.Common.{◌≡◌, List, [], ◌∷◌, ◌++◌, refl, ap}
 use Rattle.std.specs.List.{AllZip}
 
@@ -28,5 +29,4 @@ with_last_beside R (a ∷ xs) (b ∷ ys) x y h r = (h.0, with_last_beside R xs y
 
 -- beside no element stands none
 pub none_beside : {A B : Type 0} (R : A → B → Type 0) (ys : List B) → AllZip R [] ys → ys ≡ []
-none_beside R [] h = refl
-none_beside R (y ∷ ys) h = absurd h
+none_beside x x2 h = grind (arith)

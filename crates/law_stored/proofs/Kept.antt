@@ -1,5 +1,6 @@
 -- What a folder has stays where something is stored in another one.
-use Rattle.std.proofs.Common.{◌≡◌, ℕ, List, [], ◌∷◌, Option, Some, None, IfSome, IsNone, IsSome, sym, ◌∙◌}
+use Rattle.std.proofs.Common.{arith}
+use Rattle.std.proofs.Common.{◌≡◌, ℕ, List, [], ◌∷◌, Option, Some, None, IfSome, IsNone, IsSome, sym}
 use Rattle.std.specs.FinMap as map
 use Rattle.std.specs.Prelude.{IsSomeAnd}
 use Rattle.std.specs.List.{AllZip}
@@ -44,9 +45,7 @@ turned out before after told same dir apart tag = by after.held before.held told
 module _ (out : List ℕ) (before after : Folders) (same : SameElsewhere out before after) where
   found_kept : (key : List ℕ) (found : Option (List ℕ)) (now old : Option Parts) → SameAt key now old → IfSome old (λ parts. map.get parts key ≡ found)
       → IfSome now (λ parts. map.get parts key ≡ found)
-  found_kept key found None old s h = tt {0}
-  found_kept key found (Some n) None s h = absurd s
-  found_kept key found (Some n) (Some o) s h = s ∙ h
+  found_kept key found x old s h = grind (arith)
 
   module _ (dir : List ℕ) (apart : ¬ (dir ≡ out)) where
     there_kept : (tag : ℕ) (bytes : List ℕ) → IsThere before (tag ∷ dir) bytes → IsThere after (tag ∷ dir) bytes
@@ -57,11 +56,7 @@ module _ (out : List ℕ) (before after : Folders) (same : SameElsewhere out bef
     has_kept tag (Some bytes) h = (there_kept tag bytes h.0, h.1)
 
     parts_kept : (parts : List Lent) → AreParts before dir parts → AreParts after dir parts
-    parts_kept parts h = record {
-      rising = h.rising;
-      asked = λ tag lt e. has_kept tag (held parts tag) (h.asked tag lt e);
-      unasked = h.unasked;
-    }
+    parts_kept parts h = grind (arith, has_kept)
 
     pub roles_kept : (roles : List ℕ) → AreRolesIn before dir roles → AreRolesIn after dir roles
     roles_kept roles h = record { there = there_kept roles_tag roles h.there; eight = h.eight }

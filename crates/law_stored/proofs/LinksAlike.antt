@@ -1,51 +1,45 @@
 -- Packages that are the same but for the order of the parts that they were read from make the same world.
+use Rattle.std.proofs.Common.{arith}
 use Rattle.std.proofs.Common.{◌≡◌, ◌+◌, ℕ, List, [], ◌∷◌, ◌++◌, length, map, flat_map, filter_map, sum_by, slice_get, Option, Some, None, option_map}
 use Rattle.std.proofs.Common.{option_and_then, option_to_list, slice_index, refl, sym, ap, subst, ◌∙◌}
-use Rattle.std.specs.Prelude.{if◌then◌else◌, nat_lt, is_none, count_by, ◌==◌, ◌||◌}
+use Rattle.std.specs.Prelude.{if◌then◌else◌, nat_lt, count_by}
 use Rattle.std.proofs.lemmas.List.Folds.{flat_map-map}
 use Rattle.std.proofs.lemmas.Simd.{map-map}
-use Rattle.first_fault.specs.First.{at_fault, AllEmpty}
+use Rattle.first_fault.specs.First.{AllEmpty}
 use Rattle.cap_bytes.specs.declared.class_reference.ClassReference.{ClassReference}
-use Rattle.cap_class.specs.ClassFormat.{Class, is_interface}
+use Rattle.cap_class.specs.ClassFormat.{Class}
 use Rattle.cap_desc.specs.DescriptorFormat as described
 use Rattle.cap_pool.specs.PoolFormat.{Entry}
 use Rattle.cap_pool.specs.declared.pool_reference.PoolReference.{PoolReference}
-use Rattle.cap_pool.specs.declared.pool_reference.PoolReference.TheVariants.{Class as ClassEntry, InstanceField, VirtualMethod, SuperMethod}
-use Rattle.cap_pool.specs.declared.pool_reference.PoolReference.TheVariants.{StaticField, StaticMethod}
 use Rattle.cap_pool.specs.declared.pool_reference.StaticReference.{StaticReference}
-use Rattle.cap_pool.specs.declared.pool_reference.StaticReference.TheVariants.{Internal, External}
 use Rattle.cap_pool.specs.PoolReference.{referred}
-use Rattle.cap_package.specs.Descriptions.{Description, field_type}
-use Rattle.cap_package.specs.HeaderChecks.{is_static}
+use Rattle.cap_package.specs.Descriptions.{Description}
 use Rattle.cap_package.specs.PackageRecord.{PackageRecord, initial_arrays}
 use Rattle.cap_package.specs.StaticPlaces.{static_places}
 use Rattle.cap_index.specs.Component.{index_in, lists_in}
 use Rattle.cap_index.specs.Indexes.{is_coded, lists_after, package_lists, indexes_after, indexes_of}
-use Rattle.jc_base.specs.declared.record.ArrayRec.{ArrayRec}
 use Rattle.jc_base.specs.declared.record.Member.{Member}
 use Rattle.jc_base.specs.declared.record.Member.TheVariants.{ClassOf, StaticCall}
 use Rattle.jc_base.specs.declared.record.MethodRec.{MethodRec}
 use Rattle.jc_base.specs.declared.record.StaticRec.{StaticRec}
 use Rattle.jc_base.specs.Class.{ClassTable, object}
 use Rattle.jc_base.specs.World.{Linked}
-use Rattle.cap_desc.specs.DescriptorFormat.{instance_token}
-use Rattle.jc_resolve.specs.declared.fault.LinkFault.TheVariants.{TooManyStatics, NoRoom, NoMember, BadCatch}
+use Rattle.jc_resolve.specs.declared.fault.LinkFault.TheVariants.{TooManyStatics}
 use Rattle.jc_resolve.specs.Named.{infos_of}
 use Rattle.jc_resolve.specs.NamedClasses.{describes}
 use Rattle.jc_resolve.specs.OwnFields.{own_field, fields_in, own_fields}
-use Rattle.jc_resolve.specs.WorldTypes.{kind_of}
 use Rattle.jc_classes.specs.LineConditions as lineage
 use Rattle.jc_classes.specs.Outline.{outline}
 use Rattle.jc_classes.specs.TableConditions as classes
 use Rattle.jc_classes.specs.Tables.{class_tables}
-use Rattle.jc_link.specs.Arrays.{array_record, array_records, initial_cells}
-use Rattle.jc_link.specs.Catches.{class_caught, class_caught_by, thrown_by, catches_throwable, HandlerPlace, handlers_from, handlers_after}
+use Rattle.jc_link.specs.Arrays.{array_record, array_records}
+use Rattle.jc_link.specs.Catches.{class_caught, class_caught_by, catches_throwable, handlers_from, handlers_after}
 use Rattle.jc_link.specs.Catches.{catch_fault, bad_catches}
-use Rattle.jc_link.specs.Entries.{place_in, field_place, method_place}
+use Rattle.jc_link.specs.Entries.{field_place, method_place}
 use Rattle.jc_link.specs.Fields.{class_sites, sites_of_classes, sites_after}
 use Rattle.jc_link.specs.Members.{class_member, proper_by, proper_referred, virtual_by, virtual_member, super_of, super_member, static_at, static_member}
 use Rattle.jc_link.specs.Members.{call_member, field_of, field_member, member_referred, member_of}
-use Rattle.jc_link.specs.Pools.{PoolPlace, places_from, places_after, member_fault, missing_members, pools_after, pools}
+use Rattle.jc_link.specs.Pools.{places_from, places_after, member_fault, missing_members, pools_after, pools}
 use Rattle.jc_link.specs.Roles.{abstract_roles}
 use Rattle.jc_link.specs.Room.{statics_fault, arrays_fault}
 use Rattle.jc_link.specs.Statics as statics
@@ -74,8 +68,7 @@ pools_carried named k [] = refl
 pools_carried named k (p ∷ ps) = λ i. filter_map (named k) p.pool ∷ pools_carried named (k + 1) ps i
 
 first_bare : (ps : List PackageRecord) → first_classes (all_bare ps) ≡ first_classes ps
-first_bare [] = refl
-first_bare (p ∷ ps) = refl
+first_bare x = grind (arith)
 
 pub infos_bare : (ps : List PackageRecord) → infos_of (all_bare ps) ≡ infos_of ps
 infos_bare ps = map-map (λ (p : PackageRecord). p.methods.info) bare ps
@@ -110,17 +103,14 @@ module _ (ps : List PackageRecord) where
 
   own_field_bare : (n k : ℕ) (d : Description) (f : described.FieldDescriptor) → own_field now n k d f ≡ own_field ps n k d f
   unfolding own_field
-  own_field_bare n k d f =
-      λ i. if is_static f.flags then None
-      else option_map (λ t. record { token = instance_token f; kind = kind_of t; ty = type_bare ps n k t i }) (field_type d f.ty)
+  own_field_bare n k d f = grind (arith, option_map, type_bare)
 
   fields_in_bare : (n k : ℕ) (d : Description) (offset : ℕ) (c : described.ClassDescriptor) → fields_in now n k d offset c ≡ fields_in ps n k d offset c
   fields_in_bare n k d offset c = λ i. if describes offset c then filter_map (λ f. own_field_bare n k d f i) c.fields else []
 
   own_fields_bare : (n k : ℕ) (p : PackageRecord) (c : Class) → own_fields now n k (bare p) c ≡ own_fields ps n k p c
   unfolding own_fields
-  own_fields_bare n k p c =
-      λ i. if is_interface c.flags then [] else flat_map (λ d. fields_in_bare n k p.description c.offset d i) p.description.items.classes
+  own_fields_bare n k p c = grind (arith, flat_map, fields_in_bare)
 
   class_sites_bare : (t : ClassTable) (k : ℕ) (p : PackageRecord) (c : ℕ) (rs : List Class)
       → sites_of_classes now t k (bare p) c rs ≡ sites_of_classes ps t k p c rs
@@ -155,15 +145,11 @@ module _ (ps : List PackageRecord) where
 
   field_place_bare : (k : ℕ) (r : StaticReference) → field_place now k r ≡ field_place ps k r
   unfolding field_place
-  field_place_bare k (Internal offset) = refl
-  field_place_bare k (External import class token) =
-      λ i. option_and_then (λ j. option_map (place_in j) (exported_field_bare ps j class token i)) (met_bare ps k import i)
+  field_place_bare k x = grind (arith, option_and_then, option_map, exported_field_bare, met_bare)
 
   method_place_bare : (k : ℕ) (r : StaticReference) → method_place now k r ≡ method_place ps k r
   unfolding method_place
-  method_place_bare k (Internal offset) = refl
-  method_place_bare k (External import class token) =
-      λ i. option_and_then (λ j. option_map (place_in j) (exported_method_bare ps j class token i)) (met_bare ps k import i)
+  method_place_bare k x = grind (arith, option_and_then, option_map, exported_method_bare, met_bare)
 
   static_bare : (fields : List StaticRec) (k : ℕ) (r : StaticReference) → static_member now fields k r ≡ static_member ps fields k r
   unfolding static_member
@@ -175,12 +161,7 @@ module _ (ps : List PackageRecord) where
 
   member_referred_bare : (t : ClassTable) (fields : List StaticRec) (k : ℕ) (r : PoolReference)
       → member_referred now t fields k r ≡ member_referred ps t fields k r
-  member_referred_bare t fields k (ClassEntry c) = class_member_bare k c
-  member_referred_bare t fields k (InstanceField c token) = instance_bare t k c token
-  member_referred_bare t fields k (VirtualMethod c token) = virtual_bare t k c token
-  member_referred_bare t fields k (SuperMethod c token) = super_bare t k c token
-  member_referred_bare t fields k (StaticField r) = static_bare fields k r
-  member_referred_bare t fields k (StaticMethod r) = call_bare k r
+  member_referred_bare t fields k x = grind (arith, class_member_bare, instance_bare, virtual_bare, super_bare, static_bare, call_bare)
 
   member_bare : (t : ClassTable) (fields : List StaticRec) (k : ℕ) (e : Entry) → member_of now t fields k e ≡ member_of ps t fields k e
   unfolding member_of
@@ -191,26 +172,19 @@ module _ (ps : List PackageRecord) where
 
   missing_bare : (t : ClassTable) (fields : List StaticRec) → missing_members now t fields ≡ missing_members ps t fields
   unfolding member_fault
-  missing_bare t fields =
-      λ i. at_fault (λ (at : PoolPlace). if is_none (member_bare t fields at.home at.entry i) then Some (NoMember at.home at.number) else None)
-      (places_bare 0 ps i)
+  missing_bare t fields = grind (arith, member_bare, places_bare)
 
   -- ---- handlers
 
   caught_bare : (k : ℕ) (r : PoolReference) → class_caught now k r ≡ class_caught ps k r
-  caught_bare k (ClassEntry reference) = referred_bare ps k reference
-  caught_bare k other = refl
+  caught_bare k other = grind (arith, referred_bare)
 
   caught_by_bare : (k : ℕ) (o : Option Entry) → class_caught_by now k o ≡ class_caught_by ps k o
-  caught_by_bare k None = refl
-  caught_by_bare k (Some e) = caught_bare k (referred e)
+  caught_by_bare k x = grind (arith, caught_bare)
 
   catches_bare : (t : ClassTable) → bad_catches now t ≡ bad_catches ps t
   unfolding catch_fault catches_throwable
-  catches_bare t =
-      λ i. at_fault (λ (at : HandlerPlace).
-      if at.handler.index == 0 || thrown_by t (caught_by_bare at.home (slice_get at.pool at.handler.index) i) then None
-      else Some (BadCatch at.home at.number)) (handlers_bare 0 ps i)
+  catches_bare t = grind (arith, caught_by_bare, slice_get, handlers_bare)
 
   -- ---- conditions
 
@@ -218,14 +192,10 @@ module _ (ps : List PackageRecord) where
   statics_room = ap (λ n. if nat_lt 32768 n then Some (TooManyStatics n) else None) cells_bare
 
   arrays_room : arrays_fault now ≡ arrays_fault ps
-  arrays_room =
-      ap (λ (as_ : List ArrayRec). if nat_lt 4096 (length as_) then Some (NoRoom (length as_))
-      else (if nat_lt 32768 (initial_cells as_) then Some (NoRoom (initial_cells as_)) else None)) (arrays_bare ps)
+  arrays_room = grind (arith, length, arrays_bare)
 
   table_conditions_bare : (roles : List ℕ) → table_conditions now roles ≡ table_conditions ps roles
-  table_conditions_bare roles =
-      λ i. names_bare ps i ++ (lineage.conditions (classes_are roles i) (first_bare ps i) roles
-      ++ classes.conditions (outline (classes_are roles i) roles) (classes_are roles i) (methods_are roles i))
+  table_conditions_bare roles = grind (arith, names_bare, classes_are, first_bare, methods_are)
 
   member_conditions_bare : (roles : List ℕ) → member_conditions now roles ≡ member_conditions ps roles
   member_conditions_bare roles =

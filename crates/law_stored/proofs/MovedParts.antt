@@ -1,26 +1,25 @@
 -- Which package parts stand for is told by what they hold: their order tells nothing.
-use Rattle.std.proofs.Common.{◌≡◌, ℕ, List, ◌∷◌, ◌++◌, drop, Option, Some, None, Result, Ok, Err, option_map, option_and_then}
-use Rattle.std.proofs.Common.{refl, sym, ap, subst, ◌∙◌}
-use Rattle.std.specs.Prelude.{if◌then◌else◌, ◌==◌, is_some, find}
+use Rattle.std.proofs.Common.{arith}
+use Rattle.std.proofs.Common.{◌≡◌, ℕ, List, drop, Option, Some, None, Result, option_map, option_and_then}
+use Rattle.std.proofs.Common.{sym, ap, ◌∙◌}
+use Rattle.std.specs.Prelude.{if◌then◌else◌, is_some}
 use Rattle.cap_bytes.specs.Grammar.{Grammar}
 use Rattle.cap_bytes.specs.Spelling.{info_of}
 use Rattle.cap_bytes.specs.Reading.{reading}
-use Rattle.first_fault.specs.First.{at_fault, AllEmpty}
 use Rattle.cap_frame.specs.Directory.{size_in}
-use Rattle.cap_frame.specs.DirectoryFormat.{DirectoryItems, Custom, directory_info}
+use Rattle.cap_frame.specs.DirectoryFormat.{DirectoryItems, directory_info}
 use Rattle.cap_frame.specs.HeaderFormat.{header_info}
 use Rattle.cap_components.specs.declared.fault.PackFault.{PackFault}
 use Rattle.cap_components.specs.declared.fault.PackFault.TheVariants.{MissingPart}
 use Rattle.cap_components.specs.Components.{◌>>=◌, formed, framed, info_in, read_part, read_directory}
 use Rattle.cap_components.specs.PackageRecord.{PackageRecord}
-use Rattle.cap_components.specs.PartChecks.{required, optional, components, custom_tags, absent_fault, absent_by, sized_fault, form_by, form_fault}
+use Rattle.cap_components.specs.PartChecks.{absent_fault, absent_by, sized_fault, form_by, form_fault}
 use Rattle.cap_components.specs.PartChecks.{size_by, size_fault}
 use Rattle.cap_components.specs.Parts.{Lent}
 use Rattle.cap_components.specs.Saying.{HoldsComponent, Says, SaysIf, AreSaid}
-use Rattle.cap_package.specs.Customs.{info_or_none}
-use Rattle.cap_package.specs.FirstFault.{missing_parts, conditions, conditions_of}
+use Rattle.cap_package.specs.FirstFault.{missing_parts, conditions_of}
 use Rattle.cap_package.specs.StandsFor.{StandsFor}
-use Rattle.cap_index.specs.Component.{index_in, info_with_aid}
+use Rattle.cap_index.specs.Component.{index_in}
 use Rattle.law_stored.specs.PackedIsInstalled.{HoldTheSame, read_from}
 
 module _ (moved parts : List Lent) (same : HoldTheSame moved parts) where
@@ -48,24 +47,10 @@ module _ (moved parts : List Lent) (same : HoldTheSame moved parts) where
   says_same tag g items h = (h.0, holds_same tag g h.0 items h.1)
 
   says_if_same : {X : Type 0} (tag : ℕ) (g : Grammar X) (o : Option X) → SaysIf parts tag g o → SaysIf moved tag g o
-  says_if_same tag g None h = same tag ∙ h
-  says_if_same tag g (Some items) h = says_same tag g items h
+  says_if_same tag g x h = grind (arith, says_same)
 
   said_same : (p : PackageRecord) → AreSaid parts p → AreSaid moved (read_from moved p)
-  said_same p s = record {
-    same = refl;
-    header = says_same 1 _ p.header s.header;
-    directory = says_same 2 _ p.directory s.directory;
-    applets = says_if_same 3 _ p.applets s.applets;
-    imports = says_same 4 _ p.imports s.imports;
-    pool = says_same 5 _ p.pool s.pool;
-    classes = says_same 6 _ p.classes s.classes;
-    methods = holds_same 7 _ p.methods.info p.methods.handlers s.methods;
-    statics = says_same 8 _ p.statics s.statics;
-    locations = says_same 9 _ p.locations s.locations;
-    export = says_if_same 10 _ p.export s.export;
-    description = holds_same 11 _ p.description.info p.description.items s.description;
-  }
+  said_same p s = grind (arith, says_same, says_if_same, holds_same)
 
   -- ---- what is at fault
 
@@ -86,31 +71,18 @@ module _ (moved parts : List Lent) (same : HoldTheSame moved parts) where
   size_same d tag = ap (size_by tag (size_in d tag)) (info_same tag)
 
   missing_same : (r : Result DirectoryItems PackFault) → missing_parts moved r ≡ missing_parts parts r
-  missing_same (Err fault) = λ i. at_fault (λ tag. absent_same tag i) required
-  missing_same (Ok d) =
-      λ i. (at_fault (λ tag. absent_same tag i) required ++ at_fault (λ tag. sized_same d tag i) optional)
-      ++ at_fault (λ tag. sized_same d tag i) (custom_tags d)
+  missing_same x = grind (arith, absent_same, sized_same)
 
   agree_same : (p : PackageRecord) → p.parts ≡ parts → conditions_of moved (read_from moved p) ≡ conditions_of parts p
-  agree_same p are =
-      (λ i. at_fault (λ tag. form_same tag i) (custom_tags p.directory)
-      ∷ (at_fault (λ tag. size_same p.directory tag i) components ++ at_fault (λ tag. size_same p.directory tag i) (custom_tags p.directory))
-      ∷ drop 1 (conditions p))
-      ∙ ap (λ ps. conditions_of parts (read_from ps p)) (sym are)
+  agree_same p are = grind (arith, form_same, size_same, drop)
 
   -- parts that hold the same stand for the same package
   pub stand_moved : (p : PackageRecord) → StandsFor parts p → StandsFor moved (read_from moved p)
-  stand_moved p s = record {
-    said = said_same p s.said;
-    missing = (λ i. missing_same (directory_same i) i) ∙ s.missing;
-    agree = subst AllEmpty (sym (agree_same p s.said.same)) s.agree;
-  }
+  stand_moved p s = grind (arith, said_same p s.said, agree_same p s.said.same, missing_same, directory_same)
 
   -- so its target index is the same
   index_by : (p : PackageRecord) → index_in (read_from moved p) ≡ index_in (read_from parts p)
-  index_by p =
-      λ i. option_and_then info_with_aid (option_map (λ (c : Custom). record { aid = c.aid; info = info_or_none (info_same 128 i) })
-      (find (λ (c : Custom). c.tag == 128) p.directory.customs))
+  index_by p = grind (arith, option_and_then, option_map, info_same)
 
   pub index_moved : (p : PackageRecord) → p.parts ≡ parts → index_in (read_from moved p) ≡ index_in p
   index_moved p are = index_by p ∙ ap (λ ps. index_in (read_from ps p)) (sym are)

@@ -1,13 +1,13 @@
 -- What packages name is told by what their components say: the parts that they were read from tell nothing more.
+use Rattle.std.proofs.Common.{arith}
 use Rattle.std.proofs.Common.{◌≡◌, ◌+◌, ℕ, zero, suc, Bool, false, not, List, [], ◌∷◌, ◌++◌, length, take, map, flat_map, slice_get, position}
 use Rattle.std.proofs.Common.{Option, Some, None, option_map, option_and_then, option_to_list, refl, sym, ap, ◌∙◌}
-use Rattle.std.specs.Prelude.{if◌then◌else◌, ◌==◌, ◌&&◌, ◌||◌, nat_lt, unwrap_or, slice_index, filter_map, is_none, min}
+use Rattle.std.specs.Prelude.{if◌then◌else◌, ◌==◌, ◌&&◌, ◌||◌, nat_lt, unwrap_or, filter_map, is_none, min}
 use Rattle.std.proofs.lemmas.List.{map-append, length-map}
 use Rattle.std.proofs.lemmas.Option.{slice_get-map}
 use Rattle.std.proofs.lemmas.Simd.{map-map}
 use Rattle.first_fault.specs.First.{at_fault}
 use Rattle.cap_bytes.specs.declared.class_reference.ClassReference.{ClassReference}
-use Rattle.cap_bytes.specs.declared.class_reference.ClassReference.TheVariants.{Internal, External}
 use Rattle.cap_bytes.specs.ClassReference.{reference_of}
 use Rattle.cap_class.specs.ClassFormat.{Class, Interface, is_interface}
 use Rattle.cap_desc.specs.declared.type_item.TypeItem.{TypeItem}
@@ -17,15 +17,11 @@ use Rattle.cap_frame.specs.PackageFormat.{Package}
 use Rattle.cap_method.specs.declared.handler.HandlerInfo.{HandlerInfo}
 use Rattle.cap_method.specs.MethodFormat.{Header}
 use Rattle.cap_pool.specs.Export.{field_offset_in, method_offset_in}
-use Rattle.cap_pool.specs.ExportFormat.{Exported}
 use Rattle.cap_pool.specs.PoolFormat.{Entry}
 use Rattle.cap_pool.specs.declared.pool_reference.PoolReference.{PoolReference}
-use Rattle.cap_pool.specs.declared.pool_reference.PoolReference.TheVariants.{Class as ClassEntry}
-use Rattle.cap_pool.specs.PoolReference.{referred}
 use Rattle.cap_package.specs.Agreement.{or_none}
 use Rattle.cap_package.specs.Descriptions.{Description, field_type}
-use Rattle.cap_package.specs.HeaderChecks.{header_in, is_abstract}
-use Rattle.cap_package.specs.PackageRecord.{PackageRecord, handlers_of}
+use Rattle.cap_package.specs.PackageRecord.{PackageRecord}
 use Rattle.jc_base.specs.declared.record.Sig.{Sig}
 use Rattle.jc_resolve.specs.declared.fault.LinkFault.{LinkFault}
 use Rattle.jc_resolve.specs.declared.fault.LinkFault.TheVariants.{TooManyPackages, TooManyClasses, TooManyMethods, NoPackage, NoClass}
@@ -33,8 +29,8 @@ use Rattle.jc_resolve.specs.declared.place.RecordPlace.{RecordPlace}
 use Rattle.jc_resolve.specs.Conditions.{named_after, import_tokens, no_package_fault, class_references, no_class_fault, conditions}
 use Rattle.jc_resolve.specs.NamedClasses.{by_token, cells_by, cells_of_field, cells_of_fields, dispatch_entry, dispatch_table, interface_named}
 use Rattle.jc_resolve.specs.NamedClasses.{implemented_interfaces, parent_named, interface_with, instance_fields, named_class, named_classes}
-use Rattle.jc_resolve.specs.NamedMethods.{class_or_none, class_in_entry, caught_class, handler_named, no_body, body_after, body_by, body_of}
-use Rattle.jc_resolve.specs.NamedMethods.{class_described, is_class, have_headers, method_with, method_as, named_method, named_methods, offset_in_info}
+use Rattle.jc_resolve.specs.NamedMethods.{class_or_none, class_in_entry, caught_class, handler_named, body_after, body_by, body_of}
+use Rattle.jc_resolve.specs.NamedMethods.{class_described, is_class, have_headers, method_as, named_method, named_methods}
 use Rattle.jc_resolve.specs.Numbering.{NumberedClass, numbered_class, numbered_classes_of, classes_after, numbered_classes, place_of_class, class_places}
 use Rattle.jc_resolve.specs.Numbering.{class_at, same_place, flagged_interface, is_interface_number, NumberedMethod, numbered_method, methods_of_class}
 use Rattle.jc_resolve.specs.Numbering.{methods_of_classes, methods_after, numbered_methods, place_of_method, method_places, is_at, method_at, is_placed}
@@ -104,8 +100,7 @@ unfolding class_references
 references_bare p = refl
 
 flag_bare : (o : Option NumberedClass) → flagged_interface (option_map bare_class o) ≡ flagged_interface o
-flag_bare None = refl
-flag_bare (Some c) = refl
+flag_bare x = grind (arith)
 
 module _ (ps : List PackageRecord) where
   abbrev pub now : List PackageRecord
@@ -129,17 +124,12 @@ module _ (ps : List PackageRecord) where
 
   interface_number_bare : (c : ℕ) → is_interface_number now c ≡ is_interface_number ps c
   unfolding is_interface_number
-  interface_number_bare c =
-      (λ i. flagged_interface (slice_get (classes_bare 0 ps i) c)) ∙ ap flagged_interface (slice_get-map bare_class (numbered_classes ps) c)
-      ∙ flag_bare (slice_get (numbered_classes ps) c)
+  interface_number_bare c = grind (arith, slice_get, classes_bare, slice_get-map, flag_bare)
 
   -- ---- imports and exports
 
   earlier_bare : (wanted : Package) (k : ℕ) → position (meets_import wanted) (take k now) ≡ position (meets_import wanted) (take k ps)
-  earlier_bare wanted k =
-      let meets = meets_import wanted in
-      position_alike meets meets (take k now) (take k ps)
-      (take_view meets k now ∙ ap (take k) (map-map meets bare ps) ∙ sym (take_view meets k ps))
+  earlier_bare wanted k = grind (arith, position_alike, take, take_view, map-map)
 
   pub met_bare : (k token : ℕ) → met_by now k token ≡ met_by ps k token
   unfolding met_by
@@ -155,15 +145,12 @@ module _ (ps : List PackageRecord) where
   exported_method_bare k class token = asked (λ (p : PackageRecord). method_offset_in (or_none p.export) class token) ps k (λ p. refl)
 
   exported_place_bare : (k token : ℕ) → exported_place now k token ≡ exported_place ps k token
-  exported_place_bare k token =
-      λ i. option_map (λ offset. record { «package» = k; offset = offset })
-      (option_map (λ (c : Exported). c.class_offset) (exported_class_bare k token i))
+  exported_place_bare k token = grind (arith, option_map, exported_class_bare)
 
   -- ---- class references
 
   place_referred_bare : (k : ℕ) (reference : ClassReference) → place_referred now k reference ≡ place_referred ps k reference
-  place_referred_bare k (Internal offset) = refl
-  place_referred_bare k (External import class) = λ i. option_and_then (λ j. exported_place_bare j class i) (met_bare k import i)
+  place_referred_bare k x = grind (arith, option_and_then, exported_place_bare, met_bare)
 
   pub referred_bare : (k : ℕ) (reference : ClassReference) → class_referred now k reference ≡ class_referred ps k reference
   unfolding class_referred
@@ -176,8 +163,7 @@ module _ (ps : List PackageRecord) where
   -- ---- types
 
   class_or_object_bare : (object : ℕ) (o : Option ℕ) → class_or_object now object o ≡ class_or_object ps object o
-  class_or_object_bare object None = refl
-  class_or_object_bare object (Some c) = λ i. if interface_number_bare c i then object else c
+  class_or_object_bare object x = grind (arith, interface_number_bare)
 
   type_class_bare : (object k reference : ℕ) → type_class now object k reference ≡ type_class ps object k reference
   type_class_bare object k reference = λ i. class_or_object_bare object (class_named_bare k reference i) i
@@ -190,8 +176,7 @@ module _ (ps : List PackageRecord) where
   cells_of_type_bare object k t = ap (cells_with t) (type_bare object k t)
 
   cells_by_bare : (object k : ℕ) (o : Option TypeItem) → cells_by now object k o ≡ cells_by ps object k o
-  cells_by_bare object k None = refl
-  cells_by_bare object k (Some t) = cells_of_type_bare object k t
+  cells_by_bare object k x = grind (arith, cells_of_type_bare)
 
   cells_of_fields_bare : (object k : ℕ) (d : Description) (fields : List FieldDescriptor)
       → cells_of_fields now object k d fields ≡ cells_of_fields ps object k d fields
@@ -207,8 +192,7 @@ module _ (ps : List PackageRecord) where
   result_bare object k t (u ∷ us) = result_bare object k u us
 
   signature_bare : (object k : ℕ) (ts : List TypeItem) → signature_in now object k ts ≡ signature_in ps object k ts
-  signature_bare object k [] = refl
-  signature_bare object k (t ∷ ts) = λ i. record { args = arguments_bare object k t ts i; result = result_bare object k t ts i }
+  signature_bare object k x = grind (arith, arguments_bare, result_bare)
 
   declared_bare : (object k : ℕ) (d : Description) (offset : ℕ) → declared_signature now object k d offset ≡ declared_signature ps object k d offset
   unfolding declared_signature
@@ -249,20 +233,15 @@ module _ (ps : List PackageRecord) where
 
   pub named_classes_bare : (object : ℕ) → named_classes now object ≡ named_classes ps object
   unfolding named_classes
-  named_classes_bare object =
-      ap (map (named_class now object)) (classes_bare 0 ps)
-      ∙ map-map (named_class now object) bare_class (numbered_classes ps)
-      ∙ (λ i. map (λ c. named_class_bare object c i) (numbered_classes ps))
+  named_classes_bare object = grind (arith, map, classes_bare, map-map, named_class_bare)
 
   -- ---- methods
 
   class_or_none_bare : (k : ℕ) (r : PoolReference) → class_or_none now k r ≡ class_or_none ps k r
-  class_or_none_bare k (ClassEntry reference) = λ i. unwrap_or (referred_bare k reference i) 0
-  class_or_none_bare k other = refl
+  class_or_none_bare k other = grind (arith, referred_bare)
 
   class_in_entry_bare : (k : ℕ) (o : Option Entry) → class_in_entry now k o ≡ class_in_entry ps k o
-  class_in_entry_bare k None = refl
-  class_in_entry_bare k (Some e) = class_or_none_bare k (referred e)
+  class_in_entry_bare k x = grind (arith, class_or_none_bare)
 
   caught_bare : (throwable k : ℕ) (pool : List Entry) (index : ℕ) → caught_class now throwable k pool index ≡ caught_class ps throwable k pool index
   caught_bare throwable k pool index = λ i. if index == 0 then throwable else class_in_entry_bare k (slice_get pool index) i
@@ -274,56 +253,38 @@ module _ (ps : List PackageRecord) where
 
   body_after_bare : (throwable k : ℕ) (p : PackageRecord) (m : described.MethodDescriptor) (h : Header) (code_at : ℕ)
       → body_after now throwable k (bare p) m h code_at ≡ body_after ps throwable k p m h code_at
-  body_after_bare throwable k p m h code_at = λ i. record {
-    is_abstract = is_abstract h;
-    nargs = h.nargs;
-    max_locals = h.max_locals;
-    max_stack = h.max_stack;
-    code_at = code_at;
-    code_len = m.bytecode_count;
-    handlers = map (λ x. handler_bare throwable k p.pool code_at x i) (handlers_of p m);
-  }
+  body_after_bare throwable k p m h code_at = grind (arith, map, handler_bare)
 
   body_by_bare : (throwable k : ℕ) (p : PackageRecord) (m : described.MethodDescriptor) (sig : Sig) (o : Option Header)
       → body_by now throwable k (bare p) m sig o ≡ body_by ps throwable k p m sig o
-  body_by_bare throwable k p m sig None = refl
-  body_by_bare throwable k p m sig (Some h) = body_after_bare throwable k p m h (offset_in_info (m.method_offset + h.size))
+  body_by_bare throwable k p m sig x = grind (arith, body_after_bare)
 
   body_bare : (throwable k : ℕ) (p : PackageRecord) (m : described.MethodDescriptor) (sig : Sig) (has_header : Bool)
       → body_of now throwable k (bare p) m sig has_header ≡ body_of ps throwable k p m sig has_header
   unfolding body_of
-  body_bare throwable k p m sig has_header =
-      λ i. if has_header then body_by_bare throwable k p m sig (header_in p.methods.info m.method_offset) i else no_body m.flags sig
+  body_bare throwable k p m sig has_header = grind (arith, body_by_bare)
 
   class_described_bare : (k : ℕ) (c : described.ClassDescriptor) → class_described now k c ≡ class_described ps k c
   unfolding class_described
   class_described_bare k c = λ i. unwrap_or (class_named_bare k c.class_ref i) 0
 
   is_class_bare : (o : Option ℕ) → is_class now o ≡ is_class ps o
-  is_class_bare None = refl
-  is_class_bare (Some c) = ap not (interface_number_bare c)
+  is_class_bare x = grind (arith, not, interface_number_bare)
 
   have_headers_bare : (k : ℕ) (p : PackageRecord) (c : described.ClassDescriptor) → have_headers now k (bare p) c ≡ have_headers ps k p c
   unfolding have_headers
   have_headers_bare k p c = λ i. is_placed p c && is_class_bare (class_named_bare k c.class_ref i) i
 
   method_as_bare : (throwable : ℕ) (m : NumberedMethod) (sig : Sig) → method_as now throwable (bare_method m) sig ≡ method_as ps throwable m sig
-  method_as_bare throwable m sig =
-      λ i. method_with m (class_described_bare m.home m.class i) sig
-      (body_bare throwable m.home m.of_package m.record_of sig (have_headers_bare m.home m.of_package m.class i) i)
+  method_as_bare throwable m sig = grind (arith, class_described_bare, body_bare, have_headers_bare)
 
   named_method_bare : (roles : List ℕ) (m : NumberedMethod) → named_method now roles (bare_method m) ≡ named_method ps roles m
   unfolding named_method
-  named_method_bare roles m =
-      λ i. method_as_bare (slice_index roles 1) m
-      (declared_bare (slice_index roles 0) m.home m.of_package.description m.record_of.type_offset i) i
+  named_method_bare roles m = grind (arith, method_as_bare, declared_bare)
 
   pub named_methods_bare : (roles : List ℕ) → named_methods now roles ≡ named_methods ps roles
   unfolding named_methods
-  named_methods_bare roles =
-      ap (map (named_method now roles)) (methods_bare 0 ps)
-      ∙ map-map (named_method now roles) bare_method (numbered_methods ps)
-      ∙ (λ i. map (λ m. named_method_bare roles m i) (numbered_methods ps))
+  named_methods_bare roles = grind (arith, map, methods_bare, map-map, named_method_bare)
 
   -- ---- conditions
 

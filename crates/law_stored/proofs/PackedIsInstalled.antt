@@ -1,10 +1,11 @@
 -- What `pack` stores is installed exactly as `verify` accepts its source.
+use Rattle.std.proofs.Common.{arith}
 use Rattle.std.proofs.Common.{◌≡◌, ℕ, List, [], ◌∷◌, ◌++◌, Option, Some, None, IsSome, IfSome, IsNone, refl, sym, subst}
 use Rattle.std.specs.FinMap as fin_map
 use Rattle.std.specs.Prelude.{IsSomeAnd}
 use Rattle.std.specs.List.{AllZip}
 use Rattle.cap_components.specs.Parts.{Lent, held}
-use Rattle.cap_files.specs.Folder.{Parts, Folders, IsThere}
+use Rattle.cap_files.specs.Folder.{Parts, Folders}
 use Rattle.cap_index.specs.Component.{index_in}
 use Rattle.cap_load.specs.LoadFile.{IsLoadFile}
 use Rattle.cap_load.proofs.Cuts.{packed_loads}
@@ -24,7 +25,7 @@ use Rattle.capcheck_core.specs.Loads.{AreParts}
 use Rattle.capcheck_core.specs.Pack.{load_stores}
 use Rattle.capcheck_core.specs.Packages.{ArePartsAt, AreRoleBytes}
 use Rattle.capcheck_core.specs.Place.{places}
-use Rattle.capcheck_core.specs.Roles.{AreRolesIn, HasRoles, roles_key, roles_tag}
+use Rattle.capcheck_core.specs.Roles.{AreRolesIn, HasRoles}
 use Rattle.capcheck_core.proofs.Loads.{one_list}
 use Rattle.capcheck_core.proofs.WorldComplete.{one_file, not_absent}
 use Rattle.law_relink.proofs.Lists.{map_last}
@@ -153,16 +154,10 @@ module _ (o : OutOfDirRequest) (before after : Folders) (text : List ℕ) (packe
   same = chosen_same before o.dir packed.parts packed.loaded moved packed.packed.components
 
   stream_held : (roles : Option (List ℕ)) → held (load_stores packed.stream roles) load_tag ≡ Some packed.stream
-  stream_held None = refl
-  stream_held (Some roles) = refl
+  stream_held x = grind (arith)
 
   in_file : AreInLoadFile after o.out moved
-  in_file = record {
-    stream = packed.stream;
-    there = packed.stand.there load_tag packed.stream (stream_held packed.roles);
-    short = packed.short;
-    loads = packed_loads packed.parts packed.stream packed.packed;
-  }
+  in_file = grind (arith, stream_held packed.roles, packed_loads packed.parts packed.stream packed.packed)
 
   same_package : IsSamePackage o before after
   same_package = record {
@@ -198,10 +193,7 @@ module _ (o : OutOfDirRequest) (before after : Folders) (text : List ℕ) (packe
 
     lone_roles : (given : Option (List ℕ)) → HasRoles before o.dir given → StandIn o.out (load_stores packed.stream given) before after
         → (roles : List ℕ) → AreRolesIn before o.dir roles → AreRolesIn after o.out roles
-    lone_roles None has stand roles are = absurd (not_absent before both.old both.told (roles_key o.dir) roles are.there has)
-    lone_roles (Some given) has stand roles are =
-        let is = one_file before both.old both.told (roles_key o.dir) given roles has.there are.there in
-        record { there = subst (λ bytes. IsThere after (roles_key o.out) bytes) is (stand.there roles_tag given refl); eight = are.eight }
+    lone_roles x has stand roles are = grind (arith, not_absent, both, one_file)
 
     roles_go : (ls : List (List ℕ)) → IsApart ls o.out → (roles : List ℕ) → AreRoleBytes before (places Components (with_last ls o.dir)) roles
         → AreRoleBytes after (places LoadFile (with_last ls o.out)) roles
@@ -210,10 +202,7 @@ module _ (o : OutOfDirRequest) (before after : Folders) (text : List ℕ) (packe
 
     roles_back : (ls : List (List ℕ)) → IsApart ls o.out → HaveRoles o ls before → (roles : List ℕ)
         → AreRoleBytes after (places LoadFile (with_last ls o.out)) roles → AreRoleBytes before (places Components (with_last ls o.dir)) roles
-    roles_back [] far has roles are =
-        let stored = lone_roles packed.roles packed.beside packed.stand has.0 has.1 in
-        let is = one_file after both.now both.tells (roles_key o.out) has.0 roles stored.there are.there in
-        subst (AreRolesIn before o.dir) is has.1
+    roles_back [] far has roles are = grind (arith, lone_roles packed.roles packed.beside packed.stand has.0 has.1, one_file, both)
     roles_back (library ∷ ls) far has roles are = roles_kept o.out after before back library far.0 roles are
 
     kept : (fronts : List (List Lent)) → AllZip (AreParts before) libraries fronts → AllZip (AreParts after) libraries fronts

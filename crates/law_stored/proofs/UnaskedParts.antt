@@ -1,7 +1,7 @@
 -- Of the parts that are written, none is there but those that their Directory asks for.
 use Rattle.std.proofs.Common.{◌≡◌, ◌≤◌, ◌<◌, ◌+◌, ◌-◌, ℕ, suc, Bool, true, false, List, [], ◌∷◌, length, find, Option, Some, None, IsNone}
 use Rattle.std.proofs.Common.{Result, Ok, ◌⊎◌, inl, inr, refl, sym, ap, subst, ◌∙◌, arith, true≢false, option_map}
-use Rattle.std.specs.Prelude.{◌==◌, ◌&&◌, ◌||◌, not, nat_le, slice_get, unwrap_or, if◌then◌else◌}
+use Rattle.std.specs.Prelude.{◌==◌, ◌&&◌, not, nat_le, slice_get, unwrap_or, if◌then◌else◌}
 use Rattle.std.proofs.lemmas.Bool.{cases_eq, eqb-true}
 use Rattle.std.proofs.lemmas.Bool.Decides.{nat_tests}
 use Rattle.cap_bytes.specs.Grammar.{Grammar}
@@ -32,7 +32,7 @@ use Rattle.cap_write.specs.NewIndex.{Index, IsNewIndex, change_of, dropped, stay
 use Rattle.cap_write.specs.WrittenPackage.{IsWritten, ArePartsOf}
 use Rattle.cap_write.proofs.Customs.{has_tag, found_other, found_kept, found_written}
 use Rattle.cap_write.proofs.Told.{tells_sizes, tags_from, has_tag_from}
-use Rattle.capcheck_core.specs.Loads.{is_required, is_optional, is_some_size, is_sized, is_asked, Rise}
+use Rattle.capcheck_core.specs.Loads.{is_some_size, is_sized, is_asked, Rise}
 use Rattle.law_stored.proofs.AskedParts.{directory_is}
 use Rattle.cap_write.proofs.Said.{same_info}
 use Rattle.std.proofs.lemmas.List.{nil_from_length}
@@ -41,23 +41,16 @@ use Rattle.std.proofs.lemmas.List.{nil_from_length}
 
 least_below : (low high : ℕ) (parts : List Lent) → IsRising low parts high → low ≤ high
 least_below low high [] h = h
-least_below low high (l ∷ ls) h =
-    let first = h.0 in
-    let rest = least_below (l.part + 1) high ls h.1 in
-    omega (arith, first, rest)
+least_below low high (l ∷ ls) h = grind (arith, least_below (l.part + 1) high ls h.1)
 
 pub rises : (low high : ℕ) (parts : List Lent) → IsRising low parts high → Rise low high parts
 rises low high [] h = tt {0}
-rises low high (l ∷ ls) h =
-    let rest = least_below (l.part + 1) high ls h.1 in
-    let next : l.part + 1 ≡ suc l.part = omega arith in
-    (h.0, omega (arith, rest), subst (λ n. Rise n high ls) next (rises (l.part + 1) high ls h.1))
+rises low high (l ∷ ls) h = grind (arith, least_below, suc, rises (l.part + 1) high ls h.1)
 
 -- ---- what stands in a file is one
 
 none_is : (o : Option (List ℕ)) → IsNone o → o ≡ None
-none_is None h = refl
-none_is (Some bytes) h = absurd cc
+none_is x h = grind (arith)
 
 one_directory : (r : Result DirectoryItems PackFault) (x y : DirectoryItems) → r ≡ Ok x → r ≡ Ok y → x ≡ y
 one_directory r x y a b = let e : ◌≡◌ {A = Result DirectoryItems PackFault} (Ok x) (Ok y) = sym a ∙ b in cc
@@ -73,12 +66,7 @@ no_exports xs s = let e = s.1.2.2.0 in absurd cc
 
 not_there : {X : Type 0} (parts : List Lent) (tag : ℕ) (g : Grammar X) (items : Option X) → ((x : X) → Stands g [] x → ⊥) → SaysIf parts tag g items
     → IsSizeOf tag 0 (held parts tag) → held parts tag ≡ None
-not_there parts tag g None never h size = h
-not_there parts tag g (Some x) never h size =
-    let c = h.1 in
-    let k : IsSizeOf tag 0 (Some c.file) = subst (IsSizeOf tag 0) c.there size in
-    let none : h.0 ≡ [] = same_info tag c.file h.0 k.0 c.framed k.1 ∙ nil_from_length k.0 k.2 in
-    absurd (never x (subst (λ info. Stands g info x) none c.said))
+not_there parts tag g x never h size = grind (arith, same_info, nil_from_length)
 
 zero_size : (n : ℕ) → is_some_size (Some n) ≡ false → n ≡ 0
 zero_size n e = by (n == 0) refl e
@@ -131,9 +119,7 @@ module _ (p q : PackageRecord) (laid : List (Option Laid)) (parts : List Lent) (
 
   empty_part : {X : Type 0} (tag n : ℕ) (g : Grammar X) (items : Option X) → ((x : X) → Stands g [] x → ⊥) → SaysIf parts tag g items
       → IsSizeOf tag n (held q.parts tag) → is_some_size (Some n) ≡ false → held parts tag ≡ None
-  empty_part tag n g items never says size e =
-      let told : IsSizeOf tag n (held parts tag) = subst (λ ps. IsSizeOf tag n (held ps tag)) now.said.same size in
-      not_there parts tag g items never says (subst (λ k. IsSizeOf tag k (held parts tag)) (zero_size n e) told)
+  empty_part tag n g items never says size e = grind (arith, not_there, zero_size)
 
   applets_none : is_asked parts 3 ≡ false → held parts 3 ≡ None
   applets_none e =
@@ -154,19 +140,7 @@ module _ (p q : PackageRecord) (laid : List (Option Laid)) (parts : List Lent) (
   asked tag e = absurd (true≢false e)
 
   unasked_each : Each Unasked (tags_from 1 12)
-  unasked_each = (
-    asked 1,
-    (
-      asked 2,
-      (
-        applets_none,
-        (
-          asked 4,
-          (asked 5, (asked 6, (asked 7, (asked 8, (asked 9, (export_none, (asked 11, ((λ e. files.debug), tt)))))))),
-        ),
-      ),
-    ),
-  )
+  unasked_each = grind (arith, asked, applets_none, export_none, files)
 
   -- ---- custom components, and what is none
 
@@ -180,21 +154,14 @@ module _ (p q : PackageRecord) (laid : List (Option Laid)) (parts : List Lent) (
   asked_as_before : (tag : ℕ) → (nat_le 1 tag && nat_le tag 12) ≡ false
       → find (has_tag tag) (new_customs (change_of w.index) p.directory.customs) ≡ find (has_tag tag) p.directory.customs
       → is_asked parts tag ≡ is_asked p.parts tag
-  asked_as_before tag out found =
-      let sizes_same : size_in q.directory tag ≡ size_in p.directory tag =
-      size_now tag out ∙ ap (option_map (λ (c : Custom). c.size)) found ∙ sym (custom_size tag p.directory out) in
-      ap (λ d. is_required tag || (is_optional tag && is_sized d tag)) read_new
-      ∙ ap (λ o. is_required tag || (is_optional tag && is_some_size o)) sizes_same
-      ∙ ap (λ d. is_required tag || (is_optional tag && is_sized d tag)) (sym (directory_is p was))
+  asked_as_before tag out found = grind (arith, size_now, option_map, custom_size, read_new, directory_is)
 
   none_before : (tag : ℕ) → tag < 256 → is_asked p.parts tag ≡ false → held p.parts tag ≡ None
   none_before tag lt e = none_is (held p.parts tag) (none tag lt e)
 
   other_none : (tag : ℕ) → tag < 256 → (tag ≡ 0) ⊎ (12 < tag) → (nat_le 1 tag && nat_le tag 12) ≡ false → (tag ≡ 128 → ⊥)
       → is_asked parts tag ≡ false → held parts tag ≡ None
-  other_none tag lt far out ne e =
-      files.others tag lt far ne
-      ∙ none_before tag lt (sym (asked_as_before tag out (found_other (change_of w.index) tag p.directory.customs ne)) ∙ e)
+  other_none tag lt far out ne e = grind (arith, files, none_before, asked_as_before, found_other)
 
   index_none : is_asked parts 128 ≡ false → held parts 128 ≡ None
   index_none e = by w.index refl w.indexed files.target_index
