@@ -1,6 +1,6 @@
 -- Folders that are checked one by one hold packages that are checked one by one.
 use Rattle.std.proofs.Common.{◌≡◌, ◌<◌, ◌≤◌, ℕ, zero, suc, List, [], ◌∷◌, length, take, IsSome}
-use Rattle.std.proofs.Common.{All, refl, sym, ap, subst, ◌∙◌, arith}
+use Rattle.std.proofs.Common.{All, refl, sym, ap, subst, arith}
 use Rattle.std.specs.List.{AllZip}
 use Rattle.cap_files.specs.Folder.{Folders}
 use Rattle.cap_package.specs.PackageRecord.{PackageRecord}
@@ -33,8 +33,7 @@ zip_taken R S one (suc k) [] (y ∷ ys) zs h g = absurd h
 zip_taken R S one (suc k) [] [] (z ∷ zs) h g = absurd g
 zip_taken R S one (suc k) (x ∷ xs) [] zs h g = absurd h
 zip_taken R S one (suc k) (x ∷ xs) (y ∷ ys) [] h g = absurd g
-zip_taken R S one (suc k) (x ∷ xs) (y ∷ ys) (z ∷ zs) h g =
-    ap (λ v. v ∷ zs) (sym (one x y z h.0 g.0)) ∙ ap (λ vs. y ∷ vs) (zip_taken R S one k xs ys zs h.1 g.1)
+zip_taken R S one (suc k) (x ∷ xs) (y ∷ ys) (z ∷ zs) h g = grind (arith, zip_taken R S one k xs ys zs h.1 g.1)
 
 zip_long : {A B : Type 0} (R : A → B → Type 0) (xs : List A) (ys : List B) → AllZip R xs ys → length xs ≡ length ys
 zip_long R [] [] h = refl
@@ -55,8 +54,7 @@ agreed (p ∷ ps) (q ∷ qs) h (suc i) d lt = agreed ps qs h.1 i d (omega (arith
 
 module _ (before : Folders) (dirs : List (List ℕ)) (w : Linked) (told : IsSome before.held) (held : HoldWorld Components before dirs w) where
   some_roles : (ds : List Place) (roles : List ℕ) → AreRoleBytes before ds roles → 0 < length roles
-  some_roles [] roles h = absurd h
-  some_roles (d ∷ ds) roles h = omega (arith, h.eight)
+  some_roles x roles h = grind (arith)
 
   same_roles : (now : Folders) → now.held ≡ before.held → (k : ℕ) (ds : List (List ℕ)) (xs ys : List ℕ) → 1 ≤ k
       → AreRoleBytes before (places Components ds) xs → AreRoleBytes now (places Components (take k ds)) ys → ys ≡ xs

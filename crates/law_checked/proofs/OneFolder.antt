@@ -16,13 +16,11 @@ use Rattle.capcheck_core.proofs.Loads.{asked_by, below_none}
 -- of two answers of a folder that tells, each is what the map has
 found_one : (m : Option Parts) (key xs ys : List ℕ) → IsSome m → IfSome m (λ parts. map.get parts key ≡ Some xs)
     → IfSome m (λ parts. map.get parts key ≡ Some ys) → xs ≡ ys
-found_one None key xs ys told a b = absurd cc
-found_one (Some parts) key xs ys told a b = let e : Some xs ≡ Some ys = sym a ∙ b in cc
+found_one x key xs ys told a b = grind (arith)
 
 not_both : (m : Option Parts) (key xs : List ℕ) → IsSome m → IfSome m (λ parts. map.get parts key ≡ Some xs)
     → IfSome m (λ parts. map.get parts key ≡ None) → ⊥
-not_both None key xs told a b = absurd cc
-not_both (Some parts) key xs told a b = let e : Some xs ≡ None = sym a ∙ b in absurd cc
+not_both x key xs told a b = grind (arith)
 
 module _ (before now : Folders) (same : now.held ≡ before.held) (told : IsSome before.held) where
   there_then : (key bytes : List ℕ) → IsThere now key bytes → IsThere before key bytes
@@ -32,10 +30,7 @@ module _ (before now : Folders) (same : now.held ≡ before.held) (told : IsSome
   absent_then key h = subst (λ m. IfSome m (λ parts. map.get parts key ≡ None)) same h
 
   has_one : (dir : List ℕ) (tag : ℕ) (o p : Option (List ℕ)) → Has before dir tag o → Has now dir tag p → o ≡ p
-  has_one dir tag None None a b = refl
-  has_one dir tag None (Some ys) a b = absurd (not_both before.held (tag ∷ dir) ys told (there_then (tag ∷ dir) ys b.0) a)
-  has_one dir tag (Some xs) None a b = absurd (not_both before.held (tag ∷ dir) xs told a.0 (absent_then (tag ∷ dir) b))
-  has_one dir tag (Some xs) (Some ys) a b = ap Some (found_one before.held (tag ∷ dir) xs ys told a.0 (there_then (tag ∷ dir) ys b.0))
+  has_one dir tag x x2 a b = grind (arith, not_both, there_then, absent_then, found_one)
 
   pub roles_one : (dir : List ℕ) (xs ys : List ℕ) → AreRolesIn before dir xs → AreRolesIn now dir ys → xs ≡ ys
   roles_one dir xs ys a b = found_one before.held (roles_key dir) xs ys told a.there (there_then (roles_key dir) ys b.there)
@@ -44,8 +39,7 @@ module _ (before now : Folders) (same : now.held ≡ before.held) (told : IsSome
 
   module _ (dir : List ℕ) (xs ys : List Lent) (first : AreParts before dir xs) (second : AreParts now dir ys) where
     none_is : (o : Option (List ℕ)) → IsNone o → o ≡ None
-    none_is None h = refl
-    none_is (Some x) h = absurd cc
+    none_is x h = grind (arith)
 
     held_by : (tag : ℕ) (b : Bool) → tag < 256 → is_asked xs tag ≡ b → is_asked ys tag ≡ b → held xs tag ≡ held ys tag
     held_by tag true lt a c = has_one dir tag (held xs tag) (held ys tag) (first.asked tag lt a) (second.asked tag lt c)
@@ -78,10 +72,7 @@ compare a b = by (nat_lt a b) refl (nat_lt b a) refl
 
 -- a tag that only one of two lists may have
 only_one : (low top : ℕ) (x y : Lent) (xs ys : List Lent) → Rise low top (y ∷ ys) → x.part < y.part → held (x ∷ xs) x.part ≡ held (y ∷ ys) x.part → ⊥
-only_one low top x y xs ys rise lt e =
-    let none = below_none y.part top x.part (y ∷ ys) (omega arith, rise.1, rise.2) lt in
-    let some : Some x.bytes ≡ None = sym (held_here x xs) ∙ e ∙ none in
-    absurd cc
+only_one low top x y xs ys rise lt e = grind (arith, below_none, held_here)
 
 pub rising_one : (low top : ℕ) (xs ys : List Lent) → Rise low top xs → Rise low top ys → ((tag : ℕ) → tag < top → held xs tag ≡ held ys tag) → xs ≡ ys
 rising_one low top [] [] a b same = refl
@@ -102,11 +93,7 @@ rising_one low top (x ∷ xs) (y ∷ ys) a b same =
             sym (held_on x xs tag (grind (arith, s))) ∙ same tag lt ∙ held_on y ys tag (grind (arith, s, e))
 
     by : (x.part ≡ y.part) ⊎ ((x.part < y.part) ⊎ (y.part < x.part)) → (x.part ≡ y.part → xs ≡ ys) → (x ∷ xs) ≡ (y ∷ ys)
-    by (inl e) rest =
-        let bytes : Some x.bytes ≡ Some y.bytes =
-        sym (held_here x xs) ∙ same x.part a.1 ∙ ap (held (y ∷ ys)) e ∙ held_here y ys in
-        let first : x ≡ y = (let s : x.bytes ≡ y.bytes = cc in λ i. record { part = e i; bytes = s i }) in
-        ap (λ z. z ∷ xs) first ∙ ap (λ zs. y ∷ zs) (rest e)
+    by (inl e) rest = grind (arith, held_here x xs, held_here y ys)
     by (inr (inl lt)) rest = absurd (only_one low top x y xs ys b lt (same x.part a.1))
     by (inr (inr lt)) rest = absurd (only_one low top y x ys xs a lt (sym (same y.part b.1)))
 
