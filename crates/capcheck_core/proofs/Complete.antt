@@ -3,7 +3,7 @@ use Rattle.std.proofs.Common.{◌≡◌, ◌⊎◌, List, ℕ, ℤ, length, map,
 use Rattle.std.proofs.Common.{◌∷◌, All, FitsSigned, w16}
 use Rattle.std.specs.Prelude.{Option, None, IsSomeAnd, string_bytes, slice_get}
 use Rattle.std.specs.FinMap as map
-use Rattle.cap_files.specs.Folder.{Folders, IsThere, IsAbsent, IsTooLong}
+use Rattle.cap_files.specs.Folder.{Folders, IsThere, IsTooLong}
 use Rattle.cap_bare.specs.Typing.{BareTyping}
 use Rattle.vm_step.specs.Arguments.{Argument, number}
 use Rattle.vm_step.specs.declared.start_fault.StartFault.{StartFault}
@@ -37,7 +37,7 @@ use Rattle.capcheck_core.specs.Assemble.{Assembles}
 use Rattle.capcheck_core.specs.Completeness.{Needs, CanProbe, CanRead, CanAssemble, CanPack, CanOverPlaces, CanBring}
 use Rattle.capcheck_core.specs.Completeness.{CanShare, CanGenerate, AreWithinLimits, CanDo, NoFault, Completes}
 use Rattle.capcheck_core.specs.MethodFile.{IsMethodFile}
-use Rattle.capcheck_core.specs.Probe.{ProbesFolder, FailsMethodPart, Probes, OfMethodPart, OfMethod, IsRefusal, IsUnstarted, IsNoMethod, method_key}
+use Rattle.capcheck_core.specs.Probe.{ProbesFolder, FailsMethodPart, OfMethodPart, OfMethod, IsRefusal, IsUnstarted, IsNoMethod, method_key}
 use Rattle.capcheck_core.specs.Report.{Seen, IsReported}
 use Rattle.capcheck_core.specs.Shorts.{IsShort, AreShorts, RefusesStart}
 use Rattle.capcheck_core.specs.declared.source.Source.TheVariants.{Components, LoadFile}
@@ -63,12 +63,6 @@ Completed verdict = (status_of verdict ≡ 0) ⊎ (status_of verdict ≡ 6)
 -- the file that was read is the one that is held
 same_file : (p : ProbeRequest) (before : Folders) (can : CanProbe p before) (file : List ℕ) → IsThere before (method_key p) file → can.file ≡ file
 same_file p before can file there = grind (arith)
-
-absent_not : (p : ProbeRequest) (before : Folders) → CanProbe p before → IsAbsent before (method_key p) → ⊥
-absent_not p before can absent = grind (arith, map)
-
-long_not : (p : ProbeRequest) (before : Folders) → CanProbe p before → IsTooLong before (method_key p) → ⊥
-long_not p before can long = grind (arith, map, length)
 
 -- each of a list of shorts is a short
 no_misfit : (values : List ℤ) (n : ℕ) → All (FitsSigned w16) values
@@ -105,8 +99,8 @@ probed : (p : ProbeRequest) (before : Folders) (verdict : Verdict) → CanProbe 
 probed p before (Done text) can probes = inl refl
 probed p before Memory can probes = inr refl
 probed p before (Refused text) can probes = absurd (unrefused p before can (string_bytes text) probes)
-probed p before (Malformed text) can (inl missing) = absurd (absent_not p before can missing.absent)
-probed p before (Malformed text) can (inr (inl long)) = absurd (long_not p before can long.long)
+probed p before (Malformed text) can (inl missing) = grind (arith, map)
+probed p before (Malformed text) can (inr (inl long)) = grind (arith, map, length)
 probed p before (Malformed text) can (inr (inr part)) = absurd (unbroken p before can (string_bytes text) part)
 probed p before ReadFault can probes = absurd probes
 probed p before Usage can probes = absurd probes
@@ -116,10 +110,6 @@ probed p before (Limit text) can probes = absurd probes
 unread : (p : ProbeRequest) (before after : Folders) (sink put : Seen) (verdict : Verdict) → NoFault before after sink put
     → FailsMethodPart p before after verdict → ⊥
 unread p before after sink put x calm fails = grind (arith)
-
-can_probe : (p : ProbeRequest) (before after : Folders) (sink put : Seen) (verdict : Verdict) → CanProbe p before → NoFault before after sink put
-    → Probes p before after verdict → Completed verdict
-can_probe p before after sink put verdict can calm x = grind (arith, probed, unread)
 
 -- a package that is there lacks nothing
 has_read : (dir : List ℕ) (before after : Folders) (sink put : Seen) (verdict : Verdict) → CanRead dir before → NoFault before after sink put
@@ -282,7 +272,7 @@ can_generate g before after sink put verdict can calm (inr of) =
 can_do : (r : Request) (before after : Outside) (sink put : Seen) (verdict : Verdict) → CanDo r before.folders
     → NoFault before.folders after.folders sink put
     → Answers r before after verdict → Completed verdict
-can_do (probe p) before after sink put verdict can calm answers = can_probe p before.folders after.folders sink put verdict can calm answers.0
+can_do (probe p) before after sink put verdict can calm answers = grind (arith, probed, unread)
 can_do (show dir) before after sink put verdict can calm answers =
     over_package ShowsTable dir before.folders after.folders sink put verdict (λ parts p. tables parts p before.folders after.folders verdict) can calm
     answers.0

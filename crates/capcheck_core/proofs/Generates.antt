@@ -1,7 +1,7 @@
 -- The package that is generated makes one world, in which its methods can be run.
-use Rattle.std.proofs.Common.{◌≡◌, ◌⊎◌, ◌<◌, ◌≤◌, ◌+◌, ◌-◌, ◌/◌, ◌%◌, ℕ, zero, suc, ℤ, pos, Bool, true, false, List}
+use Rattle.std.proofs.Common.{◌≡◌, ◌⊎◌, ◌<◌, ◌≤◌, ◌+◌, ◌-◌, ℕ, zero, suc, ℤ, pos, Bool, true, false, List}
 use Rattle.std.proofs.Common.{[], ◌∷◌, ◌++◌, length, map, Option, Some, None, inl, inr, refl, sym, ap, subst, ◌∙◌, arith}
-use Rattle.std.specs.Prelude.{slice_get, not, nat_lt, if◌then◌else◌, fold, ◌+ℤ◌, IsSomeAnd, IfOk, OnErr, MatchBool, MatchResult, Result, Ok, Err}
+use Rattle.std.specs.Prelude.{slice_get, not, if◌then◌else◌, fold, ◌+ℤ◌, IsSomeAnd, IfOk, OnErr, MatchBool, MatchResult, Result, Ok, Err}
 use Rattle.std.specs.Prelude.{string_bytes}
 use Rattle.std.specs.List.{range_with_len}
 use Rattle.std.proofs.lemmas.Option.{slice_get_within}
@@ -98,12 +98,8 @@ found = refl
 abbrev told : Bool → Bool → Bool → Option StartFault
 told i a b = if not (not i) then Some NotStatic else or_room (if a then (if b then None else Some 1) else Some 0) None
 
-told_so : (w : Linked) (k : ℕ) → method_fault w (method_record k) (run_of k).args ≡ told (is_interface w.classes 0) (nat_lt k 32768)
-    (nat_lt ((k / 4) % 2) 32768)
-told_so w k = refl
-
 no_reason : (w : Linked) (k : ℕ) → is_interface w.classes 0 ≡ false → k < 200 → method_fault w (method_record k) (run_of k).args ≡ None
-no_reason w k class below = grind (arith, told_so)
+no_reason w k class below = grind (arith)
 
 -- the class of a method with code is no interface
 class_of_first : (w : Linked) → IsWorld w → w.methods ≡ all_methods → is_interface w.classes 0 ≡ false
@@ -204,13 +200,8 @@ one_run_more w k begun before c sum more ending have is adds =
           (subst (λ found. IsSomeAnd found (HoldsWords w c)) (sym there) is.holds));
     }
 
-held_last : (w : Linked) (begun c : CardWords) (os : List (Outcome Cell)) → ((◌≡◌ {A = ℕ} 200 0) × (c ≡ begun))
-    ⊎ IsSomeAnd (slice_get os 199) (HoldsWords w c)
-    → IsSomeAnd (slice_get os 199) (HoldsWords w c)
-held_last w begun c os x = grind (arith, holds)
-
 pub all_run : (w : Linked) (begun c : CardWords) (sum : ℤ) → HaveRun w 200 begun c sum → AreRun w c sum
-all_run w begun c sum have = grind (arith, holds, held_last)
+all_run w begun c sum have = grind (arith, holds)
 
 -- they are begun, or the memory is as it was
 pub some_run : (w : Linked) (k : ℕ) (begun c : CardWords) (sum : ℤ) → k ≤ 200 → HaveRun w k begun c sum → IsKeptOrBegun w begun c

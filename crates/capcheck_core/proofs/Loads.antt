@@ -11,7 +11,7 @@ use Rattle.cap_bytes.specs.Grammar.{Grammar}
 use Rattle.cap_bytes.specs.Spelling.{info_of}
 use Rattle.cap_bytes.specs.Reading.{reading}
 use Rattle.cap_frame.specs.HeaderFormat.{HeaderItems, header_info}
-use Rattle.cap_frame.specs.DirectoryFormat.{Custom, DirectoryItems, directory_info}
+use Rattle.cap_frame.specs.DirectoryFormat.{Custom, directory_info}
 use Rattle.cap_frame.specs.Directory.{directory_items, size_in, custom_size_in}
 use Rattle.cap_files.specs.Folder.{Parts, Folders, IsTooLong, Loads}
 use Rattle.cap_files.specs.declared.folder.LoadEnd.{LoadEnd}
@@ -227,13 +227,10 @@ absent_after tag (l ∷ ls) rest none = by (eqb l.part tag) refl (absent_after t
     by true e after = absurd (none_some l.bytes (sym none ∙ held-same tag l (ls ++ rest) e))
     by false e after = after (sym (held-other tag l (ls ++ rest) e) ∙ none)
 
-file_after : (first rest : List Lent) (tag : ℕ) (file : Option (List ℕ)) → first ++ with_file rest tag file ≡ with_file (first ++ rest) tag file
-file_after first rest tag x = grind (arith, append_assoc)
-
 -- what is added to the rest is added to all
 pub added_after : (before : Folders) (dir : List ℕ) (tag : ℕ) (first rest more : List Lent) → IsPartAdded before dir tag rest more
     → IsPartAdded before dir tag (first ++ rest) (first ++ more)
-added_after before dir tag first rest more added = grind (arith, file_after)
+added_after before dir tag first rest more added = grind (arith, append_assoc)
 
 -- the Header and the Directory of the first parts
 abbrev pub Kept : List Lent → List Lent → Type 0
@@ -319,12 +316,8 @@ unrequired tag from = grind (arith, leb, lt-leb, eqb, ne_eqb, and-false)
 unasked : (parts : List Lent) (tag : ℕ) → 13 ≤ tag → is_sized (read_directory parts) tag ≡ false → is_asked parts tag ≡ false
 unasked parts tag from none = rw (unrequired tag from, none, and-false (is_optional tag)) refl
 
-ends_asked : (parts : List Lent) (directory : DirectoryItems) (top : ℕ) → read_directory parts ≡ Ok directory → EndsSized directory top
-    → EndsAsked parts top
-ends_asked parts directory top read ends = grind (arith, unasked)
-
 pub ends_read : (parts : List Lent) (o : Opening) (top : ℕ) → IsOpening parts o → EndsSized (directory_items o.directory) top → EndsAsked parts top
-ends_read parts o top is = ends_asked parts (directory_items o.directory) top (opening_directory parts o is)
+ends_read parts o top is = grind (arith, opening_directory, unasked)
 
 pub sized_read : (parts : List Lent) (o : Opening) (tag : ℕ) → IsOpening parts o
     → is_sized (read_directory parts) tag ≡ is_some_size (size_in (directory_items o.directory) tag)

@@ -54,9 +54,6 @@ beside : (before now : Folders) (place : Place) (others : List Place) (given : O
     → RolesBeside before now place.dir given (Ok roles) → held ≡ roles → RolesAre before (place ∷ others) given held
 beside before now place others x roles held are is = grind (arith)
 
-one_longer : (made : List PackageRecord) (p : PackageRecord) → length (made ++ p ∷ []) ≡ suc (length made)
-one_longer made p = let sum = length-append made (p ∷ []) in omega (arith, sum)
-
 module _ (own : Own) (before : Folders) (card : CardWords) (place : Place) (others : List Place) (made : List PackageRecord)
     (given : Option (List ℕ)) where
   -- with the package in the next folder the command goes on
@@ -73,7 +70,7 @@ module _ (own : Own) (before : Folders) (card : CardWords) (place : Place) (othe
     roles_are = beside before now place others given roles goes.roles are goes.roles_are;
     holds = subst (λ ps. OverPackages own ps goes.roles (outside before card) after verdict) (append_assoc made (p ∷ []) goes.more) goes.holds;
   }
-  one_more now after parts p roles (Err stop) begun loaded stands are goes = grind (arith, stops_after, length, has_package, one_longer)
+  one_more now after parts p roles (Err stop) begun loaded stands are goes = grind (arith, stops_after, length, has_package, length-append)
 
   -- a package that was loaded goes before those in the other folders
   pub goes_on : (now : Folders) (after : Outside) (parts : List Lent) (p : PackageRecord) (roles : List ℕ) (result : Result Verdict PackagesStop)
@@ -106,14 +103,6 @@ goes_end own made roles before after verdict holds = record {
 
 -- ---- all folders
 
-stops_all : (before after : Folders) (at : List Place) (stop : PackagesStop) → length at ≤ 16 → StopsOver before after None 0 at stop
-    → StopsLoads before after at stop
-stops_all before after at x few stops = grind (arith)
-
-pub goes_over_all : (own : Own) (at : List Place) (before after : Outside) (result : Result Verdict PackagesStop) → length at ≤ 16
-    → GoesOver own at [] None before after result → GoesOverAll own at before after result
-goes_over_all own at before after x few goes = grind (arith, stops_all)
-
 -- ---- the places of folders
 
 places_long : (last : Source) (dirs : List (List ℕ)) → length (places last dirs) ≡ length dirs
@@ -124,7 +113,7 @@ places_long last (dir ∷ dirs) = ap suc (places_long last dirs)
 pub goes_over_places : (own : Own) (last : Source) (dirs : List (List ℕ)) (before after : Outside) (result : Result Verdict PackagesStop) (count : ℕ)
     → count ≡ min (length dirs) 4294967295 → count ≤ 16 → GoesOver own (places last dirs) [] None before after result
     → GoesOverAll own (places last dirs) before after result
-goes_over_places own last dirs before after result count is few goes = grind (arith, places_long, goes_over_all)
+goes_over_places own last dirs before after result count is few goes = grind (arith, places_long)
 
 -- or they are none or too many
 pub too_many : (last : Source) (dirs : List (List ℕ)) (count : ℕ) → count ≡ min (length dirs) 4294967295

@@ -65,10 +65,6 @@ named_same : (x y : State ℕ) (h : ℕ) → x.heap ≡ y.heap → option_and_th
 named_same x y zero objects = refl
 named_same x y (suc n) objects = ap (λ all. option_and_then (number_array words) (slice_get all n)) objects
 
--- frames are not told
-left_same : (w : Linked) (x y : State ℕ) → x.heap ≡ y.heap → x.statics ≡ y.statics → left_by words w x ≡ left_by words w y
-left_same w x y objects fields = grind (arith, map, named_same)
-
 outcome_told : (w : Linked) (o : Outcome Cell) (ending : Plain) → TextsAreAlike w → answer (ending_of o) ≡ endings.Plain ending
     → left_text (left_by words w (erased (state_of o))) (endings.Plain ending) ≡ outcome_text tagged w o
 outcome_told w (running s) ending alike is = alike s (endings.Plain ending) ∙ ap (left_text (left_by tagged w s)) (sym is)
@@ -77,7 +73,7 @@ outcome_told w (ended e s) ending alike is = alike s (endings.Plain ending) ∙ 
 prints : (w : Linked) (m : Machine) (ram heap statics : List ℕ) (o : Outcome Cell) (ending : Plain) → AreWordsOf w m ram heap statics o → TextsAreAlike w
     → answer (ending_of o) ≡ endings.Plain ending
     → left_text (left_by words w (lent_state heap statics m.counts)) (endings.Plain ending) ≡ outcome_text tagged w o
-prints w m ram heap statics o ending are alike is = grind (arith, words_of, left_same, outcome_told)
+prints w m ram heap statics o ending are alike is = grind (arith, words_of, outcome_told, map, named_same)
 
 -- ---- a run that was begun
 
@@ -117,16 +113,12 @@ pub wider : (w : Linked) (ram heap fields others : List ℕ) (o : Outcome Cell) 
     → HoldsWords w (card_words ram heap (fields ++ others)) o
 wider w ram heap fields others o long holds = grind (arith, take, take-append_seam, take-length, holds)
 
-whole_run : (w : Linked) (r : RunRequest) (ram heap fields others text : List ℕ) → length fields ≡ static_cells w
-    → IsRun w r (card_words ram heap fields) text → IsRun w r (card_words ram heap (fields ++ others)) text
-whole_run w r ram heap fields others text long run = grind (arith, left, prints, holds, wider)
-
 -- whether it begins or not
 pub whole_end : {U : Type 0} (w : Linked) (r : RunRequest) (ram heap fields others text : List ℕ) (end : Result U RunStop)
     → length fields ≡ static_cells w
     → MatchResult end (λ _. IsRun w r (card_words ram heap fields) text) (StopsRun w r)
     → MatchResult end (λ _. IsRun w r (card_words ram heap (fields ++ others)) text) (StopsRun w r)
-whole_end w r ram heap fields others text x long run = grind (arith, whole_run)
+whole_end w r ram heap fields others text x long run = grind (arith, left, prints, holds, wider)
 
 -- ---- where nothing ran
 

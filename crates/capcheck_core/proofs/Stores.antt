@@ -26,18 +26,6 @@ stored_push : (dir : List ℕ) (old : Parts) (done : List Lent) (lent : Lent)
 stored_push dir old [] lent = refl
 stored_push dir old (l ∷ ls) lent = stored_push dir (map.insert old (l.part ∷ dir) l.bytes) ls lent
 
-whole_held : (dir : List ℕ) (done : List Lent) (lent : Lent) (now mid old : Option Parts)
-    → IfSome now (λ n. IsSomeAnd mid (λ m. n ≡ map.insert m (lent.part ∷ dir) lent.bytes))
-    → IfSome mid (λ m. IsSomeAnd old (λ o. m ≡ with_parts_stored dir o done))
-    → IfSome now (λ n. IsSomeAnd old (λ o. n ≡ with_parts_stored dir o (done ++ lent ∷ [])))
-whole_held dir done lent x mid old one before = grind (arith, stored_push)
-
-begun_held : (dir : List ℕ) (done : List Lent) (lent : Lent) (now mid old : Option Parts)
-    → IfSome now (λ n. IsSomeAnd mid (λ m. IsPartlyStored dir lent m n))
-    → IfSome mid (λ m. IsSomeAnd old (λ o. m ≡ with_parts_stored dir o done))
-    → IfSome now (λ n. IsSomeAnd old (λ o. IsPartlyStored dir lent (with_parts_stored dir o done) n))
-begun_held dir done lent x mid old one before = grind (arith)
-
 pub none_stored : (dir : List ℕ) (folders : Folders) → AreStored dir [] folders folders
 none_stored dir folders = record { held = same folders.held; load_faults = refl; failed = refl; store_faults = refl }
   where
@@ -49,19 +37,14 @@ pub one_stored : (dir : List ℕ) (done : List Lent) (lent : Lent) (before mid a
     → IfSome after.held (λ now. IsSomeAnd mid.held (λ old. now ≡ map.insert old (lent.part ∷ dir) lent.bytes))
     → after.load_faults ≡ mid.load_faults → after.failed ≡ mid.failed → after.store_faults ≡ mid.store_faults
     → AreStored dir (done ++ lent ∷ []) before after
-one_stored dir done lent before mid after all one loads failed stores = record {
-  held = whole_held dir done lent after.held mid.held before.held one all.held;
-  load_faults = loads ∙ all.load_faults;
-  failed = failed ∙ all.failed;
-  store_faults = stores ∙ all.store_faults;
-}
+one_stored dir done lent before mid after all one loads failed stores = grind (arith, stored_push)
 
 pub one_broken : (dir : List ℕ) (parts done : List Lent) (lent : Lent) (left : List Lent) (before mid after : Folders) → AreStored dir done before mid
     → parts ≡ done ++ lent ∷ left
     → IfSome after.held (λ now. IsSomeAnd mid.held (λ old. IsPartlyStored dir lent old now))
     → after.load_faults ≡ mid.load_faults → after.failed ≡ mid.failed → Rose mid.store_faults after.store_faults
     → IsBrokenOff dir parts before after
-one_broken dir parts done lent left before mid after all are one loads failed rose = grind (arith, begun_held)
+one_broken dir parts done lent left before mid after all are one loads failed rose = grind (arith)
 
 -- ---- the order of a package's parts
 
@@ -82,12 +65,9 @@ next_none parts top stores so_far = above_none 2 top top stores so_far.rising (o
 pub next_absent : (parts : List Lent) (top : ℕ) (stores : List Lent) → AreInOrderBelow parts top stores → IsNone (held stores top)
 next_absent parts top stores so_far = is_none (held stores top) (next_none parts top stores so_far)
 
-file_rises : (top : ℕ) (stores : List Lent) (file : Option (List ℕ)) → 2 ≤ top → Rise 2 top stores → Rise 2 (suc top) (with_file stores top file)
-file_rises top stores x low rise = grind (arith, rise_wider, rise_push)
-
 next : (parts : List Lent) (top : ℕ) (stores : List Lent) → 2 ≤ top → AreInOrderBelow parts top stores
     → AreInOrderBelow parts (suc top) (with_file stores top (held parts top))
-next parts top stores low so_far = grind (arith, file_rises, eq-or-lt_of_le, file_same, next_none, file_other, ne_eqb)
+next parts top stores low so_far = grind (arith, eq-or-lt_of_le, file_same, next_none, file_other, ne_eqb, rise_wider, rise_push)
 
 pub next_in_order : (parts : List Lent) (top : ℕ) (stores more : List Lent) → 2 ≤ top → AreInOrderBelow parts top stores
     → more ≡ with_file stores top (held parts top) → AreInOrderBelow parts (top + 1) more
@@ -105,13 +85,10 @@ pub header_absent : (parts others stores : List Lent) (top : ℕ) (roles : Optio
     → stores ≡ with_file others roles_tag roles → IsNone (held stores header_tag)
 header_absent parts others stores top roles so_far adds = grind (arith, is_none, no_header_before)
 
-bytes_of_some : (o : Option (List ℕ)) → IsSome o → (bytes : List ℕ) × (o ≡ Some bytes)
-bytes_of_some x some = grind (arith)
-
 pub all_in_order : (parts others middle stores : List Lent) (top : ℕ) (roles : Option (List ℕ)) → AreInOrderBelow parts top others → top ≡ 256
     → IsSome (held parts header_tag) → middle ≡ with_file others roles_tag roles → stores ≡ with_file middle header_tag (held parts header_tag)
     → AreInStoreOrder parts roles stores
-all_in_order parts others middle stores top roles so_far whole some first last = grind (arith, bytes_of_some)
+all_in_order parts others middle stores top roles so_far whole some first last = grind (arith)
 
 -- ---- what a folder holds of parts that are stored
 

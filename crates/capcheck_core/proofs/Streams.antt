@@ -4,7 +4,7 @@ use Rattle.std.proofs.Common.{◌≡◌, ℕ, List, [], ◌++◌, Result, ◌∙
 use Rattle.cap_files.specs.Folder.{Folders}
 use Rattle.cap_load.specs.Loaded.{Loaded, StandsFor}
 use Rattle.capcheck_core.specs.declared.packages.PackagesStop.{PackagesStop}
-use Rattle.capcheck_core.specs.PackageEnds.{HasTaken, PackagesLeave, PackagesStopLeaves}
+use Rattle.capcheck_core.specs.PackageEnds.{HasTaken, PackagesLeave}
 
 -- ---- a loader that takes all of the bytes
 
@@ -14,12 +14,8 @@ takes loader new stream empty room stands same = record { room = same ∙ room; 
 
 -- ---- the bytes of the folder's Load file
 
--- where the folders are as before they may be left
-pub stop_leaves : (before after : Folders) (stop : PackagesStop) → after ≡ before → PackagesStopLeaves before after stop
-stop_leaves before after x same = grind (arith)
-
 pub leaves : {A : Type 0} (before after : Folders) (result : Result A PackagesStop) → after ≡ before → PackagesLeave before after result
-leaves before after x same = grind (arith, stop_leaves)
+leaves before after x same = grind (arith)
 
 -- ---- the parts in it
 

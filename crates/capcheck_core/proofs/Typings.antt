@@ -8,11 +8,9 @@ use Rattle.std.proofs.lemmas.List.Sums.{count_by_more_yes, count_by_more_no}
 use Rattle.std.specs.Int.{from_bool}
 use Rattle.std.proofs.Math.Nat.{eq-or-lt_of_le}
 use Rattle.std.proofs.lemmas.Option.{slice_get_within, get_or_from_slice_get}
-use Rattle.jc_base.specs.declared.ty.Ty.TheVariants.{Top}
 use Rattle.jc_base.specs.declared.record.MethodRec.{MethodRec}
 use Rattle.jc_base.specs.World.{Linked}
-use Rattle.jc_control.specs.Method.{Method, IsMethodOf, method_with}
-use Rattle.jc_rules.specs.Flow.{HasFlowTyping}
+use Rattle.jc_control.specs.Method.{IsMethodOf, method_with}
 use Rattle.jc_flow.specs.declared.end.FlowEnd.{FlowEnd}
 use Rattle.jc_flow.specs.declared.end.FlowEnd.TheVariants.{Memory}
 use Rattle.jc_flow.specs.Infer.{TellsEnd, LacksTyping}
@@ -70,14 +68,11 @@ one_counted w n count one asked e is before = grind (arith, counted, length, sli
 
 -- ---- the verdicts
 
-no_typing : (w : Linked) (m : Method) (end : FlowEnd) → (end ≡ Memory → ⊥) → LacksTyping w m end → HasFlowTyping w m Top → ⊥
-no_typing w m x known none = grind (arith, known)
-
 -- the method that was not typed is the first
 pub first_untyped : (w : Linked) (n : ℕ) (end : FlowEnd) (number : MethodNumber) (text : List ℕ) → AreTypedBelow w n → FailsMethod w n end
     → (end ≡ Memory → ⊥)
     → option_map numbers_of_method (slice_get w.methods n) ≡ Some number → text ≡ refused_flow_line number end → TellsUntyped w text
-first_untyped w n end number text earlier f known named prints = grind (arith, slice_get, option_map, no_typing, known)
+first_untyped w n end number text earlier f known named prints = grind (arith, slice_get, option_map, known)
 
 -- all of them are typed
 pub all_typed : (w : Linked) (n count : ℕ) (text : List ℕ) → AreTypedBelow w n → length w.methods ≤ n

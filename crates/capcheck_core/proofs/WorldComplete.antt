@@ -8,7 +8,7 @@ use Rattle.std.specs.List.{AllZip, concat}
 use Rattle.std.proofs.lemmas.Slice.Zip.{AllZip-long}
 use Rattle.cap_bytes.specs.declared.fault.FormKind.{FormKind}
 use Rattle.cap_files.specs.Counts.{Rose}
-use Rattle.cap_files.specs.Folder.{Parts, Folders, Holds, IsThere, IsAbsent, IsTooLong, LoadFails}
+use Rattle.cap_files.specs.Folder.{Parts, Folders, Holds, IsThere, IsAbsent, IsTooLong}
 use Rattle.cap_components.specs.declared.fault.PackFault.{PackFault}
 use Rattle.cap_components.specs.declared.fault.PackFault.TheVariants as faults
 use Rattle.cap_load.specs.LoadFile.{in_blocks, IsLoadFile, IsLoadFileWithin}
@@ -33,7 +33,7 @@ use Rattle.capcheck_core.specs.Beside.{LacksFile}
 use Rattle.capcheck_core.specs.FolderFault.{OfPack}
 use Rattle.capcheck_core.specs.InLoadFile.{AreInLoadFile, load_tag, load_key}
 use Rattle.capcheck_core.specs.Place.{Place}
-use Rattle.capcheck_core.specs.Roles.{AreRolesIn, LacksRoles, BreaksRoles, roles_key}
+use Rattle.capcheck_core.specs.Roles.{AreRolesIn, LacksRoles, BreaksRoles}
 use Rattle.capcheck_core.specs.Packages.{ArePartsAt, ArePartsBy, LacksPartsAt, FailsPartsAt, FailsPartsBy}
 use Rattle.capcheck_core.specs.Packages.{AreRoleBytes, LacksPackage, IsFirstWhere, IsFirstStop}
 use Rattle.capcheck_core.specs.OverFolders.{StopsAtLoad, OfGiven, OverPlaces}
@@ -185,11 +185,6 @@ first_rose before after from [] first = absurd first
 first_rose before after from (place ∷ at) (inl here) = place_rose before after place.source place.dir here
 first_rose before after from (place ∷ at) (inr r) = first_rose before after (suc from) at r.1
 
-stop_rose : (before after : Folders) (at : List Place)
-    → IsFirstStop before at (λ n place. FailsPartsBy before place after) (λ dir. LoadFails before (roles_key dir) after)
-    → Rose before.load_faults after.load_faults
-stop_rose before after x stop = grind (arith, place_rose, first_rose)
-
 -- ---- all of it
 
 -- there are as many places as packages, which are few
@@ -197,20 +192,16 @@ counted : (at : List Place) (before : Folders) (world : Linked) (can : CanLink a
 counted at before world can =
     sym (AllZip-long (ArePartsBy before) at can.parts can.given.parts_are) ∙ sym (AllZip-long StandsFor can.parts can.made.packages can.made.stand)
 
--- roles stand beside a first package
-no_folders : (before : Folders) (at : List Place) (roles : List ℕ) → length at ≡ 0 → AreRoleBytes before at roles → ⊥
-no_folders before x roles none are = grind (arith)
-
 -- the loads do not stop
 unstopped : (at : List Place) (before after : Outside) (world : Linked) (verdict : Verdict) → CanLink at before.folders world
     → (Rose before.folders.load_faults after.folders.load_faults → ⊥) → StopsAtLoad at before after verdict → status_of verdict ≡ 6
 unstopped at before after world Memory can calm stops = refl
-unstopped at before after world ReadFault can calm stops = absurd (calm (stop_rose before.folders after.folders at stops.0.first))
+unstopped at before after world ReadFault can calm stops = grind (arith, place_rose, first_rose)
 unstopped at before after world (Malformed text) can calm (same, inl many) =
     let few = linked_few can.made.packages can.roles world can.made.linked in
     let count = counted at before.folders world can in
     elim many.many.wrong [
-      | inl none ↦ absurd (no_folders before.folders at can.roles none can.given.roles_are)
+      | inl none ↦ absurd (grind (arith))
       | inr above ↦ absurd (omega (arith, few, count, above))
     ]
 unstopped at before after world (Malformed text) can calm (same, inr fault) =
