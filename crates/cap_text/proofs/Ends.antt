@@ -20,9 +20,6 @@ dropped_one n ws word tail is = grind (arith, suc, drop, next_dropped)
 at_end : (word : List ℕ) (tail : List (List ℕ)) → is_end word ≡ true → position_or_len is_end (word ∷ tail) ≡ 0
 at_end word tail is = rw is refl
 
-past_one : (word : List ℕ) (tail : List (List ℕ)) → is_end word ≡ false → position_or_len is_end (word ∷ tail) ≡ 1 + position_or_len is_end tail
-past_one word tail is = rw is refl
-
 -- a word that ends the folders is the first such
 pub hit : (ws rest tail : List (List ℕ)) (word : List ℕ) (count : ℕ) → rest ≡ drop count ws → count + position_or_len is_end rest
     ≡ position_or_len is_end ws
@@ -35,7 +32,7 @@ left_one ws rest tail word count left is = sym (dropped_one count ws word tail (
 
 pub place_one : (ws rest tail : List (List ℕ)) (word : List ℕ) (count : ℕ) → count + position_or_len is_end rest ≡ position_or_len is_end ws
     → rest ≡ word ∷ tail → is_end word ≡ false → count + 1 + position_or_len is_end tail ≡ position_or_len is_end ws
-place_one ws rest tail word count place is goes = grind (arith, past_one)
+place_one ws rest tail word count place is goes = grind (arith)
 
 pub few_one : (ws rest tail : List (List ℕ)) (word : List ℕ) (count : ℕ) → count + length rest ≡ length ws → rest ≡ word ∷ tail
     → count + 1 + length tail ≡ length ws

@@ -6,14 +6,12 @@ use Rattle.std.specs.Str.Parse.{AllDigits}
 use Rattle.std.proofs.lemmas.Fmt.{decimal_injective, signed_decimal_injective, decimal_is_IsNumeral}
 use Rattle.std.proofs.lemmas.Bool.{eqb-false}
 use Rattle.cap_text.specs.Word.{IsArgWord, AreArgWords}
-use Rattle.cap_text.specs.Probe.{ProbeRequest, IsProbe}
 use Rattle.cap_text.specs.OfDir.{IsOfDir}
 use Rattle.cap_text.specs.OutOfDir.{OutOfDirRequest, IsOutOfDir}
 use Rattle.cap_text.specs.OfDirs.{IsOfDirs}
 use Rattle.cap_text.specs.Entry.{IsEntryWord}
 use Rattle.cap_text.specs.Run.{RunRequest, AreRunWords}
 use Rattle.cap_text.specs.OutOfDirs.{OutOfDirsRequest, IsOutOfDirs}
-use Rattle.cap_text.specs.Generate.{GenerateRequest, IsGenerate}
 use Rattle.cap_text.specs.EntryWords.{EntryRequest, AreEntryWords}
 use Rattle.cap_text.specs.Request.{Request, probe, show, list, asm, check, verify, defend, run, transform, share, trial, generate}
 use Rattle.cap_text.specs.Request.{bound, pack, install, takes_arguments, IsRequest, IsUsage, NoneSuch, OneRequest}
@@ -48,9 +46,6 @@ one_list (w ∷ ws) [] ys p q = absurd p
 one_list (w ∷ ws) (x ∷ xs) [] p q = absurd q
 one_list (w ∷ ws) (x ∷ xs) (y ∷ ys) p q = let head = one_argument w x y p.0 q.0 in let tail = one_list ws xs ys p.1 q.1 in cc
 
-one_probe : (operands : List (List ℕ)) (p q : ProbeRequest) → IsProbe operands p → IsProbe operands q → p ≡ q
-one_probe x p q is_p is_q = grind (arith, decimal_injective, one_list)
-
 one_of_dir : (operands : List (List ℕ)) (d e : List ℕ) → IsOfDir operands d → IsOfDir operands e → d ≡ e
 one_of_dir x d e is_d is_e = grind (arith)
 
@@ -69,9 +64,6 @@ one_run x r s is_r is_s = grind (arith, decimal_injective, one_entry, one_list)
 
 one_out_of_dirs : (operands : List (List ℕ)) (t u : OutOfDirsRequest) → IsOutOfDirs operands t → IsOutOfDirs operands u → t ≡ u
 one_out_of_dirs x t u is_t is_u = grind (arith)
-
-one_generate : (operands : List (List ℕ)) (g h : GenerateRequest) → IsGenerate operands g → IsGenerate operands h → g ≡ h
-one_generate x g h is_g is_h = grind (arith, decimal_injective)
 
 one_at_entry : (operands : List (List ℕ)) (e f : EntryRequest) → AreEntryWords operands e → AreEntryWords operands f → e ≡ f
 one_at_entry x e f is_e is_f = grind (arith, one_entry)
@@ -113,21 +105,6 @@ none_called : (name : List ℕ) (operands : List (List ℕ)) (called : List ℕ)
     → ((r : Request) → key_of r ≡ key called → IsRequest (name ∷ operands) r → ⊥) → (r : Request) → IsRequest (name ∷ operands) r → ⊥
 none_called name operands called is none r asks = none r (sym (named name operands r asks) ∙ ap key is) asks
 
-only_check : (name : List ℕ) (operands : List (List ℕ)) → ((d : List (List ℕ)) → IsOfDirs operands d → ⊥)
-    → (r : Request) → key_of r ≡ 9905 → IsRequest (name ∷ operands) r → ⊥
-unfolding key_of
-only_check name operands none r e is = grind (arith, eqb-false, key_of)
-
-only_verify : (name : List ℕ) (operands : List (List ℕ)) → ((d : List (List ℕ)) → IsOfDirs operands d → ⊥)
-    → (r : Request) → key_of r ≡ 11806 → IsRequest (name ∷ operands) r → ⊥
-unfolding key_of
-only_verify name operands none r e is = grind (arith, eqb-false, key_of)
-
-only_install : (name : List ℕ) (operands : List (List ℕ)) → ((d : List (List ℕ)) → IsOfDirs operands d → ⊥)
-    → (r : Request) → key_of r ≡ 10507 → IsRequest (name ∷ operands) r → ⊥
-unfolding key_of
-only_install name operands none r e is = grind (arith, eqb-false, key_of)
-
 -- whatever command it is, with arguments of a method or without
 none_such : (takes : Bool) (words : List (List ℕ)) → ((r : Request) → IsRequest words r → ⊥) → NoneSuch takes words
 none_such takes words none r e is = none r is
@@ -135,17 +112,17 @@ none_such takes words none r e is = none r is
 pub no_check : (name : List ℕ) (operands : List (List ℕ)) → name ≡ codes "check" → ((d : List (List ℕ)) → IsOfDirs operands d → ⊥)
     → NoneSuch false (name ∷ operands)
 unfolding first key
-no_check name operands is none = none_such false (name ∷ operands) (none_called name operands (codes "check") is (only_check name operands none))
+no_check name operands is none = grind (arith, none_such, none_called, codes, eqb-false, key_of)
 
 pub no_verify : (name : List ℕ) (operands : List (List ℕ)) → name ≡ codes "verify" → ((d : List (List ℕ)) → IsOfDirs operands d → ⊥)
     → NoneSuch false (name ∷ operands)
 unfolding first key
-no_verify name operands is none = none_such false (name ∷ operands) (none_called name operands (codes "verify") is (only_verify name operands none))
+no_verify name operands is none = grind (arith, none_such, none_called, codes, eqb-false, key_of)
 
 pub no_install : (name : List ℕ) (operands : List (List ℕ)) → name ≡ codes "install" → ((d : List (List ℕ)) → IsOfDirs operands d → ⊥)
     → NoneSuch false (name ∷ operands)
 unfolding first key
-no_install name operands is none = none_such false (name ∷ operands) (none_called name operands (codes "install") is (only_install name operands none))
+no_install name operands is none = grind (arith, none_such, none_called, codes, eqb-false, key_of)
 
 -- where they ask for none with such arguments and for none without, they ask for nothing
 pub none_at_all : (words : List (List ℕ)) → NoneSuch true words → NoneSuch false words → IsUsage words
@@ -158,7 +135,7 @@ none_at_all words with without r is = by (takes_arguments r) refl
 pub one_request : (words : List (List ℕ)) → OneRequest words
 unfolding key_of
 one_request [] r s is_r is_s = absurd is_r
-one_request (name ∷ operands) (probe p) (probe q) is_r is_s = ap probe (one_probe operands p q is_r.1 is_s.1)
+one_request (name ∷ operands) (probe p) (probe q) is_r is_s = grind (arith, decimal_injective, one_list)
 one_request (name ∷ operands) (show d) (show e) is_r is_s = ap show (one_of_dir operands d e is_r.1 is_s.1)
 one_request (name ∷ operands) (list d) (list e) is_r is_s = ap list (one_of_dir operands d e is_r.1 is_s.1)
 one_request (name ∷ operands) (asm o) (asm p) is_r is_s = ap asm (one_out_of_dir operands o p is_r.1 is_s.1)
@@ -169,7 +146,7 @@ one_request (name ∷ operands) (run r) (run s) is_r is_s = ap run (one_run oper
 one_request (name ∷ operands) (transform t) (transform u) is_r is_s = ap transform (one_out_of_dirs operands t u is_r.1 is_s.1)
 one_request (name ∷ operands) (share o) (share p) is_r is_s = ap share (one_out_of_dirs operands o p is_r.1 is_s.1)
 one_request (name ∷ operands) (trial r) (trial s) is_r is_s = ap trial (one_run operands r s is_r.1 is_s.1)
-one_request (name ∷ operands) (generate g) (generate h) is_r is_s = ap generate (one_generate operands g h is_r.1 is_s.1)
+one_request (name ∷ operands) (generate g) (generate h) is_r is_s = grind (arith, decimal_injective)
 one_request (name ∷ operands) (bound e) (bound f) is_r is_s = ap bound (one_at_entry operands e f is_r.1 is_s.1)
 one_request (name ∷ operands) (pack o) (pack p) is_r is_s = ap pack (one_out_of_dir operands o p is_r.1 is_s.1)
 one_request (name ∷ operands) (install d) (install e) is_r is_s = ap install (one_of_dirs operands d e is_r.1 is_s.1)
