@@ -1,5 +1,5 @@
 -- The methods of the classes of a package that links have headers.
-use Rattle.std.proofs.Common.{◌≡◌, ℕ, suc, ◌+◌, ◌<◌, Bool, true, false, ◌&&◌, List, [], ◌∷◌}
+use Rattle.std.proofs.Common.{◌≡◌, ℕ, suc, ◌+◌, ◌<◌, Bool, true, false, List, [], ◌∷◌}
 use Rattle.std.proofs.Common.{length, map, Some, option_map, slice_get, refl, ap, subst, ◌∙◌, inl, inr, arith}
 use Rattle.std.specs.Prelude.{All}
 use Rattle.std.specs.List.{list_any}
@@ -58,13 +58,10 @@ none-passes t [] x none h = absurd h
 none-passes t (y ∷ ys) x none (inl e) = ap t e ∙ (or_parts (t y) (list_any t ys) none).0
 none-passes t (y ∷ ys) x none (inr h) = none-passes t ys x (or_parts (t y) (list_any t ys) none).1 h
 
-second-fails : (a b : Bool) → a ≡ true → (a && b) ≡ false → b ≡ false
-second-fails x b e h = grind (arith, true≢false)
-
 no-interface : (cs : List Class) (reference : ℕ) (c : Class) → names_interface cs reference ≡ false → IsOneOf cs c → c.offset ≡ reference
     → is_interface c.flags ≡ false
 unfolding names_interface
-no-interface cs reference c none h e = grind (arith, second-fails, eq-eqb, none-passes)
+no-interface cs reference c none h e = grind (arith, eq-eqb, none-passes, true≢false)
 
 module _ (ps : List PackageRecord) (k : ℕ) (p : PackageRecord) (at : slice_get ps k ≡ Some p) where
   flag-by : (reference : ℕ) (c : NumberedClass) → slice_get ps c.home ≡ Some c.of_package → IsOneOf c.of_package.classes c.record_of

@@ -1,5 +1,5 @@
 -- Methods of a world, one number after the other.
-use Rattle.std.proofs.Common.{◌≡◌, ◌⊎◌, ℕ, ◌+◌, ◌<◌, ◌≤◌, length, drop, Some, slice_get, refl, sym, subst, inl, inr, arith}
+use Rattle.std.proofs.Common.{◌≡◌, ◌⊎◌, ℕ, ◌+◌, ◌<◌, ◌≤◌, length, drop, Some, slice_get, sym, subst, inl, inr, arith}
 use Rattle.std.proofs.Common.{length-take}
 use Rattle.std.proofs.Math.Nat.{eq-or-lt_of_le}
 use Rattle.std.proofs.lemmas.Bool.{cases_lt}
@@ -10,7 +10,7 @@ use Rattle.card_typing.specs.Typing.{HasCardTyping}
 use Rattle.card_verify.specs.Answers.{AreAccepted, AreAcceptedBefore, IsRefusedAt}
 use Rattle.jc_base.specs.declared.record.MethodRec.{MethodRec}
 use Rattle.jc_base.specs.Linked.{IsMethod}
-use Rattle.jc_base.specs.World.{Linked, IsWorld, code_of}
+use Rattle.jc_base.specs.World.{Linked, IsWorld}
 use Rattle.jc_base.proofs.Lists.{All-slice_get}
 use Rattle.jc_control.specs.Asked.{AllHave, AllHaveBelow, IsOfLibrary}
 use Rattle.jc_control.specs.Method.{Method, IsMethodOf, method_with}
@@ -24,12 +24,9 @@ method-is w m is = let code = sym is.code in λ i. record { number = m.number; r
 pub has-code : (w : Linked) (m : Method) → IsMethodOf w m → 0 < m.rec.code_len
 has-code w m is = grind (arith, length-take, drop, length)
 
-code-long : (w : Linked) (r : MethodRec) → IsMethod w.infos w.pools w.classes r → length (code_of w.infos r) ≡ r.code_len
-code-long w r is = grind (arith, length-take, drop, length-drop)
-
 pub method-of : (w : Linked) (n : ℕ) (r : MethodRec) → slice_get w.methods n ≡ Some r → IsMethod w.infos w.pools w.classes r → 0 < r.code_len
     → IsMethodOf w (method_with w n r)
-method-of w n r at is some = let long = code-long w r is in record { rec = at; code = refl; filled = omega (arith, long, some) }
+method-of w n r at is some = grind (arith, length-take, drop, length-drop)
 
 -- ---- what is asked of methods with code, one number after the other
 

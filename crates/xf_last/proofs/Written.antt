@@ -1,7 +1,6 @@
 -- The last of packages that link, and what is written in its place.
-use Rattle.std.proofs.Common.{◌≡◌, ℕ, ◌-◌, ◌<◌, ◌≤◌, Bool, List, [], length, take, drop, Option, Some, None, refl, subst, arith}
-use Rattle.std.specs.Prelude.{slice_get, nat_lt, ◌==◌, ◌||◌, min, if◌then◌else◌}
-use Rattle.std.specs.Option.{option_to_list}
+use Rattle.std.proofs.Common.{◌≡◌, ℕ, ◌-◌, ◌<◌, ◌≤◌, List, [], length, take, drop, Option, Some, subst, arith}
+use Rattle.std.specs.Prelude.{slice_get}
 use Rattle.std.proofs.lemmas.Bool.{eqb-false}
 use Rattle.cap_package.specs.PackageRecord.{PackageRecord}
 use Rattle.cap_package.specs.Parts.{Lent}
@@ -16,8 +15,6 @@ use Rattle.jc_control.specs.Asked.{AllHave, IsOfLast}
 use Rattle.jc_control.specs.Method.{IsMethodOf}
 use Rattle.jc_decode.specs.declared.symbols.Laid.{Laid}
 use Rattle.jc_link.specs.World.{IsLinked}
-use Rattle.jc_resolve.specs.declared.fault.LinkFault.{LinkFault}
-use Rattle.jc_resolve.specs.declared.fault.LinkFault.TheVariants.{TooManyPackages}
 use Rattle.law_index.specs.WrittenIndex.{HasRoomForIndex, WrittenIndexIsExact}
 use Rattle.law_relink.specs.Last.{and_last}
 use Rattle.xf_last.specs.Fits.{AreFit}
@@ -28,12 +25,9 @@ use Rattle.xf_last.proofs.Suited.{may-be-laid}
 
 -- ---- packages that link
 
-some-package : (n : ℕ) (fault : LinkFault) (a b : Bool) → (n == 0) ≡ a → option_to_list (if a || b then Some fault else None) ≡ [] → 0 < n
-some-package n fault x b is none = grind (arith, eqb-false)
-
 -- where packages link there is at least one
 linked-some : (ps : List PackageRecord) (roles : List ℕ) (w : Linked) → IsLinked ps roles w → 0 < length ps
-linked-some ps roles w l = some-package (length ps) (TooManyPackages (min (length ps) 4294967295)) (length ps == 0) (nat_lt 16 (length ps)) refl l.faultless.0
+linked-some ps roles w l = grind (arith, length, eqb-false)
 
 -- the last of them
 pub record IsLastOf (ps : List PackageRecord) (roles : List ℕ) (w : Linked) (p : PackageRecord) : Type 0 where
