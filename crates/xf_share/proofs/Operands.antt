@@ -46,14 +46,11 @@ registers-all : map suits_register (range_with_len 0 256) ≡ replicate 256 true
 unfolding layout_of opcode
 registers-all = refl
 
-branches-all : map suits_branch (range_with_len 0 256) ≡ replicate 256 true
-branches-all = refl
-
 register-suits : (op : ℕ) → op < 256 → uses_register op ≡ true → has_operand op ≡ true
 register-suits op lt e = or-rest (uses_register op) (has_operand op) (passed-at suits_register registers-all op lt) e
 
 pub branch-wide : (op : ℕ) → op < 256 → is_branch op ≡ true → is_wide_jump (wide op) ≡ true
-branch-wide op lt e = or-rest (is_branch op) (is_wide_jump (wide op)) (passed-at suits_branch branches-all op lt) e
+branch-wide op lt e = grind (arith, or-rest, passed-at)
 
 -- ---- operands
 
