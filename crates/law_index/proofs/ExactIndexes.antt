@@ -84,12 +84,9 @@ home-of ps q roles x = refl
 coded-by : (n : ℕ) (m : MethodRec) → m.package ≡ n → is_coded n m ≡ has_code m
 coded-by n m e = grind (arith)
 
-not-coded : (n : ℕ) (m : MethodRec) → m.package < n → is_coded n m ≡ false
-not-coded n m lt = grind (arith)
-
 none-coded : (n : ℕ) (ms : List MethodRec) → Each (λ (m : MethodRec). m.package < n) ms → Each (λ m. is_coded n m ≡ false) ms
 none-coded n [] h = tt
-none-coded n (m ∷ ms) h = (not-coded n m h.0, none-coded n ms h.1)
+none-coded n (m ∷ ms) h = ((grind (arith)), none-coded n ms h.1)
 
 code-some : (infos : List (List ℕ)) (m : MethodRec) → 0 < length (code_of infos m) → has_code m ≡ true
 code-some infos m filled = grind (arith, length-take, drop)
