@@ -64,9 +64,6 @@ module _ (f : MethodRec → ℕ) where
 
 -- ---- the methods of the new world
 
-no-code : (w : Linked) (x : MethodRec) (b : Bool) → code_of w.infos x ≡ [] → cond (b && nat_lt 0 (length (code_of w.infos x))) x.max_locals 0 ≡ 0
-no-code w x x2 e = grind (arith, cond, length)
-
 module _ (v : Linked) (no_more : RegistersAreNoMore) (laws : AreLaws v) (laid : List (Option Laid)) (are : AreSharedOf v laid) (w : Linked)
     (same : IsSameBut v w) (packages : length w.infos ≡ length v.infos) (stand : MethodsAreReplaced are.libraries are.own laid v w) where
   abbrev begins : ℕ
@@ -97,7 +94,7 @@ module _ (v : Linked) (no_more : RegistersAreNoMore) (laws : AreLaws v) (laid : 
 
   of-element : (k : ℕ) (x r : MethodRec) (o : Option Laid) → slice_get w.methods (begins + k) ≡ Some x → slice_get are.own k ≡ Some r
       → slice_get laid k ≡ Some o → locals_of w x ≡ laid_of o
-  of-element k x r None at own element = grind (arith, no-code, length, option_map)
+  of-element k x r None at own element = grind (arith, length, option_map, cond)
   of-element k x r (Some l) at own element =
       let has = stand.replaced k r l own element (pools v laws laid are k r l own element) in
       let its = found v laws laid are k r l own element w same has in

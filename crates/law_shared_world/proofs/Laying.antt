@@ -56,15 +56,11 @@ item-steps code reg i = by (is_switch i.insn.op) (is_branch i.insn.op)
     by false true = refl
     by false false = refl
 
-step-more : (source : List ℕ) (all : List Item) (item : Item) (items : List Item) → is_instruction item ≡ true
-    → 0 < length (steps_in source all (item ∷ items))
-step-more source all x items e = grind (arith, false≢true)
-
 -- an instruction is a step, so symbols with one have a step
 some-step : (code : List ℕ) (reg : ℕ → ℕ) (all : List Item) (is : List Placed) (i : Placed) → Contains is i
     → 0 < length (steps_in code all (items_from code reg is))
 some-step code reg all [] i c = absurd (nothing-in i c)
-some-step code reg all (j ∷ js) i c = step-more code all (item_of code reg j) (items_from code reg js) (item-steps code reg j)
+some-step code reg all (j ∷ js) i c = grind (arith, item-steps, false≢true)
 
 pub laid-filled :
     (place : ℕ → ℕ) (m : Method) (reg : ℕ → ℕ) (locals : ℕ) (laid : Laid)
