@@ -136,17 +136,7 @@ module _ (v w : Linked) (b : IsBegun v w) where
   unfolding described
   described_same c token lt =
       let n = length v.methods in
-      let k = length b.added in
-      let all : length w.methods ≡ n + k = ap length b.methods ∙ length-append v.methods b.added in
-      ap (λ j. filter (describes c token w) (range_with_len 0 j)) all
-      ∙ ap (filter (describes c token w)) (range_both 0 n k)
-      ∙ filter-append (describes c token w) (range_with_len 0 n) (range_with_len (0 + n) k)
-      ∙ ap (λ xs. xs ++ filter (describes c token w) (range_with_len (0 + n) k))
-      (filter_alike (describes c token w) (describes c token v) 0 n
-      (λ i le less. ap (passes_test (is_described c token)) (method_front i (omega (arith, less)))))
-      ∙ ap (λ xs. filter (describes c token v) (range_with_len 0 n) ++ xs)
-      (filter_none (describes c token w) (0 + n) k (λ i le. past_described c token i lt (omega (arith, le))))
-      ∙ append-nil (filter (describes c token v) (range_with_len 0 n))
+      grind (arith, n, length, length-append, range_both, filter-append, filter_alike, method_front, filter_none, past_described, append-nil)
 
   -- ---- concrete classes
 
@@ -161,9 +151,7 @@ module _ (v w : Linked) (b : IsBegun v w) where
   bodies_there [] e = refl
   bodies_there (n ∷ ns) e =
       let parts = and_parts (has_body v.methods n) (all_have_bodies v.methods ns) e in
-      let a = body_there n parts.0 in
-      let rest = bodies_there ns parts.1 in
-      cc
+      grind (arith, parts, body_there, bodies_there ns parts.1)
 
   nearest_same : (home c : ℕ) → c < count → nearest_of w.classes home c ≡ nearest_of v.classes home c
   unfolding nearest_of

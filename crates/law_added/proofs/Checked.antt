@@ -75,10 +75,7 @@ typed-all ps roles w some agreed linked checked m is =
     let taken = length-take k ps in
     let size : length one.world.infos ≡ k = ap length one.linked.lists.infos ∙ length-map (take k ps) _
     ∙ (let e : length (take k ps) ≡ k = omega (arith, taken, home) in e) in
-    let below : m.rec.«package» < length one.world.infos = omega (arith, size) in
-    let there = method_down one.world w more m is below in
-    let typing = one.typed m (record { method = there; last = sym size }) in
-    record { frames = typing.frames; typing = keeps.flow m Top typing.frames typing.typing }
+    grind (arith, more, keeps, size, length, method_down)
 
 pub checked-never-fault : (w : Linked) → TypedCodeIsFaultFree w → CheckedPackagesNeverFault w
 checked-never-fault w sound ps roles some agreed linked checked = sound Top (typed-all ps roles w some agreed linked checked)

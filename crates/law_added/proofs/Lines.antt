@@ -125,11 +125,7 @@ module _ (cs more : List NamedClass) (roles : List ℕ) (are : AreLines (outline
       let head : c ≡ x = cc in
       let next = parent_known few p (parent_of few p) are refl in
       let above = both_by ys p (parent_of few p) rest h refl (subst (λ n. IfSome (parent_of few p) (λ q. q < n)) count next) in
-      let high : chain many c ≡ c ∷ chain many p = chain_step many c grown ∙ ap (λ o. c ∷ list_of (chain many) o) (parent_front c lt ∙ up) in
-      record {
-        both = high ∙ ap (λ zs. c ∷ zs) above.both ∙ ap (λ a. a ∷ ys) head;
-        within = one c (x ∷ ys) ys lt (ap (λ a. a ∷ ys) (sym head)) above.within;
-      }
+      grind (arith, head, above, chain_step, parent_front, one)
 
   chain_both : (c : ℕ) → c < length cs → IsChainBoth c (chain few c)
   chain_both c lt =

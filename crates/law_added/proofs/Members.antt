@@ -27,7 +27,7 @@ use Rattle.jc_resolve.specs.References.{class_referred, met_by, exported_field, 
 use Rattle.jc_resolve.specs.OwnFields.{field_with, own_field, fields_in, own_fields}
 use Rattle.jc_resolve.proofs.ImportLaws.{met_before}
 use Rattle.jc_link.specs.Entries.{place_in, place_by, field_place, method_place}
-use Rattle.jc_link.specs.Fields.{field_site, class_sites, sites_of_classes, sites_after, field_sites}
+use Rattle.jc_link.specs.Fields.{field_site, sites_of_classes, sites_after, field_sites}
 use Rattle.jc_link.specs.Sites.{MemberSite, members_standing, same_spot, only, is_there}
 use Rattle.jc_link.specs.Members.{class_member, proper_by, proper_referred, virtual_by, virtual_member, super_by, super_of, super_member}
 use Rattle.jc_link.specs.Members.{static_site, static_sites, static_at, static_member, call_member, token_of_class, holder_of, as_of, field_of, field_member}
@@ -227,11 +227,7 @@ module _ (ps qs : List PackageRecord) (t u : ClassTable) (g : IsGrown (length (n
     class_front k p c (r ∷ rs) lt le =
         let here : cells_above u (parent_of u c) ≡ cells_above t (parent_of t c) =
         ap (cells_above u) (parent_front n t u g c (omega (arith, le))) ∙ above_same (parent_of t c) (g.parents c) in
-        ap (λ fs. map (field_site (cells_above u (parent_of u c)) c fs) fs ++ sites_of_classes (ps ++ qs) u k p (c + 1) rs) (own_front k p r lt)
-        ∙ ap
-        (λ x. map (field_site x c (own_fields ps (object t) k p r)) (own_fields ps (object t) k p r) ++ sites_of_classes (ps ++ qs) u k p (c + 1) rs)
-        here
-        ∙ ap (λ ss. class_sites t c (own_fields ps (object t) k p r) ++ ss) (class_front k p (c + 1) rs lt (omega (arith, le)))
+        grind (arith, here, map, own_front, class_front k p (c + 1) rs lt (omega (arith, le)))
 
     abbrev AreApart : List MemberSite → Type 0
     AreApart ss = (k : ℕ) → IfSome (slice_get ss k) (λ s. n ≤ s.spot.owner)

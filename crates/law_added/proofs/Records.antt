@@ -22,7 +22,7 @@ use Rattle.jc_resolve.specs.Numbering.{NumberedClass, NumberedMethod, is_placed,
 use Rattle.jc_resolve.specs.References.{class_named}
 use Rattle.jc_resolve.specs.WorldTypes.{class_or_object, type_class, type_of, cells_with, cells_of_type, arguments_before, result_after, signature_in}
 use Rattle.jc_resolve.specs.WorldTypes.{types_named, declared_signature}
-use Rattle.jc_resolve.specs.NamedClasses.{cells_by, cells_of_field, cells_of_fields, by_token, instance_fields, dispatch_entry, dispatch_table}
+use Rattle.jc_resolve.specs.NamedClasses.{cells_by, cells_of_field, cells_of_fields, by_token, dispatch_entry, dispatch_table}
 use Rattle.jc_resolve.specs.NamedClasses.{interface_named, implemented_interfaces, parent_named, named_interface, named_proper, named_class, named_classes}
 use Rattle.jc_resolve.specs.NamedMethods.{class_or_none, class_in_entry, caught_class, offset_in_info, handler_named, no_body, body_by}
 use Rattle.jc_resolve.specs.NamedMethods.{body_of}
@@ -117,8 +117,7 @@ module _ (ps qs : List PackageRecord) where
           let b = interfaces_front c.home c.record_of.interfaces lt in
           let p = table_front c.home c.record_of.public_base c.record_of.public lt in
           let v = table_front c.home c.record_of.package_base c.record_of.visible lt in
-          let o = own_front object c.home c.of_package.description (instance_fields c.of_package.description.items.classes c.record_of.offset) lt in
-          rw (a, b, p, v, o) refl
+          grind (arith, a, b, p, v, own_front)
 
   -- the classes that are added
   unfoldable pub added_classes : ℕ → List NamedClass

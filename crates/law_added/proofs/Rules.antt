@@ -620,8 +620,7 @@ module _ (v w : Linked) (b : IsBegun v w) where
     carried op e =
         let here = sym (get_or-map (λ row. resolved v m place i row) table i.op unused) in
         let there = sym (get_or-map (λ row. resolved w m place i row) table i.op unused) in
-        let x = at_op (results v) (results w) i.op (resolved v m place i unused) carried_all plain_unused op (sym here ∙ e) in
-        (there ∙ ap (λ d. get_or (results w) i.op d) (sym unused-same) ∙ x.0, x.1)
+        grind (arith, at_op, carried_all, plain_unused, get_or, unused-same)
 
   -- ---- the rule
 

@@ -1,6 +1,6 @@
 -- Static fields, initial arrays and target indexes of the packages before stay when packages are added after them.
 use Rattle.std.proofs.Common.{◌≡◌, ◌<◌, ◌≤◌, ◌+◌, ℕ, zero, suc, List, [], ◌∷◌, ◌++◌, length, map, slice_get, Bool, false, cond}
-use Rattle.std.proofs.Common.{Option, Some, None, IfSome, refl, sym, ap, subst, ◌∙◌, arith, append_assoc}
+use Rattle.std.proofs.Common.{Option, Some, None, IfSome, refl, ap, subst, ◌∙◌, arith, append_assoc}
 use Rattle.std.specs.Prelude.{◌==◌, ◌&&◌, count_by, flat_map}
 use Rattle.std.proofs.lemmas.List.{map-append}
 use Rattle.std.proofs.lemmas.List.Sums.{sum_by-append, sum_by-cons}
@@ -46,27 +46,13 @@ homes_until : (home first : ℕ) (ps : List PackageRecord) (k : ℕ) → IfSome 
 homes_until home first [] k = tt
 homes_until home first (p ∷ ps) k =
     let here : home < home + suc (length ps) = omega arith in
-    let e : home + 1 + length ps ≡ home + suc (length ps) = omega arith in
-    each_both (λ (s : StaticSite). s.home < home + suc (length ps)) (map (site home first p.statics) (static_places p))
-    (sites_after (home + 1) (first + length p.statics.arrays) ps)
-    (each_mapped (λ (s : StaticSite). s.home < home + suc (length ps)) (site home first p.statics) (static_places p)
-    (every (λ x. home < home + suc (length ps)) (λ x. here) (static_places p)))
-    (subst (λ m. (k : ℕ) → IfSome (slice_get (sites_after (home + 1) (first + length p.statics.arrays) ps) k) (λ s. s.home < m)) e
-    (homes_until (home + 1) (first + length p.statics.arrays) ps)) k
+    grind (arith, here, length, suc, each_both, map, each_mapped, every, slice_get, homes_until (home + 1) (first + length p.statics.arrays) ps)
 
 sites_then : (home first : ℕ) (ps qs : List PackageRecord) → AreSitesThen home first ps qs
 sites_then home first [] qs = grind (arith, homes_after)
 sites_then home first (p ∷ ps) qs =
     let own = map (site home first p.statics) (static_places p) in
-    let rest = sites_then (home + 1) (first + length p.statics.arrays) ps qs in
-    let e : home + 1 + length ps ≡ home + suc (length ps) = omega arith in
-    record {
-      later = rest.later;
-      split =
-          ap (λ ss. own ++ ss) rest.split
-          ∙ sym (append_assoc own (sites_after (home + 1) (first + length p.statics.arrays) ps) rest.later);
-      homes = subst (λ m. (k : ℕ) → IfSome (slice_get rest.later k) (λ s. m ≤ s.home)) e rest.homes;
-    }
+    grind (arith, own, length, suc, append_assoc, slice_get, sites_then (home + 1) (first + length p.statics.arrays) ps qs)
 
 record AreRecordsThen (told : ℕ → TypeItem → Ty) (slot : ℕ) (ss later : List StaticSite) : Type 0 where
   at : ℕ
@@ -122,8 +108,7 @@ count_none k (m ∷ ms) h =
     let apart : (m.«package» == k) ≡ false = grind (arith, h 0) in
     let none : is_coded k m ≡ false = ap (λ b. b && has_code m) apart in
     let rest = count_none k ms (λ i. h (suc i)) in
-    let sum = sum_by-cons (λ x. cond (is_coded k x) 1 0) m ms ∙ ap (λ b. cond b 1 0 + count_by (is_coded k) ms) none in
-    omega (arith, sum, rest)
+    grind (arith, none, rest, sum_by-cons, cond)
 
 module _ (ps qs : List PackageRecord) (ms added : List MethodRec)
     (own : (i : ℕ) → IfSome (slice_get ms i) (λ m. m.«package» < length ps)) (later : (i : ℕ) → IfSome (slice_get added i) (λ m. length ps ≤ m.«package»))

@@ -1,9 +1,9 @@
 -- Methods of a world are methods of the one with more packages, with their code.
 use Rattle.std.proofs.Common.{◌≡◌, ◌<◌, ℕ, zero, suc, List, [], ◌∷◌, ◌++◌, length, take, drop, refl}
-use Rattle.std.proofs.Common.{sym, ap, subst, ◌∙◌, arith}
+use Rattle.std.proofs.Common.{arith}
 use Rattle.std.proofs.lemmas.List.{length-take, length-drop}
 use Rattle.jc_base.specs.Linked.{list_at}
-use Rattle.jc_base.specs.World.{Linked, code_of}
+use Rattle.jc_base.specs.World.{Linked}
 use Rattle.jc_control.specs.Method.{Method, IsMethodOf}
 use Rattle.card_typing.specs.Typing.{code_in_bytes}
 use Rattle.card_typing.specs.Place.{IsTarget}
@@ -25,15 +25,7 @@ there_too (x ∷ xs) ys (suc k) n len some = there_too xs ys k n len some
 pub method_up : (v w : Linked) → IsBegun v w → Begins v.infos w.infos → (m : Method) → IsMethodOf v m → IsMethodOf w m
 method_up v w b infos m is =
     let split = begun_list v.infos w.infos infos in
-    let some : 0 < length (code_of v.infos m.rec) = subst (λ c. 0 < length c) is.code is.filled in
-    let same : list_at w.infos m.rec.«package» ≡ list_at v.infos m.rec.«package» =
-    ap (λ xs. list_at xs m.rec.«package») split
-    ∙ there_too v.infos (drop (length v.infos) w.infos) m.rec.«package» m.rec.code_at m.rec.code_len some in
-    record {
-      rec = method_there v w b m.number m.rec is.rec;
-      code = is.code ∙ ap (λ bytes. take m.rec.code_len (drop m.rec.code_at bytes)) (sym same);
-      filled = is.filled;
-    }
+    grind (arith, split, length, there_too, drop, method_there, take)
 
 pub typings-stay : TypingsStay
 typings-stay ps qs roles v w some agreed small large =

@@ -97,12 +97,7 @@ module _ (ps qs : List PackageRecord) (roles : List ℕ) (none : AllEmpty (condi
   pools_from k [] e = grind (arith, length)
   pools_from k (p ∷ rest) e =
       let lt : k < length ps = omega (arith, e) in
-      let here : filter_map (member_of (ps ++ qs) u (statics_of (ps ++ qs) roles) k) p.pool ≡ filter_map (member_of ps t (statics_of ps roles) k) p.pool =
-      named_alike (member_of (ps ++ qs) u (statics_of (ps ++ qs) roles) k) (member_of ps t (statics_of ps roles) k) p.pool
-      (λ x. ap (λ fs. member_of (ps ++ qs) u fs k x) statics_begin
-      ∙ member_front ps qs t u grown (statics_of ps roles) fields.added fields.later k x lt) in
-      ap (λ ms. ms ∷ pools_after (member_of (ps ++ qs) u (statics_of (ps ++ qs) roles)) (k + 1) (rest ++ qs)) here
-      ∙ ap (λ ms. filter_map (member_of ps t (statics_of ps roles) k) p.pool ∷ ms) (pools_from (k + 1) rest (omega (arith, e)))
+      grind (arith, lt, named_alike, statics_begin, member_front, grown, pools_from (k + 1) rest (omega (arith, e)))
 
   pools_begin : pools (ps ++ qs) u (statics_of (ps ++ qs) roles) ≡ pools ps t (statics_of ps roles) ++ added_pools
   pools_begin = pools_from 0 ps (omega arith)
