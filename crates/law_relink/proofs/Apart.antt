@@ -32,9 +32,7 @@ pub after_split : (k n : ℕ) (ps : List PackageRecord) (q : PackageRecord) → 
 after_split k n [] q e = grind (arith, append-nil)
 after_split k n (x ∷ ps) q e =
     let z : n ≡ k + 1 + length ps = omega (arith, e) in
-    let own = methods_of_classes k x 0 x.description.items.classes in
-    ap (λ ms. own ++ ms) (after_split (k + 1) n ps q z)
-    ∙ sym (append_assoc own (methods_after (k + 1) ps) (methods_of_classes n q 0 q.description.items.classes))
+    grind (arith, z, append_assoc, after_split (k + 1) n ps q z)
 
 abbrev pub own_methods : List PackageRecord → PackageRecord → List NumberedMethod
 own_methods ps q = methods_of_classes (length ps) q 0 q.description.items.classes
@@ -128,10 +126,4 @@ module _ (parts new_parts : List Lent) (ps : List PackageRecord) (p q : PackageR
       ap (λ ms. map apart_from_code (map now ms)) (sym two.after)
       ∙ twins_apart k (twins_in p q laid) (known_twins parts new_parts p q laid s t r) may
       ∙ ap (λ ms. map apart_from_code (map old ms)) two.before in
-      ap (map apart_from_code) (named_split ps q roles)
-      ∙ map-append apart_from_code (map now (numbered_methods ps)) (map now (own_methods ps q))
-      ∙ ap (λ ms. map apart_from_code ms ++ map apart_from_code (map now (own_methods ps q)))
-      (map_same now old (numbered_methods ps) (named_method_same ps p q laid r roles))
-      ∙ ap (λ ms. map apart_from_code (map old (numbered_methods ps)) ++ ms) own
-      ∙ sym (map-append apart_from_code (map old (numbered_methods ps)) (map old (own_methods ps p)))
-      ∙ sym (ap (map apart_from_code) (named_split ps p roles))
+      grind (arith, own, map, named_split, map-append, map_same, named_method_same)

@@ -16,8 +16,6 @@ use Rattle.cap_package.specs.Descriptions.{Description, field_type}
 use Rattle.cap_package.specs.NameChecks.{is_method_at, no_entry_fault, no_method_fault, table_entries}
 use Rattle.cap_package.specs.StandsFor.{StandsFor}
 use Rattle.cap_package.proofs.StaticsKnown.{both_empty}
-use Rattle.cap_bytes.specs.Number.{number_at}
-use Rattle.cap_components.specs.MethodPlaces.{size_by, code_end}
 use Rattle.cap_renewal.specs.ClassEdits.{renewed_class}
 use Rattle.jc_decode.specs.declared.symbols.Laid.{Laid}
 use Rattle.jc_resolve.specs.Numbering.{numbered_class, method_at}
@@ -157,11 +155,7 @@ last_entry parts ps p q laid o s r short e = by (o == 0xFFFF) refl
         subst (λ n. method_at (and_last ps q) (record { «package» = length ps; offset = now_at cs n })
         ≡ method_at (and_last ps p) (record { «package» = length ps; offset = n })) at
         (last_method parts ps p q laid d.0 s r d.1) in
-        ap (λ b. if b then None else method_at (and_last ps q) (record { «package» = length ps; offset = now_at cs o }))
-        (not_last (now_at cs o) (low_by (now_at cs o) d.0.now.method_offset
-        (size_by (number_at 1 d.0.now.method_offset q.methods.info)) d.0.now.bytecode_count (code_end q.methods.info d.0.now)
-        (length q.methods.info) to size some ends short)) ∙ m
-        ∙ sym (ap (λ b. if b then None else method_at (and_last ps p) (record { «package» = length ps; offset = o })) h)
+        grind (arith, d, ends, size, some, to, m, length, not_last, low_by)
 
 last_entries : (parts : List Lent) (ps : List PackageRecord) (p q : PackageRecord) (laid : List (Option Laid)) (os : List ℕ)
     → StandsFor parts p → IsRewritten p laid q → length q.methods.info ≤ 65535

@@ -13,7 +13,7 @@ use Rattle.jc_decode.specs.declared.symbols.Laid.{Laid}
 use Rattle.jc_resolve.specs.declared.fault.LinkFault.{LinkFault}
 use Rattle.jc_resolve.specs.Numbering.{place_of_class, numbered_classes, numbered_methods, methods_after, methods_of_classes, methods_of_class}
 use Rattle.jc_resolve.specs.Conditions.{named_after, named_in, import_tokens, no_package_fault, references_of_class, references_of_record, reference_of_type}
-use Rattle.jc_resolve.specs.Conditions.{references_of_field_type, references_of_method, references_of_types, class_references, no_class_fault, conditions}
+use Rattle.jc_resolve.specs.Conditions.{references_of_field_type, references_of_method, class_references, no_class_fault, conditions}
 use Rattle.law_package.specs.Changes.{changes, now_at}
 use Rattle.law_package.specs.Rewritten.{bare_method, bare_class, HasSameDescription, IsRewritten}
 use Rattle.law_package.proofs.Bare.{alike, same_field, same_types_named}
@@ -51,8 +51,7 @@ many_methods : (ps : List PackageRecord) (p q : PackageRecord) (laid : List (Opt
 many_methods ps p q laid r =
     let a = (alike (names_interface p.classes) p.description.items.classes q.description.items.classes
     r.description.classes).methods in
-    many_methods_after 0 ps p q (sym (length-map (methods_of q.description.items.classes) bare_method) ∙ ap length a
-    ∙ length-map (methods_of p.description.items.classes) bare_method)
+    grind (arith, a, many_methods_after, length-map, length)
 
 -- ---- references
 
@@ -98,12 +97,7 @@ references_same p q laid r =
     ∙ flat_alike (references_of_method d) bare_method (references_of_method d) (methods_of e.items.classes) (λ m. refl)
     ∙ ap (flat_map (references_of_method d)) a.methods
     ∙ sym (flat_alike (references_of_method d) bare_method (references_of_method d) (methods_of d.items.classes) (λ m. refl)) in
-    ap (λ xs. xs ++ (flat_map references_of_record e.items.classes ++ references_of_types e)) classes
-    ∙ ap (λ xs. flat_map references_of_class p.classes ++ (xs ++ references_of_types e)) records
-    ∙ ap (λ xs. flat_map references_of_class p.classes ++ (flat_map references_of_record
-    d.items.classes ++ (xs ++ flat_map (references_of_method e) (methods_of e.items.classes)))) fields
-    ∙ ap (λ xs. flat_map references_of_class p.classes ++ (flat_map references_of_record
-    d.items.classes ++ (flat_map (references_of_field_type d) (fields_of d.items.classes) ++ xs))) methods
+    grind (arith, classes, records, fields, methods, flat_map)
 
 -- ---- the conditions
 
@@ -135,9 +129,4 @@ conditions_same ps p q laid r =
     (ap (λ is. range_with_len 0 (length is)) r.imports))
     ∙ faults_same (no_package_fault (and_last ps q)) (no_package_fault (and_last ps p)) (named_in import_tokens (and_last ps p))
     (λ x. no_package_same ps p q laid x r) in
-    let references : filter_map (no_class_fault (and_last ps q)) (named_in class_references (and_last ps q))
-    ≡ filter_map (no_class_fault (and_last ps p)) (named_in class_references (and_last ps p)) =
-    ap (filter_map (no_class_fault (and_last ps q))) (named_last class_references 0 ps p q (references_same p q laid r))
-    ∙ faults_same (no_class_fault (and_last ps q)) (no_class_fault (and_last ps p)) (named_in class_references (and_last ps p))
-    (λ x. no_class_same ps p q laid x r) in
-    rw (length_last ps p q, many_classes ps p q laid r, many_methods ps p q laid r, imports, references) refl
+    grind (arith, imports, filter_map, named_last, references_same, faults_same, no_class_same, length_last, many_classes, many_methods)

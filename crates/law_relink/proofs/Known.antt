@@ -51,13 +51,7 @@ all_known parts new_parts p q laid s t r =
     (wells new_parts q (agrees new_parts q t.agree))) in
     let bare = old_each p q laid (λ m. abstract_fault p.methods.info m ≡ None) r
     (none_each (abstract_fault p.methods.info) (described_methods p) a.bare) in
-    each_of (IsKnown p q cs) cs (λ c h. record {
-      has = h;
-      written = each_at (IsMethodWritten p q cs) cs c written h;
-      was = each_at (λ (x : Change). WasWell p x.source.method) cs c was h;
-      well = each_at (λ (x : Change). WasWell q x.now) cs c well h;
-      abstract = each_at (λ (x : Change). abstract_fault p.methods.info x.source.method ≡ None) cs c bare h;
-    })
+    grind (arith, written, was, well, bare, each_of, each_at)
 
 changes_are : (p q : PackageRecord) (laid : List (Option Laid)) → IsRewritten p laid q
     → changes p laid q ≡ changes_of (sources p laid) (methods_but (names_interface p.classes) q.description.items.classes)

@@ -27,7 +27,6 @@ use Rattle.jc_link.specs.Arrays.{array_records}
 use Rattle.jc_link.specs.Room.{statics_fault, arrays_fault}
 use Rattle.jc_link.specs.Catches.{bad_catches}
 use Rattle.jc_link.specs.Pools.{pools, missing_members}
-use Rattle.jc_link.specs.Roles.{abstract_roles}
 use Rattle.cap_index.specs.Indexes.{indexes_of}
 use Rattle.jc_link.specs.World.{classes_of, table_of, methods_of, statics_of, first_classes, table_conditions, member_conditions, IsLinked}
 use Rattle.law_package.specs.Changes.{changes, now_at}
@@ -77,8 +76,7 @@ one_split n (x ∷ xs) ys [] vs e a b c d = grind (arith)
 one_split n (x ∷ xs) ys (u ∷ us) vs e a b c d =
     let s : x ≡ u = cc in
     let t : xs ++ ys ≡ us ++ vs = cc in
-    let r = one_split n xs ys us vs t a.1 b c.1 d in
-    (ap (λ z. z ∷ us) (sym s) ∙ ap (λ zs. x ∷ zs) r.0, r.1)
+    grind (arith, s, t, one_split n xs ys us vs t a.1 b c.1 d)
 
 pub record ArePartsOf (ps : List PackageRecord) (p : PackageRecord) (roles : List ℕ) (before own : List MethodRec) : Type 0 where
   pub before_is : before ≡ map (named_method (and_last ps p) roles) (numbered_methods ps)
@@ -120,9 +118,7 @@ may_twins ps p q laid roles w before own r l parted may =
     let two = are_twins (names_interface p.classes) (length ps) p q 0 p.description.items.classes q.description.items.classes laid
     r.description.classes r.each in
     let is = (are_parts ps p roles w before own l parted).own_is ∙ ap (map (named_method (and_last ps p) roles)) (sym two.before) in
-    may_each (and_last ps p) roles (length ps) p (twins_in p q laid)
-    (subst (λ ls. EachMayReplace (map (named_method (and_last ps p) roles) (map (before_in (length ps) p) (twins_in p q laid))) ls)
-    (sym two.laid_is) (subst (λ ms. EachMayReplace ms laid) is may))
+    grind (arith, two, is, may_each, length, map)
 
 -- ---- the conditions
 
@@ -189,12 +185,7 @@ module _ (parts new_parts : List Lent) (ps : List PackageRecord) (p q : PackageR
   member_conditions_pass apart may (cells, (members, (catches, (arrays, (abstract, done))))) =
       let missing = none_missing parts ps p q laid s r short (table_of old roles) (statics_of old roles) members in
       let bad = none_bad ps p q laid r (table_of old roles) parts s (all_catch catches may) catches in
-      let no_missing = ap (λ x. missing_members now x (statics_of now roles)) table_same
-      ∙ ap (missing_members now (table_of old roles)) fields_same ∙ missing in
-      let no_abstract = ap (λ x. abstract_roles x (methods_of now roles)) table_same
-      ∙ abstract_roles_same (table_of old roles) (methods_of now roles) (methods_of old roles) apart ∙ abstract in
-      let no_bad = ap (bad_catches now) table_same ∙ bad in
-      (ap option_to_list statics_room ∙ cells, (no_missing, (no_bad, (ap option_to_list arrays_room ∙ arrays, (no_abstract, tt)))))
+      grind (arith, missing, bad, table_same, fields_same, abstract_roles_same, option_to_list, statics_room, arrays_room)
 
   pub links : (w : Linked) → IsLinked old roles w → Each (MayBeLaid old roles (length ps) p) (twins_in p q laid)
       → LinksAgain ps q roles w

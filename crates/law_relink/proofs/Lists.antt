@@ -1,6 +1,6 @@
 -- Lists that are the same seen by a view.
-use Rattle.std.proofs.Common.{◌≡◌, ◌<◌, ◌+◌, ℕ, zero, suc, List, [], ◌∷◌, ◌++◌, length, take, drop, map, flat_map, slice_get, get_or}
-use Rattle.std.proofs.Common.{position, Bool, true, cond, not, Option, Some, ◌⊎◌, inl, inr, option_and_then, refl, ap, ◌∙◌, arith}
+use Rattle.std.proofs.Common.{◌≡◌, ◌<◌, ℕ, zero, suc, List, [], ◌∷◌, ◌++◌, length, take, drop, map, flat_map, slice_get, get_or}
+use Rattle.std.proofs.Common.{position, Bool, true, cond, not, Option, Some, ◌⊎◌, inl, inr, option_and_then, refl, ap, arith}
 use Rattle.std.specs.List.{position_or_len}
 use Rattle.std.proofs.lemmas.List.Quantifiers.{position-Some}
 use Rattle.law_package.proofs.Lists.{Each, Has}
@@ -34,8 +34,7 @@ first_alike p q (x ∷ xs) [] e = absurd cc
 first_alike p q (x ∷ xs) (y ∷ ys) e =
     let h : p x ≡ q y = cc in
     let t : map p xs ≡ map q ys = cc in
-    let r = first_alike p q xs ys t in
-    (ap (λ b. cond (not b) (1 + position_or_len p xs) 0) h ∙ ap (λ n. cond (not (q y)) (1 + n) 0) r.0, ap suc r.1)
+    grind (arith, h, t, cond, not, suc, first_alike p q xs ys t)
 
 pub position_alike : {X Y : Type 0} (p : X → Bool) (q : Y → Bool) (xs : List X) (ys : List Y) → map p xs ≡ map q ys
     → position p xs ≡ position q ys

@@ -71,8 +71,7 @@ both_parts (x ∷ xs) [] us vs l e = absurd (omega arith)
 both_parts (x ∷ xs) (y ∷ ys) us vs l e =
     let h : x ≡ y = cc in
     let t : xs ++ us ≡ ys ++ vs = cc in
-    let r = both_parts xs ys us vs (omega arith) t in
-    (rw (h, r.0) refl, r.1)
+    grind (arith, h, t, both_parts xs ys us vs (omega arith) t)
 
 abbrev tested : (ℕ → Bool) → MethodDescriptor → Bool
 tested test m = test m.method_offset
@@ -96,10 +95,7 @@ flags_by now was set c d cs ds false e r s h others =
     let l : length (map (tested now) d.methods) ≡ length (map (tested was) c.methods) =
     length-map d.methods (tested now) ∙ sym (length-map d.methods bare_method) ∙ ap length same ∙ length-map c.methods bare_method
     ∙ sym (length-map c.methods (tested was)) in
-    let parts = both_parts (map (tested now) d.methods) (map (tested was) c.methods) (map (tested now) (methods_but set ds))
-    (map (tested was) (methods_but set cs)) l
-    (sym (map-append (tested now) d.methods (methods_but set ds)) ∙ h ∙ map-append (tested was) c.methods (methods_but set cs)) in
-    ap (λ bs. bs ++ flagged now set ds) parts.0 ∙ ap (λ bs. map (tested was) c.methods ++ bs) (others parts.1)
+    grind (arith, l, both_parts, map, map-append)
 
 flags_alike : (now was : ℕ → Bool) (set : ℕ → Bool) (cs ds : List ClassDescriptor) → map (bare_class set) ds ≡ map (bare_class set) cs
     → map (tested now) (methods_but set ds) ≡ map (tested was) (methods_but set cs) → flagged now set ds ≡ flagged was set cs
@@ -147,8 +143,7 @@ find_has [] c h d = absurd h
 find_has (x ∷ cs) c (inl s) d = grind (arith, cond, find, eq-eqb)
 find_has (x ∷ cs) c (inr h) d =
     let ne = each_at (λ (y : Change). offset_of y ≡ offset_of x → ⊥) cs c d.0 h in
-    ap (λ b. cond b (Some x) (find (stood_at (offset_of c)) cs)) (ne_eqb (offset_of x) (offset_of c) (λ s. ne (sym s)))
-    ∙ find_has cs c h d.1
+    grind (arith, ne, cond, find, ne_eqb, find_has cs c h d.1)
 
 pub now_has : (cs : List Change) (c : Change) → Has cs c → Distinct offset_of cs → now_at cs (offset_of c) ≡ c.now.method_offset
 unfolding now_at

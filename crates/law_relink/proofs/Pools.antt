@@ -2,7 +2,6 @@
 use Rattle.std.proofs.Common.{◌≡◌, ◌≤◌, ◌<◌, ◌+◌, ℕ, List, [], ◌∷◌, ◌++◌, length, map, filter_map, Option, Some, None}
 use Rattle.std.proofs.Common.{refl, sym, ap, subst, ◌∙◌, arith}
 use Rattle.std.specs.Prelude.{if◌then◌else◌, is_none}
-use Rattle.std.specs.List.{cons_option}
 use Rattle.cap_pool.specs.PoolFormat.{Entry}
 use Rattle.cap_package.specs.PackageRecord.{PackageRecord}
 use Rattle.cap_package.specs.Parts.{Lent}
@@ -67,13 +66,7 @@ module _ (parts : List Lent) (ps : List PackageRecord) (p q : PackageRecord) (la
       let k = length ps in
       let m = named_some (member_of old t statics k e) k n none.0 in
       let same = renewed_member parts ps p q laid s r short t statics e m.0 m.1 in
-      let rest = last_pool (n + 1) es none.1 in
-      record {
-        none = ap (λ o. cons_option o (filter_map (member_fault now t statics) (places_from k (n + 1) (map (renewed_entry to) es))))
-            (is_there (member_of now t statics k (renewed_entry to e)) k n m.0 (same ∙ m.1)) ∙ rest.none;
-        members = ap (λ o. cons_option o (filter_map (member_of now t statics k) (map (renewed_entry to) es))) same
-            ∙ ap (cons_option (member_of old t statics k e)) rest.members;
-      }
+      grind (arith, k, m, same, filter_map, map, is_there, last_pool (n + 1) es none.1)
 
   -- ---- all packages
 
@@ -105,14 +98,7 @@ module _ (parts : List Lent) (ps : List PackageRecord) (p q : PackageRecord) (la
       let both = both_empty (filter_map fault own) (filter_map fault (places_after (k + 1) (and_last xs p)))
       (sym (filter_map-append fault own (places_after (k + 1) (and_last xs p))) ∙ none) in
       let rest = all_pools (k + 1) xs (omega (arith, e)) both.1 in
-      record {
-        none = filter_map-append (member_fault now t statics) own (places_after (k + 1) (and_last xs q))
-            ∙ append_none (filter_map (member_fault now t statics) own)
-            (filter_map (member_fault now t statics) (places_after (k + 1) (and_last xs q))) (earlier_faults k 0 x.pool lt ∙ both.0)
-            rest.none;
-        members = ap (λ ms. ms ∷ pools_after (member_of now t statics) (k + 1) (and_last xs q)) (earlier_pool k x.pool lt)
-            ∙ ap (λ mss. filter_map (member_of old t statics k) x.pool ∷ mss) rest.members;
-      }
+      grind (arith, lt, both, rest, filter_map-append, append_none, filter_map, earlier_faults, earlier_pool)
 
   -- no entry lacks its member where none did
   pub none_missing : missing_members old t statics ≡ [] → missing_members now t statics ≡ []

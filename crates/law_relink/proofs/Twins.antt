@@ -119,20 +119,7 @@ are_twins set k p q i (c ∷ cs) (d ∷ ds) laid e f =
     let these = twins_of_class i c d 0 c.methods d.methods (take (length c.methods) laid) in
     let others = twins (i + 1) cs ds (drop (length c.methods) laid) in
     let rest = are_twins set k p q (i + 1) cs ds (drop (length c.methods) laid) t (many_left c cs laid f) in
-    record {
-      before = map-append (before_in k p) these others
-          ∙ ap (λ xs. xs ++ map (before_in k p) others) (before_class k p q i c d 0 c.methods d.methods
-          (take (length c.methods) laid) many taken)
-          ∙ ap (λ xs. methods_of_class k p i c 0 c.methods ++ xs) rest.before;
-      after = map-append (after_in k q) these others
-          ∙ ap (λ xs. xs ++ map (after_in k q) others) (after_class k p q i c d 0 c.methods d.methods (take (length c.methods) laid)
-          many taken)
-          ∙ ap (λ xs. methods_of_class k q i d 0 d.methods ++ xs) rest.after;
-      laid_is = map-append laid_in these others
-          ∙ ap (λ xs. xs ++ map laid_in others) (laid_class i c d 0 c.methods d.methods (take (length c.methods) laid) many taken)
-          ∙ ap (λ xs. take (length c.methods) laid ++ xs) rest.laid_is
-          ∙ take-append-drop (length c.methods) laid;
-    }
+    grind (arith, many, taken, rest, map-append, map, before_class, take, length, after_class, laid_class, take-append-drop)
 
 -- ---- each twin of a class is one of the changes
 
@@ -163,8 +150,7 @@ told_class P n i c d j (m ∷ ms) [] ls rest lrest nrest e f h = absurd (omega a
 told_class P n i c d j (m ∷ ms) (o ∷ ns) [] rest lrest nrest e f h = absurd (omega arith)
 told_class P n i c d j (m ∷ ms) (o ∷ ns) (l ∷ ls) rest lrest nrest e f h =
     let r = told_class P (n + 1) i c d (j + 1) ms ns ls rest lrest nrest (omega arith) (omega arith) h.1 in
-    let z : n + 1 + length ms ≡ n + suc (length ms) = omega arith in
-    (((n, h.0), r.0), subst (λ k. Each P (changes_of (sources_from k rest lrest) nrest)) z r.1)
+    grind (arith, r, length, suc)
 
 is_class : (set : ℕ → Bool) (P : Change → Type 0) (i : ℕ) (c d : ClassDescriptor) (j : ℕ) (ms ns : List MethodDescriptor) (ls : List (Option Laid))
     → d.class_ref ≡ c.class_ref → map bare_method ns ≡ map bare_method ms
