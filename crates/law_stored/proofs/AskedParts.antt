@@ -33,10 +33,6 @@ said_short : {X : Type 0} (parts : List Lent) (tag : ℕ) (g : Grammar X) (info 
     → IsShort parts tag
 said_short parts tag g info items h = framed_short parts tag h.file info h.there h.framed
 
-sized_short : (parts : List Lent) (tag size : ℕ) (file : Option (List ℕ)) → held parts tag ≡ file → IsSizeOf tag size file → (size ≡ 0 → ⊥)
-    → IsShort parts tag
-sized_short parts tag size x e h some = grind (arith, framed_short)
-
 -- ---- tags
 
 required_least : (tag : ℕ) → is_required tag ≡ true → 1 ≤ tag
@@ -127,7 +123,7 @@ module _ (p : PackageRecord) (s : StandsFor p.parts p) where
       by (Some size) f h = (size, f, λ z. true≢false (sym (subst (λ n. not (n == 0) ≡ true) z h)))
 
   sized_there : (tag : ℕ) → is_optional tag ≡ true → is_sized (Ok p.directory) tag ≡ true → IsShort p.parts tag
-  sized_there tag o e = grind (arith, some_size, sized_short, optional_tells)
+  sized_there tag o e = grind (arith, some_size, optional_tells, framed_short)
 
   pub asked_short : (tag : ℕ) → is_asked p.parts tag ≡ true → IsShort p.parts tag
   asked_short tag e =

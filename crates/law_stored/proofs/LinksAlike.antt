@@ -43,7 +43,7 @@ use Rattle.jc_link.specs.Pools.{places_from, places_after, member_fault, missing
 use Rattle.jc_link.specs.Roles.{abstract_roles}
 use Rattle.jc_link.specs.Room.{statics_fault, arrays_fault}
 use Rattle.jc_link.specs.Statics as statics
-use Rattle.jc_link.specs.World.{classes_of, table_of, methods_of, statics_of, first_classes, table_conditions, member_conditions}
+use Rattle.jc_link.specs.World.{classes_of, table_of, methods_of, statics_of, table_conditions, member_conditions}
 use Rattle.jc_link.specs.World.{conditions, IsLinked}
 use Rattle.law_stored.proofs.NamesAlike.{bare, all_bare, method_at_bare, met_bare, exported_field_bare, exported_method_bare}
 use Rattle.law_stored.proofs.NamesAlike.{referred_bare, type_bare, named_classes_bare, named_methods_bare, names_bare}
@@ -66,9 +66,6 @@ places_bare k (p ∷ ps) = λ i. places_from k 0 p.pool ++ places_bare (k + 1) p
 pools_carried : (named : ℕ → Entry → Option Member) (k : ℕ) (ps : List PackageRecord) → pools_after named k (all_bare ps) ≡ pools_after named k ps
 pools_carried named k [] = refl
 pools_carried named k (p ∷ ps) = λ i. filter_map (named k) p.pool ∷ pools_carried named (k + 1) ps i
-
-first_bare : (ps : List PackageRecord) → first_classes (all_bare ps) ≡ first_classes ps
-first_bare x = grind (arith)
 
 pub infos_bare : (ps : List PackageRecord) → infos_of (all_bare ps) ≡ infos_of ps
 infos_bare ps = map-map (λ (p : PackageRecord). p.methods.info) bare ps
@@ -195,7 +192,7 @@ module _ (ps : List PackageRecord) where
   arrays_room = grind (arith, length, arrays_bare)
 
   table_conditions_bare : (roles : List ℕ) → table_conditions now roles ≡ table_conditions ps roles
-  table_conditions_bare roles = grind (arith, names_bare, classes_are, first_bare, methods_are)
+  table_conditions_bare roles = grind (arith, names_bare, classes_are, methods_are)
 
   member_conditions_bare : (roles : List ℕ) → member_conditions now roles ≡ member_conditions ps roles
   member_conditions_bare roles =

@@ -32,7 +32,7 @@ use Rattle.jc_resolve.specs.NamedClasses.{implemented_interfaces, parent_named, 
 use Rattle.jc_resolve.specs.NamedMethods.{class_or_none, class_in_entry, caught_class, handler_named, body_after, body_by, body_of}
 use Rattle.jc_resolve.specs.NamedMethods.{class_described, is_class, have_headers, method_as, named_method, named_methods}
 use Rattle.jc_resolve.specs.Numbering.{NumberedClass, numbered_class, numbered_classes_of, classes_after, numbered_classes, place_of_class, class_places}
-use Rattle.jc_resolve.specs.Numbering.{class_at, same_place, flagged_interface, is_interface_number, NumberedMethod, numbered_method, methods_of_class}
+use Rattle.jc_resolve.specs.Numbering.{class_at, same_place, is_interface_number, NumberedMethod, numbered_method, methods_of_class}
 use Rattle.jc_resolve.specs.Numbering.{methods_of_classes, methods_after, numbered_methods, place_of_method, method_places, is_at, method_at, is_placed}
 use Rattle.jc_resolve.specs.References.{meets_import, met_by, exported_class, exported_field, exported_method}
 use Rattle.jc_resolve.specs.References.{exported_place, place_referred, class_referred, class_named}
@@ -99,9 +99,6 @@ references_bare : (p : PackageRecord) → class_references (bare p) ≡ class_re
 unfolding class_references
 references_bare p = refl
 
-flag_bare : (o : Option NumberedClass) → flagged_interface (option_map bare_class o) ≡ flagged_interface o
-flag_bare x = grind (arith)
-
 module _ (ps : List PackageRecord) where
   abbrev pub now : List PackageRecord
   now = all_bare ps
@@ -124,7 +121,7 @@ module _ (ps : List PackageRecord) where
 
   interface_number_bare : (c : ℕ) → is_interface_number now c ≡ is_interface_number ps c
   unfolding is_interface_number
-  interface_number_bare c = grind (arith, slice_get, classes_bare, slice_get-map, flag_bare)
+  interface_number_bare c = grind (arith, slice_get, classes_bare, slice_get-map)
 
   -- ---- imports and exports
 
