@@ -23,7 +23,9 @@ use Rattle.std.proofs.lemmas.Grind.{flat_map-append}
 -- ---- initial arrays
 
 pub arrays_begin : (ps qs : List PackageRecord) → array_records (ps ++ qs) ≡ array_records ps ++ array_records qs
-arrays_begin ps qs = ap (map array_record) (flat_map-append initial_arrays ps qs) ∙ map-append array_record (flat_map initial_arrays ps) (flat_map initial_arrays qs)
+arrays_begin ps qs =
+    ap (map array_record) (flat_map-append initial_arrays ps qs)
+    ∙ map-append array_record (flat_map initial_arrays ps) (flat_map initial_arrays qs)
 
 -- ---- static fields
 

@@ -135,7 +135,8 @@ module _ (v w : Linked) (typings : Typings) (laws : AreLaws v) (pair : AreCounte
 
     full-alike : (z u : State Cell) → u.heap ≡ z.heap → u.statics ≡ z.statics
         → Alike (ends (endings.Plain HeapFull) z) (ends (endings.Plain HeapFull) u)
-    full-alike = λ z u heap statics safe. settled-now v w typings (ends (endings.Plain HeapFull) z) (ends (endings.Plain HeapFull) u) (both_end (endings.Plain HeapFull) heap statics)
+    full-alike = λ z u heap statics safe.
+        settled-now v w typings (ends (endings.Plain HeapFull) z) (ends (endings.Plain HeapFull) u) (both_end (endings.Plain HeapFull) heap statics)
 
     pub throws-settle :
         (handle : ℕ) (z u : State Cell) → z.frames ≡ f ∷ fs → u.frames ≡ g ∷ gs → u.heap ≡ z.heap → u.statics ≡ z.statics

@@ -39,14 +39,16 @@ lay-requires-clause-size c =
 pub returns-in-Ok-clause-laid : goal.returns-in-Ok-clause-laid
 returns-in-Ok-clause-laid c =
     let w = c.args.world.now in let at = (goal.at.returns-in-Ok-clause-laid c).After-of-code in
-    to-method w c.args.number c.method-rec.result.now c.of-code.result.bytes.now c.method-rec.ensures.is (coded at) (λ (x : Method). IsSharedFor w x c.in-Ok.laid)
+    to-method w c.args.number c.method-rec.result.now c.of-code.result.bytes.now c.method-rec.ensures.is (coded at)
+    (λ (x : Method). IsSharedFor w x c.in-Ok.laid)
     (shared-for c.instructions_are_listed.ensures w (own at) c.args.sharing.now c.args.symbols.now (known at) c.in-Ok.laid c.in-Ok.ensures.shortest
     c.in-Ok.ensures.few)
 
 pub returns-in-Ok-clause-fits : goal.returns-in-Ok-clause-fits
 returns-in-Ok-clause-fits c =
     let w = c.args.world.now in let at = (goal.at.returns-in-Ok-clause-fits c).After-of-code in
-    to-method w c.args.number c.method-rec.result.now c.of-code.result.bytes.now c.method-rec.ensures.is (coded at) (λ (x : Method). FitsMethod x.rec c.in-Ok.laid)
+    to-method w c.args.number c.method-rec.result.now c.of-code.result.bytes.now c.method-rec.ensures.is (coded at)
+    (λ (x : Method). FitsMethod x.rec c.in-Ok.laid)
     (fits c.instructions_are_listed.ensures w (own at) c.args.sharing.now c.args.symbols.now (known at) c.classes-classes.ensures.links
     c.sharing_is_one.ensures.fewer c.in-Ok.laid c.in-Ok.ensures.shortest c.in-Ok.ensures.few)
 

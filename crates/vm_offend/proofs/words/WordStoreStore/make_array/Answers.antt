@@ -57,7 +57,8 @@ returns-clause-state c =
     let headers : headers_in H (n + 1) ≡ hs ++ h ∷ [] = ap (λ g. headers_in g (n + 1)) c.set_header.ensures
     ∙ new-headers s.heap.now ws n (length s.heap.now - 12288) h room.one laid.heap_length refl same c.requires.class in
     ap (λ cs. put (objects_in cs (headers_in H (n + 1)))) cells
-    ∙ (ap (λ gs. put (objects_in ws gs)) headers ∙ ap put (added xs ws news hs s.counts.cells h laid.laid (cells-enough s.heap.now s.counts known) written refl width))
+    ∙ (ap (λ gs. put (objects_in ws gs)) headers
+    ∙ ap put (added xs ws news hs s.counts.cells h laid.laid (cells-enough s.heap.now s.counts known) written refl width))
 
 pub returns-clause-well : goal.returns-clause-well
 returns-clause-well c =
@@ -77,7 +78,8 @@ returns-clause-well c =
     let follow : Follow 0 (hs ++ h ∷ []) (s.counts.cells + c.size.result) = subst (λ k. Follow 0 (hs ++ h ∷ []) (s.counts.cells + k)) size_is longer in
     record {
       ram_length = laid.ram_length;
-      heap_length = ap length c.set_header.ensures ∙ new-length s.heap.now ws n (length s.heap.now - 12288) h room.one laid.heap_length refl same c.requires.class;
+      heap_length = ap length c.set_header.ensures
+          ∙ new-length s.heap.now ws n (length s.heap.now - 12288) h room.one laid.heap_length refl same c.requires.class;
       some_frames = laid.some_frames;
       some_objects = omega (arith, room.one);
       some_cells = omega (arith, room.all, c.size.ensures);

@@ -60,7 +60,8 @@ returns-clause-state c =
     let headers : headers_in H (n + 1) ≡ hs ++ h ∷ [] = ap (λ g. headers_in g (n + 1)) c.set_header.ensures
     ∙ new-headers s.heap.now ws n (length s.heap.now - 12288) h room.one laid.heap_length refl same numbered in
     ap (λ cs. put (objects_in cs (headers_in H (n + 1)))) cells
-    ∙ (ap (λ gs. put (objects_in ws gs)) headers ∙ ap put (added xs ws news hs s.counts.cells h laid.laid (cells-enough s.heap.now s.counts known) written refl width))
+    ∙ (ap (λ gs. put (objects_in ws gs)) headers
+    ∙ ap put (added xs ws news hs s.counts.cells h laid.laid (cells-enough s.heap.now s.counts known) written refl width))
 
 pub returns-clause-well : goal.returns-clause-well
 returns-clause-well c =
