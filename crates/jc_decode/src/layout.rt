@@ -1,5 +1,5 @@
 ghost use Rattle.std.specs.Prelude.{◌≡◌, IsTrue};
-ghost use Rattle.jc_decode.specs.Layout.{layout_of, one, operand_width, total_width};
+ghost use Rattle.jc_decode.specs.Layout.{layout_of, one, opcode, operand_width, total_width};
 
 use self::Operand::{Absent, ArrayType, DupWords, SwapWords, TestedType};
 use crate::insn::CodeEnd;
@@ -77,13 +77,29 @@ impl Operand {
     }
 }
 
+impl Opcode {
+    /// What an opcode stands for (JCVM 2.2, section 7.5).
+    #[inline(always)]
+    #[tactic(auto, using(crate::proofs::Opcodes::unused, crate::proofs::Opcodes::reserved))]
+    fn of(op: u8) -> Opcode
+        ensures { result ≡ opcode op }
+    {
+        match op {
+            0..=184 => OPCODES[op as usize],
+            254..=255 => RESERVED,
+            _ => Opcode::Unused,
+        }
+    }
+}
+
 impl Layout {
     /// The operands of the instruction of this opcode.
     #[inline(always)]
+    #[tactic(auto, unfolding(crate::specs::Layout::layout_of))]
     pub fn of(op: u8) -> Result<Layout, CodeEnd>
         ensures { result ≡ layout_of op }
     {
-        match OPCODES[op as usize] {
+        match Opcode::of(op) {
             Opcode::Instruction(layout) => Ok(layout),
             Opcode::Reserved => Err(CodeEnd::OutOfScope(op)),
             Opcode::Unused => Err(CodeEnd::NoOpcode(op)),
@@ -113,8 +129,6 @@ impl Layout {
 }
 
 const RESERVED: Opcode = Opcode::Reserved;
-
-const UNUSED: Opcode = Opcode::Unused;
 
 pub(crate) const NO_OPERANDS: Layout = Layout {
     x: Absent,
@@ -218,8 +232,8 @@ const LOOKUP_INT: Opcode = Opcode::Instruction(Layout {
     cases: Cases::Pairs(Operand::S4),
 });
 
-/// What each opcode stands for.
-static OPCODES: [Opcode; 256] = [
+/// What each opcode up to the last instruction stands for.
+static OPCODES: [Opcode; 185] = [
     // 0: nop
     PLAIN,
     // 1: aconst_null
@@ -438,77 +452,4 @@ static OPCODES: [Opcode; 256] = [
     U1,
     U1,
     U1,
-    // 185: no instruction
-    UNUSED,
-    UNUSED,
-    UNUSED,
-    UNUSED,
-    UNUSED,
-    UNUSED,
-    UNUSED,
-    UNUSED,
-    UNUSED,
-    UNUSED,
-    UNUSED,
-    UNUSED,
-    UNUSED,
-    UNUSED,
-    UNUSED,
-    UNUSED,
-    UNUSED,
-    UNUSED,
-    UNUSED,
-    UNUSED,
-    UNUSED,
-    UNUSED,
-    UNUSED,
-    UNUSED,
-    UNUSED,
-    UNUSED,
-    UNUSED,
-    UNUSED,
-    UNUSED,
-    UNUSED,
-    UNUSED,
-    UNUSED,
-    UNUSED,
-    UNUSED,
-    UNUSED,
-    UNUSED,
-    UNUSED,
-    UNUSED,
-    UNUSED,
-    UNUSED,
-    UNUSED,
-    UNUSED,
-    UNUSED,
-    UNUSED,
-    UNUSED,
-    UNUSED,
-    UNUSED,
-    UNUSED,
-    UNUSED,
-    UNUSED,
-    UNUSED,
-    UNUSED,
-    UNUSED,
-    UNUSED,
-    UNUSED,
-    UNUSED,
-    UNUSED,
-    UNUSED,
-    UNUSED,
-    UNUSED,
-    UNUSED,
-    UNUSED,
-    UNUSED,
-    UNUSED,
-    UNUSED,
-    UNUSED,
-    UNUSED,
-    UNUSED,
-    UNUSED,
-    // 254: impdep1
-    RESERVED,
-    RESERVED,
 ];
