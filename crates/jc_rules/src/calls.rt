@@ -28,12 +28,6 @@ fn ready_with(taken: u8, given: Cells, found: Ty, want: Want) -> Change
     }
 }
 
-fn result_given(ty: Option<Ty>) -> Cells
-    ensures { result ≡ result_given ty }
-{
-    ty.map_or(Cells::Nothing, value_given)
-}
-
 impl Before<'_> {
     /// Checks that the arguments stand on the stack, the last on top.
     fn check_arguments(&self, args: &[Ty]) -> Result<(), RuleFault>
@@ -78,7 +72,7 @@ impl Before<'_> {
     {
         self.check_call(sig, receiver)?;
         let count = sig.args.len() as u8;
-        let given = result_given(sig.result);
+        let given = sig.result.map_or(Cells::Nothing, value_given);
         Ok(match receiver {
             None => Effect::replacing(count, given),
             Some(want) => Effect::on_stack(ready_with(count + 1, given, self.found(count), want)),

@@ -123,9 +123,8 @@ impl Before<'_> {
     fn splits(&self, n: u8) -> bool
         ensures { IsTrue result ↔ Splits (reverse self.now.stack.now) n }
     {
-        let above = self.cell(n.saturating_sub(1));
-        let below = self.cell(n);
-        is_low(above) && is_high(below)
+        matches!(self.cell(n.saturating_sub(1)), Some(Ty::IntLow))
+            && matches!(self.cell(n), Some(Ty::IntHigh))
     }
 
     /// The cell under `n` others.
@@ -225,18 +224,6 @@ fn is_wanted(classes: &Classes, want: Want, found: Option<Ty>) -> bool
     ensures { IsTrue result → IsSomeAnd found (Meets classes.now want) }
 {
     matches!(found, Some(found) if meets(classes, want, found))
-}
-
-fn is_low(found: Option<Ty>) -> bool
-    ensures { IsTrue result ↔ (found ≡ Some IntLow) }
-{
-    matches!(found, Some(Ty::IntLow))
-}
-
-fn is_high(found: Option<Ty>) -> bool
-    ensures { IsTrue result ↔ (found ≡ Some IntHigh) }
-{
-    matches!(found, Some(Ty::IntHigh))
 }
 
 fn is_array_or_null(found: Ty) -> bool

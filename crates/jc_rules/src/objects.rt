@@ -186,25 +186,7 @@ impl Before<'_> {
         }
     }
 
-    pub(crate) fn field_write(
-        &self,
-        holder: Holder,
-        class: u16,
-        ty: Ty,
-    ) -> Result<Effect, RuleFault>
-        requires frame { AreKnown self.now.world.now.classes (frame self.now) }
-        requires class { IsClass self.now.world.now.classes class }
-        requires ty { IsKnown self.now.world.now.classes ty }
-        ensures { IsJudged self.now.world.now.classes (frame self.now)
-            (field_write_demands holder class ty) (field_write_effect holder ty) result }
-    {
-        match holder {
-            Holder::Stack => self.object_write(class, ty),
-            Holder::This => self.this_write(class, ty),
-        }
-    }
-
-    fn object_write(&self, class: u16, ty: Ty) -> Result<Effect, RuleFault>
+    pub(crate) fn object_write(&self, class: u16, ty: Ty) -> Result<Effect, RuleFault>
         requires frame { AreKnown self.now.world.now.classes (frame self.now) }
         requires class { IsClass self.now.world.now.classes class }
         requires ty { IsKnown self.now.world.now.classes ty }
@@ -224,7 +206,7 @@ impl Before<'_> {
         Ok(Effect::replacing(value_size(ty) + 1, Cells::Nothing))
     }
 
-    fn this_write(&self, class: u16, ty: Ty) -> Result<Effect, RuleFault>
+    pub(crate) fn this_write(&self, class: u16, ty: Ty) -> Result<Effect, RuleFault>
         requires frame { AreKnown self.now.world.now.classes (frame self.now) }
         requires class { IsClass self.now.world.now.classes class }
         requires ty { IsKnown self.now.world.now.classes ty }

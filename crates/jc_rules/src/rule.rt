@@ -19,7 +19,7 @@ use crate::objects::value_given;
 use crate::values::constant;
 use jc_base::{Ty, World, types_are_ordered};
 use jc_decode::Insn;
-use jc_ops::{Callee, Operation, RuleFault, Site, resolve};
+use jc_ops::{Holder, Operation, RuleFault, Site, resolve};
 
 /// What an instruction did.
 #[derive(Clone, Copy)]
@@ -65,10 +65,11 @@ impl Before<'_> {
             Operation::StaticRead(field) => Ok(Effect::replacing(0, value_given(field.ty))),
             Operation::StaticWrite(field) => self.popped(field.ty),
             Operation::FieldRead(field, holder) => self.field_read(holder, field.class, field.ty),
-            Operation::FieldWrite(field, holder) => {
-                self.field_write(holder, field.class, field.ty)
+            Operation::FieldWrite(field, Holder::Stack) => self.object_write(field.class, field.ty),
+            Operation::FieldWrite(field, Holder::This) => self.this_write(field.class, field.ty),
+            Operation::Call(callee) => {
+                self.called(&self.world.method(callee.method).sig, callee.receiver)
             }
-            Operation::Call(callee) => self.call(callee),
             Operation::New { place, class } => Ok(Effect::replacing(
                 0,
                 Cells::One(Ty::Fresh { place, class }),
@@ -76,7 +77,8 @@ impl Before<'_> {
             Operation::NewArray(ty) => self.new_array(self.seen(ty)),
             Operation::Throw => self.thrown(),
             Operation::TypeTest(test, ty) => self.tested(test, self.seen(ty)),
-            Operation::Return(declared) => self.returned(declared),
+            Operation::Return(Some(ty)) => self.popped(ty),
+            Operation::Return(None) => Ok(Effect::replacing(0, Cells::Nothing)),
         }
     }
 
@@ -100,27 +102,6 @@ impl Before<'_> {
             self.world.role(0)
         } else {
             class
-        }
-    }
-
-    fn call(&self, callee: Callee) -> Result<Effect, RuleFault>
-        requires frame { AreKnown self.now.world.now.classes (frame self.now) }
-        requires known { IsKnownCallee self.now.world.now callee }
-        ensures { IsJudged self.now.world.now.classes (frame self.now)
-            (demands self.now.world.now (Call callee))
-            (effect self.now.world.now (Call callee) (frame self.now)) result }
-    {
-        self.called(&self.world.method(callee.method).sig, callee.receiver)
-    }
-
-    fn returned(&self, declared: Option<Ty>) -> Result<Effect, RuleFault>
-        requires frame { AreKnown self.now.world.now.classes (frame self.now) }
-        requires known { IfSome declared (λ ty. IsKnown self.now.world.now.classes ty × IsValue ty) }
-        ensures { IsJudged self.now.world.now.classes (frame self.now) (return_demands declared) (return_effect declared) result }
-    {
-        match declared {
-            Some(ty) => self.popped(ty),
-            None => Ok(Effect::replacing(0, Cells::Nothing)),
         }
     }
 }

@@ -202,12 +202,9 @@ fn same_registers(cells: &[Ty], span: Span, other: Span) -> bool
 fn are_of_one_group(groups: &[usize], place: u16, other: u16) -> bool
     ensures { IsTrue result → AreOfOneGroup groups.now place other }
 {
-    match groups.get(place as usize) {
-        Some(group) => match groups.get(other as usize) {
-            Some(beside) => *group == *beside,
-            None => false,
-        },
-        None => false,
+    match (groups.get(place as usize), groups.get(other as usize)) {
+        (Some(group), Some(beside)) => *group == *beside,
+        _ => false,
     }
 }
 
