@@ -5,3 +5,4 @@ pub mod Counting
 pub mod TypesCounted
 pub mod OneType
 pub mod TypesThere
+mod Standing

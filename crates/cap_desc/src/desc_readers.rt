@@ -147,11 +147,10 @@ impl<'a> DescPart<'a> {
             ≡ types_at self.now.info.bytes.now ((descriptor_seen self.now).types_start + offset) }
     {
         let nibbles = self.nibbles_at(offset)?;
-        let left = nibbles.type_count()?;
         Some(Types {
             nibbles,
             at: 0,
-            left,
+            left: nibbles.type_count()?,
         })
     }
 

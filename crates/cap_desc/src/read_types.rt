@@ -34,14 +34,11 @@ impl Nibbles<'_> {
         ensures value { result ≡ result_ok (nibbles_read class_nibbles (nibbles_in self.now) at) }
         ensures within { IfSome result (λ found. found.1 ≤ 255) }
     {
-        let a = self.get(at)?;
-        let b = self.get(at + 1)?;
-        let c = self.get(at + 2)?;
-        let d = self.get(at + 3)?;
-        Some((
-            4096 * a as u16 + 256 * b as u16 + 16 * c as u16 + d as u16,
-            at + 4,
-        ))
+        let a = self.get(at)? as u16;
+        let b = self.get(at + 1)? as u16;
+        let c = self.get(at + 2)? as u16;
+        let d = self.get(at + 3)? as u16;
+        Some((4096 * a + 256 * b + 16 * c + d, at + 4))
     }
 
     /// The type at a place, and the place after it.

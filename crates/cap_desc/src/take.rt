@@ -16,15 +16,11 @@ use cap_bytes::{Cursor, FormFault};
 pub(crate) fn field_descriptor_info(items: &mut Cursor<'_>) -> Result<FieldInfo, FormFault>
     ensures { Takes field_seen field_descriptor_info items.old result items.new }
 {
-    let token = items.u1()?;
-    let flags = items.u1()?;
-    let bytes = items.triple()?;
-    let ty = items.u2()?;
     Ok(FieldInfo {
-        token,
-        flags: AccessFlags::of_field(flags),
-        bytes,
-        ty,
+        token: items.u1()?,
+        flags: AccessFlags::of_field(items.u1()?),
+        bytes: items.triple()?,
+        ty: items.u2()?,
     })
 }
 
@@ -33,21 +29,14 @@ pub(crate) fn field_descriptor_info(items: &mut Cursor<'_>) -> Result<FieldInfo,
 pub(crate) fn method_descriptor_info(items: &mut Cursor<'_>) -> Result<MethodInfo, FormFault>
     ensures { Takes method_seen method_descriptor_info items.old result items.new }
 {
-    let token = items.u1()?;
-    let flags = items.u1()?;
-    let method_offset = items.u2()?;
-    let type_offset = items.u2()?;
-    let bytecode_count = items.u2()?;
-    let handler_count = items.u2()?;
-    let handler_index = items.u2()?;
     Ok(MethodInfo {
-        token,
-        flags: AccessFlags::of_method(flags),
-        method_offset,
-        type_offset,
-        bytecode_count,
-        handler_count,
-        handler_index,
+        token: items.u1()?,
+        flags: AccessFlags::of_method(items.u1()?),
+        method_offset: items.u2()?,
+        type_offset: items.u2()?,
+        bytecode_count: items.u2()?,
+        handler_count: items.u2()?,
+        handler_index: items.u2()?,
     })
 }
 
@@ -88,15 +77,12 @@ pub(crate) fn class_descriptor_info<'a>(items: &mut Cursor<'a>) -> Result<DescCl
     let interface_count = items.u1()?;
     let field_count = items.u2()?;
     let method_count = items.u2()?;
-    let interfaces = items.table(interface_count as u16)?;
-    let fields = fields(items, field_count)?;
-    let methods = methods(items, method_count)?;
     Ok(DescClass {
         token,
         class_ref,
         interface_count,
-        interfaces,
-        fields,
-        methods,
+        interfaces: items.table(interface_count as u16)?,
+        fields: fields(items, field_count)?,
+        methods: methods(items, method_count)?,
     })
 }
