@@ -3,7 +3,7 @@ ghost use Rattle.std.specs.Iterator.{YieldsFirstBy, item_count};
 ghost use Rattle.cap_bytes.specs.Grammar.{until_end};
 ghost use Rattle.cap_bytes.specs.Exact.{IsExact};
 ghost use Rattle.cap_bytes.specs.Spelling.{info_of, Stands, Breaks};
-ghost use Rattle.cap_bytes.specs.Taking.{Takes, Reads, bytes};
+ghost use Rattle.cap_bytes.specs.Taking.{Takes, bytes};
 ghost use Rattle.cap_class.specs.ClassFormat.{record_info, is_after, signature_pool, classes_info};
 ghost use Rattle.cap_bytes.specs.Table.{numbers};
 ghost use Rattle.cap_class.specs.Lists.{interface_seen, interfaces_left};
@@ -84,22 +84,9 @@ fn signature_pool<'a>(items: &mut Cursor<'a>, format: Format) -> Result<&'a [u8]
     }
 }
 
-/// The items of the component.
-#[tactic(auto, unfolding(cap_bytes::specs::Reading::reading))]
-fn read(info: View<'_>, format: Format) -> Result<ClassPart<'_>, FormFault>
-    requires { length info.bytes.now ≤ 65535 }
-    ensures value { Reads records (info_of 6) (classes_info format) info.entry.bytes.now result }
-    ensures info { IfOk result (λ x. x.info ≡ info.entry) }
-{
-    let mut items = Cursor::of(info, CLASS);
-    signature_pool(&mut items, format)?;
-    let classes = records(&mut items)?;
-    Ok(ClassPart { info, classes })
-}
-
 /// The Class component that the info is in the format that the Header names, or the first item that
 /// breaks it.
-#[tactic(auto, using(cap_bytes::proofs::Laws::whole))]
+#[tactic(auto, using(cap_bytes::proofs::Laws::whole, crate::proofs::Standing::classes_stand), unfolding(cap_bytes::specs::Reading::reading))]
 pub fn classes(info: View<'_>, format: Format) -> Result<ClassPart<'_>, FormFault>
     requires { length info.bytes.now ≤ 65535 }
     ensures found { IfOk result (λ x. Stands (classes_info format) info.entry.bytes.now (records x)) }
@@ -107,7 +94,10 @@ pub fn classes(info: View<'_>, format: Format) -> Result<ClassPart<'_>, FormFaul
     ensures exact { IsExact (info_of 6) (classes_info format) info.entry.bytes.now }
     ensures info { IfOk result (λ x. x.info ≡ info.entry) }
 {
-    read(info, format)
+    let mut items = Cursor::of(info, CLASS);
+    signature_pool(&mut items, format)?;
+    let classes = records(&mut items)?;
+    Ok(ClassPart { info, classes })
 }
 
 impl<'a> ClassPart<'a> {
@@ -147,10 +137,7 @@ impl<'a> ClassPart<'a> {
     pub fn offset(&self, n: u16) -> Option<u16>
         ensures { result ≡ option_map (λ c. c.offset) (slice_get (records self.now) n) }
     {
-        match self.at(n) {
-            Some(class) => Some(class.offset),
-            None => None,
-        }
+        Some(self.at(n)?.offset)
     }
 
     /// The record that starts at an offset of the info, where one does.

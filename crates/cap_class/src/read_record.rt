@@ -55,15 +55,11 @@ fn interfaces<'a>(
 fn instance(items: &mut Cursor<'_>) -> Result<Instance, FormFault>
     ensures { Takes instance_seen instance_info items.old result items.new }
 {
-    let super_ref = items.u2()?;
-    let instance_size = items.u1()?;
-    let first_reference = items.u1()?;
-    let reference_count = items.u1()?;
     Ok(Instance {
-        super_ref,
-        instance_size,
-        first_reference,
-        reference_count,
+        super_ref: items.u2()?,
+        instance_size: items.u1()?,
+        first_reference: items.u1()?,
+        reference_count: items.u1()?,
     })
 }
 
@@ -108,19 +104,6 @@ fn no_table<'a>(items: &Cursor<'a>) -> Table<'a>
     }
 }
 
-/// The tables of an interface, which has none.
-#[inline(always)]
-fn no_tables<'a>(items: &Cursor<'a>) -> DispatchTables<'a>
-    ensures { tables_seen result ≡ record { public_base = 0; package_base = 0; public = []; visible = [] } }
-{
-    DispatchTables {
-        public_base: 0,
-        package_base: 0,
-        public: no_table(items),
-        visible: no_table(items),
-    }
-}
-
 /// A record after its first byte, which stands at this offset.
 #[inline(always)]
 fn beyond_first<'a>(
@@ -132,8 +115,6 @@ fn beyond_first<'a>(
 {
     let flags = ClassFlags::of(first);
     if flags.is_interface() {
-        let tables = no_tables(items);
-        let interfaces = interfaces(items, first % 16, true)?;
         Ok(ClassInfo {
             offset,
             flags,
@@ -143,19 +124,21 @@ fn beyond_first<'a>(
                 first_reference: 0,
                 reference_count: 0,
             },
-            tables,
-            interfaces,
+            tables: DispatchTables {
+                public_base: 0,
+                package_base: 0,
+                public: no_table(items),
+                visible: no_table(items),
+            },
+            interfaces: interfaces(items, first % 16, true)?,
         })
     } else {
-        let instance = instance(items)?;
-        let tables = tables(items)?;
-        let interfaces = interfaces(items, first % 16, false)?;
         Ok(ClassInfo {
             offset,
             flags,
-            instance,
-            tables,
-            interfaces,
+            instance: instance(items)?,
+            tables: tables(items)?,
+            interfaces: interfaces(items, first % 16, false)?,
         })
     }
 }
