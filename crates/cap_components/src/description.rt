@@ -54,8 +54,5 @@ pub fn field_type(descriptor: &DescPart<'_>, ty: u16) -> Option<TypeItem>
         });
     }
     let item = descriptor.type_at(ty)?;
-    if item.nibble == TypeItem::VOID {
-        return None;
-    }
-    Some(item)
+    (item.nibble != TypeItem::VOID).then_some(item)
 }

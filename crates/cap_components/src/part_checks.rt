@@ -17,11 +17,8 @@ use first_fault::{least_from, lesser, refuse};
 fn absent_fault(parts: &Parts<'_>, tag: u8) -> Option<PackFault>
     ensures { result ≡ absent_fault parts.now tag }
 {
-    if parts.get(Part(tag)).is_some() {
-        None
-    } else {
-        Some(PackFault::MissingPart(tag))
-    }
+    let absent = parts.get(Part(tag)).is_none();
+    absent.then_some(PackFault::MissingPart(tag))
 }
 
 #[tactic(auto, unfolding(crate::specs::PartChecks::sized_fault))]
@@ -80,13 +77,8 @@ pub(crate) fn none_missing(
 fn form_fault(parts: &Parts<'_>, tag: u8) -> Option<PackFault>
     ensures { result ≡ form_fault parts.now tag }
 {
-    if parts.get(Part(tag)).is_none() {
-        return None;
-    }
-    match info_in(parts, tag) {
-        Ok(_) => None,
-        Err(fault) => Some(fault),
-    }
+    parts.get(Part(tag))?;
+    info_in(parts, tag).err()
 }
 
 /// Every custom component that is there has its format.
@@ -94,10 +86,9 @@ fn form_fault(parts: &Parts<'_>, tag: u8) -> Option<PackFault>
 pub fn customs_formed(parts: &Parts<'_>, directory: &Directory<'_>) -> Result<(), PackFault>
     ensures { result ≡ refused (least_of (form_fault parts.now) (custom_tags (directory_items directory.now))) }
 {
-    let least = least_from(None, directory.customs(), |custom| {
+    refuse(least_from(None, directory.customs(), |custom| {
         form_fault(parts, custom.tag)
-    });
-    refuse(least)
+    }))
 }
 
 #[tactic(auto, unfolding(crate::specs::PartChecks::size_fault))]
@@ -105,15 +96,9 @@ fn size_fault(parts: &Parts<'_>, directory: &Directory<'_>, tag: u8) -> Option<P
     ensures { result ≡ size_fault parts.now (directory_items directory.now) tag }
 {
     let said = directory.size(tag)?;
-    let info = match info_in(parts, tag) {
-        Ok(info) => info,
-        Err(_) => return None,
-    };
+    let info = info_in(parts, tag).ok()?;
     let found = info.bytes.len() as u16;
-    if said == found {
-        return None;
-    }
-    Some(PackFault::SizeDisagrees(tag, said, found))
+    (said != found).then_some(PackFault::SizeDisagrees(tag, said, found))
 }
 
 /// The Directory's size of every part is the part's own.
@@ -123,10 +108,9 @@ pub fn sizes_agree(parts: &Parts<'_>, directory: &Directory<'_>) -> Result<(), P
         (size_fault parts.now (directory_items directory.now)) (custom_tags (directory_items directory.now))) }
 {
     let least = size_faults(parts, directory, &[1, 2, 3, 4, 5, 6, 7, 8, 9, 10, 11]);
-    let least = least_from(least, directory.customs(), |custom| {
+    refuse(least_from(least, directory.customs(), |custom| {
         size_fault(parts, directory, custom.tag)
-    });
-    refuse(least)
+    }))
 }
 
 /// The least fault of the sizes of some parts.

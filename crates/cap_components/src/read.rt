@@ -52,8 +52,7 @@ pub fn header_in<'a>(parts: &Parts<'a>) -> Result<Header<'a>, PackFault>
     ensures value { AnswersAs header_items result (read_part header_info 1 parts.now) }
     ensures info { IfOk result (λ x. info_in parts.now 1 ≡ Ok x.info.bytes.now) }
 {
-    let info = info_in(parts, 1)?;
-    Ok(header(info)?)
+    Ok(header(info_in(parts, 1)?)?)
 }
 
 /// The Directory component in a format.
@@ -62,8 +61,7 @@ pub fn directory_in<'a>(parts: &Parts<'a>, format: Format) -> Result<Directory<'
     ensures value { AnswersAs directory_items result (read_part (directory_info format) 2 parts.now) }
     ensures info { IfOk result (λ x. info_in parts.now 2 ≡ Ok x.info.bytes.now) }
 {
-    let info = info_in(parts, 2)?;
-    Ok(directory(info, format)?)
+    Ok(directory(info_in(parts, 2)?, format)?)
 }
 
 /// The Header, and the Directory in the format that it names.
@@ -82,8 +80,7 @@ pub fn imports_in<'a>(parts: &Parts<'a>) -> Result<Imports<'a>, PackFault>
     ensures value { AnswersAs packages result (read_part imports_info 4 parts.now) }
     ensures info { IfOk result (λ x. info_in parts.now 4 ≡ Ok x.info.bytes.now) }
 {
-    let info = info_in(parts, 4)?;
-    Ok(imports(info)?)
+    Ok(imports(info_in(parts, 4)?)?)
 }
 
 /// The ConstantPool component.
@@ -92,8 +89,7 @@ pub fn pool_in<'a>(parts: &Parts<'a>) -> Result<Pool<'a>, PackFault>
     ensures value { AnswersAs entries result (read_part pool_info 5 parts.now) }
     ensures info { IfOk result (λ x. info_in parts.now 5 ≡ Ok x.info.bytes.now) }
 {
-    let info = info_in(parts, 5)?;
-    Ok(pool(info)?)
+    Ok(pool(info_in(parts, 5)?)?)
 }
 
 /// The Class component in a format.
@@ -102,8 +98,7 @@ pub fn classes_in<'a>(parts: &Parts<'a>, format: Format) -> Result<ClassPart<'a>
     ensures value { AnswersAs records result (read_part (classes_info format) 6 parts.now) }
     ensures info { IfOk result (λ x. info_in parts.now 6 ≡ Ok x.info.bytes.now) }
 {
-    let info = info_in(parts, 6)?;
-    Ok(cap_class::classes(info, format)?)
+    Ok(cap_class::classes(info_in(parts, 6)?, format)?)
 }
 
 /// The StaticField component.
@@ -112,8 +107,7 @@ pub fn statics_in<'a>(parts: &Parts<'a>) -> Result<StaticPart<'a>, PackFault>
     ensures value { AnswersAs statics_seen result (read_part statics_info 8 parts.now) }
     ensures info { IfOk result (λ x. info_in parts.now 8 ≡ Ok x.info.bytes.now) }
 {
-    let info = info_in(parts, 8)?;
-    Ok(cap_method::statics(info)?)
+    Ok(cap_method::statics(info_in(parts, 8)?)?)
 }
 
 /// The ReferenceLocation component.
@@ -122,8 +116,7 @@ pub fn locations_in<'a>(parts: &Parts<'a>) -> Result<Locations<'a>, PackFault>
     ensures value { AnswersAs location_items result (read_part locations_info 9 parts.now) }
     ensures info { IfOk result (λ x. info_in parts.now 9 ≡ Ok x.info.bytes.now) }
 {
-    let info = info_in(parts, 9)?;
-    Ok(locations(info)?)
+    Ok(locations(info_in(parts, 9)?)?)
 }
 
 /// The Method component.
@@ -131,8 +124,7 @@ pub fn locations_in<'a>(parts: &Parts<'a>) -> Result<Locations<'a>, PackFault>
 pub fn methods_in<'a>(parts: &Parts<'a>) -> Result<MethodPart<'a>, PackFault>
     ensures { AnswersAs methods_seen result (read_methods parts.now) }
 {
-    let info = info_in(parts, 7)?;
-    Ok(cap_method::methods(info)?)
+    Ok(cap_method::methods(info_in(parts, 7)?)?)
 }
 
 /// The Descriptor component.
@@ -140,8 +132,7 @@ pub fn methods_in<'a>(parts: &Parts<'a>) -> Result<MethodPart<'a>, PackFault>
 pub fn descriptor_in<'a>(parts: &Parts<'a>) -> Result<DescPart<'a>, PackFault>
     ensures { AnswersAs description result (read_description parts.now) }
 {
-    let info = info_in(parts, 11)?;
-    Ok(cap_desc::descriptor(info)?)
+    Ok(cap_desc::descriptor(info_in(parts, 11)?)?)
 }
 
 /// The Applet component.
@@ -150,8 +141,7 @@ fn held_applets<'a>(parts: &Parts<'a>) -> Result<Applets<'a>, PackFault>
     ensures value { AnswersAs applets_of result (read_part applets_info 3 parts.now) }
     ensures info { IfOk result (λ x. info_in parts.now 3 ≡ Ok x.info.bytes.now) }
 {
-    let info = info_in(parts, 3)?;
-    Ok(applets(info)?)
+    Ok(applets(info_in(parts, 3)?)?)
 }
 
 /// The Applet component, where it is there.
@@ -172,8 +162,7 @@ fn held_export<'a>(parts: &Parts<'a>) -> Result<Export<'a>, PackFault>
     ensures value { AnswersAs exported result (read_part export_info 10 parts.now) }
     ensures info { IfOk result (λ x. info_in parts.now 10 ≡ Ok x.info.bytes.now) }
 {
-    let info = info_in(parts, 10)?;
-    Ok(export(info)?)
+    Ok(export(info_in(parts, 10)?)?)
 }
 
 /// The Export component, where it is there.

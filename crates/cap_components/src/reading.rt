@@ -56,10 +56,7 @@ fn read_opened<'p, 'a>(
     ensures parts { IfOk result (λ all. all.parts.now ≡ parts.now) }
     ensures infos { IfOk result (λ all. HaveInfos all) }
 {
-    match opening {
-        Ok(opening) => read_after(parts, opening),
-        Err(fault) => Err(fault),
-    }
+    read_after(parts, opening?)
 }
 
 /// The components after the Header and the Directory.
@@ -73,28 +70,20 @@ fn read_after<'p, 'a>(
     ensures parts { IfOk result (λ all. all.parts.now ≡ parts.now) }
     ensures infos { IfOk result (λ all. HaveInfos all) }
 {
-    let applets = applets_in(parts)?;
-    let imports = imports_in(parts)?;
-    let pool = pool_in(parts)?;
-    let classes = classes_in(parts, opening.header.format())?;
-    let methods = methods_in(parts)?;
-    let statics = statics_in(parts)?;
-    let locations = locations_in(parts)?;
-    let export = export_in(parts)?;
-    let descriptor = descriptor_in(parts)?;
+    let Opening { header, directory } = opening;
     Ok(Components {
         parts,
-        header: opening.header,
-        directory: opening.directory,
-        applets,
-        imports,
-        pool,
-        classes,
-        methods,
-        statics,
-        locations,
-        export,
-        descriptor,
+        header,
+        directory,
+        applets: applets_in(parts)?,
+        imports: imports_in(parts)?,
+        pool: pool_in(parts)?,
+        classes: classes_in(parts, header.format())?,
+        methods: methods_in(parts)?,
+        statics: statics_in(parts)?,
+        locations: locations_in(parts)?,
+        export: export_in(parts)?,
+        descriptor: descriptor_in(parts)?,
     })
 }
 
