@@ -1,7 +1,7 @@
 ghost use Rattle.std.specs.Prelude.{◌≡◌, length, slice_get, IfOk};
 ghost use Rattle.std.specs.Iterator.{YieldsFirst, item_count};
-ghost use Rattle.cap_bytes.specs.Grammar.{repeat, table, u2};
-ghost use Rattle.cap_bytes.specs.Taking.{Takes, PassesOver};
+ghost use Rattle.cap_bytes.specs.Grammar.{table};
+ghost use Rattle.cap_bytes.specs.Taking.{Takes};
 ghost use Rattle.cap_bytes.specs.Table.{numbers};
 
 use crate::cursor::Cursor;
@@ -10,24 +10,16 @@ use crate::table::Table;
 
 impl<'a> Cursor<'a> {
     /// A table of so many numbers of two bytes.
-    #[tactic(auto, using(crate::proofs::Loops::yielding), unfolding(crate::specs::Grammar::table))]
+    #[tactic(auto, using(crate::proofs::Loops::passing, crate::proofs::Loops::yielding), unfolding(crate::specs::Grammar::table))]
     pub fn table(&mut self, count: u16) -> Result<Table<'a>, FormFault>
         ensures value { Takes numbers (table count) self.old result self.new }
         ensures count { IfOk result (λ t. length (numbers t) ≡ count) }
     {
         let items = *self;
-        self.pass_table(count)?;
-        Ok(Table { items, left: count })
-    }
-
-    #[tactic(auto, using(crate::proofs::Loops::passing))]
-    fn pass_table(&mut self, count: u16) -> Result<(), FormFault>
-        ensures { PassesOver (repeat count u2) self.old result self.new }
-    {
         'numbers: for _ in 0..count {
             self.u2()?;
         }
-        Ok(())
+        Ok(Table { items, left: count })
     }
 }
 
@@ -72,19 +64,10 @@ impl<'a> Iterator for Table<'a> {
 
     #[tactic(auto, using(crate::proofs::Loops::yielding))]
     fn next(&mut self) -> Option<u16> {
-        if self.left == 0 {
-            return None;
-        }
+        let left = self.left.checked_sub(1)?;
         let mut items = self.items;
-        match items.u2() {
-            Ok(number) => {
-                *self = Table {
-                    items,
-                    left: self.left - 1,
-                };
-                Some(number)
-            }
-            Err(_) => None,
-        }
+        let number = items.u2().ok()?;
+        *self = Table { items, left };
+        Some(number)
     }
 }

@@ -34,39 +34,33 @@ impl<'a> Cursor<'a> {
     pub fn u1(&mut self) -> Result<u8, FormFault>
         ensures { Takes same u1 self.old result self.new }
     {
-        match self.info.u1(self.at) {
-            Some(n) => {
-                self.at += 1;
-                Ok(n)
-            }
-            None => Err(self.cut()),
-        }
+        let Some(n) = self.info.u1(self.at) else {
+            return Err(self.cut());
+        };
+        self.at += 1;
+        Ok(n)
     }
 
     /// The next big-endian number of two bytes.
     pub fn u2(&mut self) -> Result<u16, FormFault>
         ensures { Takes same u2 self.old result self.new }
     {
-        match self.info.u2(self.at) {
-            Some(n) => {
-                self.at += 2;
-                Ok(n)
-            }
-            None => Err(self.cut()),
-        }
+        let Some(n) = self.info.u2(self.at) else {
+            return Err(self.cut());
+        };
+        self.at += 2;
+        Ok(n)
     }
 
     /// The next big-endian number of four bytes.
     pub fn u4(&mut self) -> Result<u32, FormFault>
         ensures { Takes same u4 self.old result self.new }
     {
-        match self.info.u4(self.at) {
-            Some(n) => {
-                self.at += 4;
-                Ok(n)
-            }
-            None => Err(self.cut()),
-        }
+        let Some(n) = self.info.u4(self.at) else {
+            return Err(self.cut());
+        };
+        self.at += 4;
+        Ok(n)
     }
 
     /// How many bytes are left.
@@ -102,13 +96,11 @@ impl<'a> Cursor<'a> {
         ensures value { Takes bytes (piece len) self.old result self.new }
         ensures len { IfOk result (λ part. length part.now ≡ len) }
     {
-        match self.info.part(self.at, len) {
-            Some(part) => {
-                self.at += len;
-                Ok(part.bytes)
-            }
-            None => Err(self.cut()),
-        }
+        let Some(part) = self.info.part(self.at, len) else {
+            return Err(self.cut());
+        };
+        self.at += len;
+        Ok(part.bytes)
     }
 
     /// The next three bytes.

@@ -29,11 +29,7 @@ impl<'a> View<'a> {
         ensures { result ≡ number_at 2 at self.entry.bytes.now }
     {
         let end = at as usize + 2;
-        if end <= self.bytes.len() {
-            Some(BigEndian::read_u16(&self.bytes[at as usize..end]))
-        } else {
-            None
-        }
+        Some(BigEndian::read_u16(self.bytes.get(at as usize..end)?))
     }
 
     /// The big-endian number of four bytes at an offset, where the bytes reach.
@@ -41,11 +37,7 @@ impl<'a> View<'a> {
         ensures { result ≡ number_at 4 at self.entry.bytes.now }
     {
         let end = at as usize + 4;
-        if end <= self.bytes.len() {
-            Some(BigEndian::read_u32(&self.bytes[at as usize..end]))
-        } else {
-            None
-        }
+        Some(BigEndian::read_u32(self.bytes.get(at as usize..end)?))
     }
 
     /// The `len` bytes from an offset on, where the bytes reach.
@@ -54,12 +46,7 @@ impl<'a> View<'a> {
         ensures bytes { IfSome result (λ v. v.bytes.now ≡ take len (drop at self.entry.bytes.now)) }
     {
         let end = at as usize + len as usize;
-        if end <= self.bytes.len() {
-            Some(View {
-                bytes: &self.bytes[at as usize..end],
-            })
-        } else {
-            None
-        }
+        let bytes = self.bytes.get(at as usize..end)?;
+        Some(View { bytes })
     }
 }
