@@ -5,7 +5,7 @@ ghost use Rattle.cap_pool.specs.ExportFormat.{Exported};
 ghost use Rattle.cap_class.specs.ClassPart.{records};
 ghost use Rattle.cap_components.specs.PackageRecord.{names_interface, described_methods};
 ghost use Rattle.cap_package.specs.NameChecks.{no_method_fault, exported_methods, undescribed_class_fault, is_class_at, is_method_at};
-ghost use Rattle.cap_package.specs.Agreement.{or_none, places_agree, counts_agree, members_agree, named_condition, class_condition, export_condition};
+ghost use Rattle.cap_package.specs.Agreement.{or_none, places_agree, counts_agree, members_agree, named_condition, class_condition};
 ghost use Rattle.cap_package.specs.Reaches.{method_start};
 ghost use Rattle.cap_components.specs.ComponentsSeen.{components_seen};
 ghost use Rattle.cap_components.specs.Order.{least_from, refused};
@@ -56,17 +56,11 @@ pub(crate) fn counts_agree(all: &Components<'_, '_>, interfaces: &Offsets) -> Re
         Some(applets) => applets.count() as u32,
         None => 0,
     };
-    agree(
-        CountKind::Imports,
-        directory.import_count() as u32,
-        all.imports.count() as u32,
-    )?;
+    let imports = all.imports.count() as u32;
+    agree(CountKind::Imports, directory.import_count() as u32, imports)?;
     agree(CountKind::Applets, directory.applet_count() as u32, applets)?;
-    agree(
-        CountKind::ImageSize,
-        directory.image_size() as u32,
-        statics.image_size() as u32,
-    )?;
+    let size = statics.image_size() as u32;
+    agree(CountKind::ImageSize, directory.image_size() as u32, size)?;
     agree(
         CountKind::InitialArrays,
         directory.array_init_count() as u32,
@@ -86,11 +80,7 @@ pub(crate) fn counts_agree(all: &Components<'_, '_>, interfaces: &Offsets) -> Re
     instances_agree(&all.classes, &all.descriptor)?;
     let references = 2 * statics.reference_count() as u32;
     let values = statics.default_value_count() as u32 + statics.non_default_value_count() as u32;
-    agree(
-        CountKind::ImageSegments,
-        statics.image_size() as u32,
-        references + values,
-    )?;
+    agree(CountKind::ImageSegments, size, references + values)?;
     abstract_without_code(&all.methods, described)
 }
 
@@ -154,16 +144,6 @@ fn classes_agree(all: &Components<'_, '_>) -> Result<(), PackFault>
     refuse(export_classes(all, &starts, unnamed))
 }
 
-/// Exports name static fields.
-fn exports_agree(all: &Components<'_, '_>) -> Result<(), PackFault>
-    ensures { result ≡ refused (export_condition (components_seen all.now)) }
-{
-    match &all.export {
-        Some(export) => refuse(statics_named(&static_offsets(all.descriptor.fields()), export)),
-        None => Ok(()),
-    }
-}
-
 /// Handlers, static fields, names, classes, headers and types agree.
 #[tactic(auto, unfolding(crate::specs::Agreement::members_agree))]
 pub(crate) fn members_agree(
@@ -188,5 +168,8 @@ pub(crate) fn members_agree(
     types_fit(&all.descriptor, interfaces)?;
     statics_in_image(&all.statics, &all.descriptor, fields)?;
     lengths_fit(&all.methods, described)?;
-    exports_agree(all)
+    match &all.export {
+        Some(export) => refuse(statics_named(&static_offsets(fields), export)),
+        None => Ok(()),
+    }
 }

@@ -33,11 +33,7 @@ pub(crate) fn descriptions(descriptors: DescClasses<'_>) -> Tally
 fn class_unless(right: bool, offset: u16) -> Option<PackFault>
     ensures { result ≡ (if right then None else Some (ClassUndescribed offset)) }
 {
-    if right {
-        None
-    } else {
-        Some(PackFault::ClassUndescribed(offset))
-    }
+    (!right).then_some(PackFault::ClassUndescribed(offset))
 }
 
 /// The least class record that is not described once.

@@ -19,11 +19,7 @@ use first_fault::keep_lesser;
 pub(crate) fn differ(what: CountKind, said: u32, found: u32) -> Option<PackFault>
     ensures { result ≡ differ what said found }
 {
-    if said == found {
-        None
-    } else {
-        Some(PackFault::CountDisagrees(what, said, found))
-    }
+    (said != found).then_some(PackFault::CountDisagrees(what, said, found))
 }
 
 /// Two numbers of one thing are equal.
@@ -54,10 +50,7 @@ fn cells_of(descriptor: &DescPart<'_>, field: &FieldInfo) -> u32
     if field.flags.is_static() {
         return 0;
     }
-    match field_type(descriptor, field.ty) {
-        Some(ty) => words_of(ty) as u32,
-        None => 1,
-    }
+    field_type(descriptor, field.ty).map_or(1, |ty| words_of(ty) as u32)
 }
 
 /// The cells of a class's own instance fields.

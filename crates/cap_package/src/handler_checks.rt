@@ -1,12 +1,11 @@
-ghost use Rattle.std.specs.Prelude.{◌≡◌, fold, length, if◌then◌else◌, Some, None};
+ghost use Rattle.std.specs.Prelude.{◌≡◌, fold, length};
 ghost use Rattle.cap_method.specs.MethodPart.{handlers};
 ghost use Rattle.cap_desc.specs.MemberRecords.{method_seen};
 ghost use Rattle.cap_desc.specs.MembersLeft.{methods_but_left};
-ghost use Rattle.cap_components.specs.declared.fault.PackFault.TheVariants.{HandlerOutside};
 ghost use Rattle.cap_components.specs.Order.{least_of, least_from, refused};
 ghost use Rattle.cap_package.specs.HandlerChecks.{claim_fault, numbered_fault};
 ghost use Rattle.std.specs.List.{enumerate_from};
-ghost use Rattle.cap_package.specs.HandlerClaims.{claims_seen, claim_table, none_claimed, home_fault};
+ghost use Rattle.cap_package.specs.HandlerClaims.{claims_seen, claim_table, none_claimed};
 
 use crate::handler_claims::HandlerClaims;
 use cap_components::{PackFault, refuse};
@@ -19,11 +18,8 @@ fn claim_fault(count: u8, method: &MethodInfo) -> Option<PackFault>
     ensures { result ≡ claim_fault count (method_seen method.now) }
 {
     let first = method.handler_index as u32;
-    if method.handler_count != 0 && (count as u32) < first + method.handler_count as u32 {
-        Some(PackFault::HandlerOutside(first.max(count as u32)))
-    } else {
-        None
-    }
+    let outside = method.handler_count != 0 && (count as u32) < first + method.handler_count as u32;
+    outside.then_some(PackFault::HandlerOutside(first.max(count as u32)))
 }
 
 /// The entries of the handler table as the described methods claim them.
@@ -46,16 +42,6 @@ fn claimed(methods: &MethodPart<'_>, described: MethodsBut<'_, '_>) -> HandlerCl
     entries
 }
 
-fn home_fault(home: bool, number: u16) -> Option<PackFault>
-    ensures { result ≡ (if home then None else Some (HandlerOutside number)) }
-{
-    if home {
-        None
-    } else {
-        Some(PackFault::HandlerOutside(number as u32))
-    }
-}
-
 /// The least fault of the entries of the table.
 #[tactic(auto, using(crate::proofs::HandlerHomes::homes_told, crate::proofs::HandlerHomes::no_entries))]
 fn entry_faults(methods: &MethodPart<'_>, described: MethodsBut<'_, '_>) -> Option<PackFault>
@@ -73,7 +59,9 @@ fn entry_faults(methods: &MethodPart<'_>, described: MethodsBut<'_, '_>) -> Opti
     let mut least = None;
     let mut number: u16 = 0;
     'handlers: for _ in methods.handlers() {
-        keep_lesser(&mut least, home_fault(entries.has_home(number), number));
+        let homeless = !entries.has_home(number);
+        let fault = homeless.then_some(PackFault::HandlerOutside(number as u32));
+        keep_lesser(&mut least, fault);
         number += 1;
     }
     let _count = count;

@@ -20,15 +20,6 @@ pub(crate) struct HandlerClaims {
     strays: Offsets,
 }
 
-/// Whether a method claims an entry of the handler table.
-fn claims_entry(number: u16, method: &MethodInfo) -> bool
-    ensures { result ≡ claims number (method_seen method.now) }
-{
-    let number = number as u32;
-    let first = method.handler_index as u32;
-    first <= number && number < first + method.handler_count as u32
-}
-
 /// Whether the range and the code of an entry lie in a method's code.
 fn is_within(info: View<'_>, handler: HandlerInfo, method: &MethodInfo) -> bool
     ensures { result ≡ is_within info.entry.bytes.now handler (method_seen method.now) }
@@ -57,7 +48,9 @@ impl HandlerClaims {
         ensures { claims_seen self.new
             ≡ claim_one info.entry.bytes.now (method_seen method.now) (claims_seen self.old) (number, handler) }
     {
-        if claims_entry(number, method) {
+        let place = number as u32;
+        let first = method.handler_index as u32;
+        if first <= place && place < first + method.handler_count as u32 {
             self.owned.count(number);
             if !is_within(info, handler, method) {
                 self.strays.insert(number);

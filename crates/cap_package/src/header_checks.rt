@@ -7,6 +7,7 @@ ghost use Rattle.cap_components.specs.Order.{least_of, refused};
 ghost use Rattle.cap_components.specs.Descriptions.{description};
 ghost use Rattle.cap_package.specs.HeaderChecks.{header_in, registers_fault, length_fault, arguments_fault, abstract_fault};
 
+use crate::count_checks::differ;
 use cap_components::{CountKind, PackFault, argument_words, refuse};
 use cap_desc::{DescPart, MethodInfo, MethodsBut};
 use cap_method::{MethodHeader, MethodPart};
@@ -29,10 +30,7 @@ fn registers_fault(methods: &MethodPart<'_>, method: &MethodInfo) -> Option<Pack
 {
     let header = header(methods, method.method_offset)?;
     let registers = header.nargs as u16 + header.max_locals as u16;
-    if registers > 255 {
-        return Some(PackFault::TooManyRegisters(method.method_offset, registers));
-    }
-    None
+    (registers > 255).then_some(PackFault::TooManyRegisters(method.method_offset, registers))
 }
 
 /// No described method has more than 255 registers.
@@ -43,8 +41,7 @@ pub(crate) fn registers_few(
 ) -> Result<(), PackFault>
     ensures { result ≡ refused (least_of (registers_fault methods.now.info.bytes.now) (methods_but_left described.entry)) }
 {
-    let least = least_from(None, described, |method| registers_fault(methods, &method));
-    refuse(least)
+    refuse(least_from(None, described, |method| registers_fault(methods, &method)))
 }
 
 #[tactic(auto, unfolding(crate::specs::HeaderChecks::length_fault))]
@@ -53,10 +50,8 @@ fn length_fault(methods: &MethodPart<'_>, method: &MethodInfo) -> Option<PackFau
 {
     let header = header(methods, method.method_offset)?;
     let count = method.bytecode_count;
-    if !header.flags.is_abstract() && (count == 0 || count > 32767) {
-        return Some(PackFault::MethodLength(method.method_offset, count));
-    }
-    None
+    let wrong = !header.flags.is_abstract() && (count == 0 || count > 32767);
+    wrong.then_some(PackFault::MethodLength(method.method_offset, count))
 }
 
 /// Each described method with code has 1 to 32,767 bytes of it.
@@ -67,11 +62,10 @@ pub(crate) fn lengths_fit(
 ) -> Result<(), PackFault>
     ensures { result ≡ refused (least_of (length_fault methods.now.info.bytes.now) (methods_but_left described.entry)) }
 {
-    let least = least_from(None, described, |method| length_fault(methods, &method));
-    refuse(least)
+    refuse(least_from(None, described, |method| length_fault(methods, &method)))
 }
 
-#[tactic(auto, unfolding(crate::specs::HeaderChecks::arguments_fault))]
+#[tactic(auto, unfolding(crate::specs::HeaderChecks::arguments_fault, crate::specs::CountChecks::differ))]
 fn arguments_fault(
     methods: &MethodPart<'_>,
     descriptor: &DescPart<'_>,
@@ -82,11 +76,8 @@ fn arguments_fault(
     let header = header(methods, method.method_offset)?;
     let words = argument_words(descriptor, method.type_offset)?;
     let receiver = if method.flags.is_static() { 0 } else { 1 };
-    let found = words + receiver;
-    if header.nargs as u16 == found {
-        return None;
-    }
-    Some(PackFault::CountDisagrees(CountKind::ArgumentWords, header.nargs as u32, found as u32))
+    let found = (words + receiver) as u32;
+    differ(CountKind::ArgumentWords, header.nargs as u32, found)
 }
 
 /// Each described method takes as many words as its type descriptor tells.
@@ -102,25 +93,20 @@ pub(crate) fn arguments_agree(
         (arguments_fault methods.now.info.bytes.now (description descriptor.now))
         (methods_but_left described.entry)) }
 {
-    let least = least_from(None, described, |method| {
+    refuse(least_from(None, described, |method| {
         arguments_fault(methods, descriptor, &method)
-    });
-    refuse(least)
+    }))
 }
 
-#[tactic(auto, unfolding(crate::specs::HeaderChecks::abstract_fault))]
+#[tactic(auto, unfolding(crate::specs::HeaderChecks::abstract_fault, crate::specs::CountChecks::differ))]
 fn abstract_fault(methods: &MethodPart<'_>, method: &MethodInfo) -> Option<PackFault>
     ensures { result ≡ abstract_fault methods.now.info.bytes.now (method_seen method.now) }
 {
     let header = header(methods, method.method_offset)?;
-    if header.flags.is_abstract() && method.bytecode_count != 0 {
-        return Some(PackFault::CountDisagrees(
-            CountKind::AbstractCode,
-            method.bytecode_count as u32,
-            0,
-        ));
+    if !header.flags.is_abstract() {
+        return None;
     }
-    None
+    differ(CountKind::AbstractCode, method.bytecode_count as u32, 0)
 }
 
 /// No abstract method has code.
@@ -131,6 +117,5 @@ pub(crate) fn abstract_without_code(
 ) -> Result<(), PackFault>
     ensures { result ≡ refused (least_of (abstract_fault methods.now.info.bytes.now) (methods_but_left described.entry)) }
 {
-    let least = least_from(None, described, |method| abstract_fault(methods, &method));
-    refuse(least)
+    refuse(least_from(None, described, |method| abstract_fault(methods, &method)))
 }

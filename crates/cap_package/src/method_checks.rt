@@ -37,11 +37,7 @@ fn reaches(info: View<'_>, method: &MethodInfo, next: Option<u16>) -> Option<Pac
 {
     let next = next?;
     let end = code_end(info, method).min(info.bytes.len() as u32);
-    if (next as u32) < end {
-        Some(PackFault::MethodOverlaps(method.method_offset, next))
-    } else {
-        None
-    }
+    ((next as u32) < end).then_some(PackFault::MethodOverlaps(method.method_offset, next))
 }
 
 /// No two described methods share a byte of the info. An overlap is one of neighbours: each method is asked whether it
@@ -71,13 +67,9 @@ fn outside_fault(info: View<'_>, handler_count: u8, method: &MethodInfo) -> Opti
     ensures { result ≡ outside_fault info.entry.bytes.now handler_count (method_seen method.now) }
 {
     let table_end = 1 + 8 * handler_count as u32;
-    if (method.method_offset as u32) < table_end
-        || (info.bytes.len() as u32) < code_end(info, method)
-    {
-        Some(PackFault::MethodOutside(method.method_offset))
-    } else {
-        None
-    }
+    let offset = method.method_offset;
+    let outside = (offset as u32) < table_end || (info.bytes.len() as u32) < code_end(info, method);
+    outside.then_some(PackFault::MethodOutside(offset))
 }
 
 /// No described method begins in the handler table or reaches past the info.
@@ -90,8 +82,7 @@ pub(crate) fn methods_inside(
     requires { length info.bytes.now ≤ 65535 }
     ensures { result ≡ refused (least_of (outside_fault info.entry.bytes.now handler_count) (methods_but_left described.entry)) }
 {
-    let least = least_from(None, described, |method| {
+    refuse(least_from(None, described, |method| {
         outside_fault(info, handler_count, &method)
-    });
-    refuse(least)
+    }))
 }

@@ -21,11 +21,7 @@ use offset_set::Offsets;
 fn no_method_fault(described: &Offsets, offset: u16) -> Option<PackFault>
     ensures { result ≡ no_method_fault (holds described.now) offset }
 {
-    if described.has(offset) {
-        None
-    } else {
-        Some(PackFault::NoMethodAt(offset))
-    }
+    (!described.has(offset)).then_some(PackFault::NoMethodAt(offset))
 }
 
 #[tactic(auto, unfolding(crate::specs::NameChecks::no_entry_fault))]
@@ -113,11 +109,7 @@ pub(crate) fn installs_named(
 fn no_static_fault(fields: &Offsets, offset: u16) -> Option<PackFault>
     ensures { result ≡ no_static_fault (holds fields.now) offset }
 {
-    if fields.has(offset) {
-        None
-    } else {
-        Some(PackFault::NoStaticAt(offset))
-    }
+    (!fields.has(offset)).then_some(PackFault::NoStaticAt(offset))
 }
 
 /// The least fault so far, when offsets of static fields were looked up.

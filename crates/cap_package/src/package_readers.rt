@@ -174,8 +174,5 @@ fn custom_of<'a>(all: &Components<'_, 'a>, tag: u8) -> Option<Custom<'a>>
 fn info_or_none<'a>(parts: &Parts<'a>, tag: u8) -> View<'a>
     ensures { result.bytes.now ≡ info_or_none (info_in parts.now tag) }
 {
-    match info_in(parts, tag) {
-        Ok(info) => info,
-        Err(_) => View::of(&[]),
-    }
+    info_in(parts, tag).unwrap_or(View::of(&[]))
 }

@@ -79,11 +79,8 @@ fn reaches(place: &StaticPlace, next: Option<u16>) -> Option<PackFault>
     ensures { result ≡ reach_by StaticOverlaps place.now.offset (static_end (place_seen place.now)) next }
 {
     let next = next?;
-    if (next as u32) < place.offset as u32 + width_of(place.ty) {
-        Some(PackFault::StaticOverlaps(place.offset, next))
-    } else {
-        None
-    }
+    let overlaps = (next as u32) < place.offset as u32 + width_of(place.ty);
+    overlaps.then_some(PackFault::StaticOverlaps(place.offset, next))
 }
 
 /// No two static fields share a byte. An overlap is one of neighbours: each field is asked whether it reaches to the
@@ -129,11 +126,7 @@ fn image_fault(
     ensures { result ≡ image_fault (statics_seen statics.now) (description descriptor.now) (field_seen field.now) }
 {
     let place = place_in(descriptor, field)?;
-    if is_in_image(statics, &place) {
-        None
-    } else {
-        Some(PackFault::StaticOutside(place.offset))
-    }
+    (!is_in_image(statics, &place)).then_some(PackFault::StaticOutside(place.offset))
 }
 
 /// The types of the initial arrays, in the order in which they fill the references.
@@ -169,10 +162,8 @@ fn filled_fault(kinds: &[u8], descriptor: &DescPart<'_>, field: &FieldInfo) -> O
 {
     let kind = kind_at(kinds, image_offset(field))?;
     let place = place_in(descriptor, field)?;
-    if place.ty.nibble as u16 == kind as u16 + 8 {
-        return None;
-    }
-    Some(PackFault::StaticOutside(place.offset))
+    let differs = place.ty.nibble as u16 != kind as u16 + 8;
+    differs.then_some(PackFault::StaticOutside(place.offset))
 }
 
 /// The least fault so far, when the fields were compared with initial arrays of these types.
@@ -215,21 +206,8 @@ fn filled_faults(
     filled_by(kinds.as_slice(), descriptor, fields, least)
 }
 
-/// The least fault of the fields' places in the image.
-#[tactic(auto, using(first_fault::proofs::LeastFound::least_by))]
-fn image_faults(
-    statics: &StaticPart<'_>,
-    descriptor: &DescPart<'_>,
-    fields: FieldsOf<'_>,
-) -> Option<PackFault>
-    ensures { result ≡ least_of (image_fault (statics_seen statics.now) (description descriptor.now)) (fields_of_left fields.entry) }
-{
-    least_from(None, fields, |field| {
-        image_fault(statics, descriptor, &field)
-    })
-}
-
 /// Each static field lies in the part of the image for its kind, and is of the type of its initial array.
+#[tactic(auto, using(first_fault::proofs::LeastFound::least_by))]
 pub(crate) fn statics_in_image(
     statics: &StaticPart<'_>,
     descriptor: &DescPart<'_>,
@@ -239,6 +217,8 @@ pub(crate) fn statics_in_image(
         (least_of (image_fault (statics_seen statics.now) (description descriptor.now)) (fields_of_left fields.entry))
         (filled_fault (array_kinds (statics_seen statics.now).arrays) (description descriptor.now)) (fields_of_left fields.entry)) }
 {
-    let least = image_faults(statics, descriptor, fields);
+    let least = least_from(None, fields, |field| {
+        image_fault(statics, descriptor, &field)
+    });
     refuse(filled_faults(statics, descriptor, fields, least))
 }

@@ -21,10 +21,8 @@ const INTERFACE_WORDS: u16 = 254;
 fn field_type_fault(descriptor: &DescPart<'_>, field: &FieldInfo) -> Option<PackFault>
     ensures { result ≡ field_type_fault (description descriptor.now) (field_seen field.now) }
 {
-    match field_type(descriptor, field.ty) {
-        Some(_) => None,
-        None => Some(PackFault::BadType(field.ty)),
-    }
+    let bad = field_type(descriptor, field.ty).is_none();
+    bad.then_some(PackFault::BadType(field.ty))
 }
 
 #[tactic(auto, unfolding(crate::specs::TypeChecks::method_type_fault))]
@@ -36,29 +34,6 @@ fn method_type_fault(descriptor: &DescPart<'_>, most: u16, method: &MethodInfo) 
         Some(words) if words <= most => None,
         _ => Some(PackFault::BadType(method.type_offset)),
     }
-}
-
-/// The least fault of the types of fields.
-#[tactic(auto, using(first_fault::proofs::LeastFound::least_by))]
-fn field_types(descriptor: &DescPart<'_>) -> Option<PackFault>
-    ensures { result ≡ least_of (field_type_fault (description descriptor.now)) (fields_of (description descriptor.now).items.classes) }
-{
-    least_from(None, descriptor.fields(), |field| {
-        field_type_fault(descriptor, &field)
-    })
-}
-
-/// The least fault so far, when the types of all methods were looked at.
-#[tactic(auto, using(first_fault::proofs::LeastFound::least_by))]
-fn method_types(descriptor: &DescPart<'_>, least: Option<PackFault>) -> Option<PackFault>
-    ensures { result
-        ≡ least_from least
-        (method_type_fault (description descriptor.now) 510)
-        (methods_of (description descriptor.now).items.classes) }
-{
-    least_from(least, descriptor.methods(), |method| {
-        method_type_fault(descriptor, ANY_WORDS, &method)
-    })
 }
 
 /// The least fault so far, when the types of the methods of an interface were looked at.
@@ -97,6 +72,7 @@ fn interface_types(
 }
 
 /// Each field and method names a well-formed type descriptor of its shape.
+#[tactic(auto, using(first_fault::proofs::LeastFound::least_by))]
 pub(crate) fn types_fit(descriptor: &DescPart<'_>, interfaces: &Offsets) -> Result<(), PackFault>
     ensures { result ≡ refused
         (least_from
@@ -106,7 +82,11 @@ pub(crate) fn types_fit(descriptor: &DescPart<'_>, interfaces: &Offsets) -> Resu
         (method_type_fault (description descriptor.now) 254)
         (methods_in (holds interfaces.now) (description descriptor.now).items.classes)) }
 {
-    let fields = field_types(descriptor);
-    let methods = method_types(descriptor, fields);
+    let fields = least_from(None, descriptor.fields(), |field| {
+        field_type_fault(descriptor, &field)
+    });
+    let methods = least_from(fields, descriptor.methods(), |method| {
+        method_type_fault(descriptor, ANY_WORDS, &method)
+    });
     refuse(interface_types(descriptor, interfaces, methods))
 }
