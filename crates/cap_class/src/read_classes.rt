@@ -86,7 +86,7 @@ fn signature_pool<'a>(items: &mut Cursor<'a>, format: Format) -> Result<&'a [u8]
 
 /// The Class component that the info is in the format that the Header names, or the first item that
 /// breaks it.
-#[tactic(auto, using(cap_bytes::proofs::Laws::whole, crate::proofs::Standing::classes_stand), unfolding(cap_bytes::specs::Reading::reading))]
+#[tactic(auto, using(crate::proofs::Standing::classes))]
 pub fn classes(info: View<'_>, format: Format) -> Result<ClassPart<'_>, FormFault>
     requires { length info.bytes.now ≤ 65535 }
     ensures found { IfOk result (λ x. Stands (classes_info format) info.entry.bytes.now (records x)) }
