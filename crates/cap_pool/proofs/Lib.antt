@@ -1,2 +1,3 @@
 pub mod EntryWidth
 pub mod OwnMethods
+mod Standing

@@ -1,7 +1,6 @@
 ghost use Rattle.std.specs.Prelude.{◌≡◌, ◌≤◌, length, IfOk, IfErr};
 ghost use Rattle.cap_bytes.specs.Exact.{IsExact};
 ghost use Rattle.cap_bytes.specs.Spelling.{info_of, Stands, Breaks};
-ghost use Rattle.cap_bytes.specs.Taking.{Reads};
 ghost use Rattle.cap_pool.specs.Export.{export_seen};
 ghost use Rattle.cap_pool.specs.ExportFormat.{export_info};
 
@@ -14,22 +13,12 @@ use cap_bytes::{Cursor, FormFault, View};
 const EXPORT: u8 = 10;
 
 /// Reads the info of an Export component.
-#[tactic(auto, using(cap_bytes::proofs::Laws::whole))]
+#[tactic(auto, using(crate::proofs::Standing::export, cap_bytes::proofs::Loops::passing, cap_bytes::proofs::Loops::yielding))]
 pub fn export(info: View<'_>) -> Result<Export<'_>, FormFault>
     requires { length info.bytes.now ≤ 65535 }
     ensures found { IfOk result (λ x. Stands export_info info.entry.bytes.now (export_seen x)) }
     ensures fault { IfErr result (λ e. Breaks (info_of 10) export_info info.entry.bytes.now 0 e) }
     ensures exact { IsExact (info_of 10) export_info info.entry.bytes.now }
-    ensures info { IfOk result (λ x. x.info ≡ info.entry) }
-{
-    read(info)
-}
-
-/// The items of the component.
-#[tactic(auto, using(cap_bytes::proofs::Loops::passing, cap_bytes::proofs::Loops::yielding), unfolding(cap_bytes::specs::Reading::reading))]
-fn read(info: View<'_>) -> Result<Export<'_>, FormFault>
-    requires { length info.bytes.now ≤ 65535 }
-    ensures value { Reads export_seen (info_of 10) export_info info.entry.bytes.now result }
     ensures info { IfOk result (λ x. x.info ≡ info.entry) }
 {
     let mut items = Cursor::of(info, EXPORT);

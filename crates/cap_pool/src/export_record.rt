@@ -31,30 +31,21 @@ impl<'a> Export<'a> {
     pub fn class(&self, n: u8) -> Option<ExportClass>
         ensures { result ≡ option_map head_of (slice_get (export_seen self.now) n) }
     {
-        match self.exported(n) {
-            Some(exported) => Some(exported.class),
-            None => None,
-        }
+        Some(self.exported(n)?.class)
     }
 
     /// The offset of a class's static field with this token.
     pub fn field(&self, class: u8, n: u8) -> Option<u16>
         ensures { result ≡ field_offset_in (export_seen self.now) class n }
     {
-        match self.exported(class) {
-            Some(class) => class.fields.at(n as u16),
-            None => None,
-        }
+        self.exported(class)?.fields.at(n as u16)
     }
 
     /// The offset of a class's static method with this token.
     pub fn method(&self, class: u8, n: u8) -> Option<u16>
         ensures { result ≡ method_offset_in (export_seen self.now) class n }
     {
-        match self.exported(class) {
-            Some(class) => class.methods.at(n as u16),
-            None => None,
-        }
+        self.exported(class)?.methods.at(n as u16)
     }
 
     /// The class with this token, with its offsets.

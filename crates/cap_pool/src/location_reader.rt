@@ -1,7 +1,6 @@
 ghost use Rattle.std.specs.Prelude.{◌≡◌, ◌≤◌, length, IfOk, IfErr};
 ghost use Rattle.cap_bytes.specs.Exact.{IsExact};
 ghost use Rattle.cap_bytes.specs.Spelling.{info_of, Stands, Breaks};
-ghost use Rattle.cap_bytes.specs.Taking.{Reads};
 ghost use Rattle.cap_pool.specs.LocationFormat.{locations_info};
 ghost use Rattle.cap_pool.specs.Locations.{location_items};
 
@@ -12,22 +11,12 @@ use cap_bytes::{Cursor, FormFault, View};
 const REFERENCE_LOCATION: u8 = 9;
 
 /// Reads the info of a ReferenceLocation component: its shape alone, not where the distances lead.
-#[tactic(auto, using(cap_bytes::proofs::Laws::whole))]
+#[tactic(auto, using(crate::proofs::Standing::locations))]
 pub fn locations(info: View<'_>) -> Result<Locations<'_>, FormFault>
     requires { length info.bytes.now ≤ 65535 }
     ensures found { IfOk result (λ x. Stands locations_info info.entry.bytes.now (location_items x)) }
     ensures fault { IfErr result (λ e. Breaks (info_of 9) locations_info info.entry.bytes.now 0 e) }
     ensures exact { IsExact (info_of 9) locations_info info.entry.bytes.now }
-    ensures info { IfOk result (λ x. x.info ≡ info.entry) }
-{
-    read(info)
-}
-
-/// The items of the component.
-#[tactic(auto, unfolding(cap_bytes::specs::Reading::reading))]
-fn read(info: View<'_>) -> Result<Locations<'_>, FormFault>
-    requires { length info.bytes.now ≤ 65535 }
-    ensures value { Reads location_items (info_of 9) locations_info info.entry.bytes.now result }
     ensures info { IfOk result (λ x. x.info ≡ info.entry) }
 {
     let mut items = Cursor::of(info, REFERENCE_LOCATION);

@@ -54,21 +54,12 @@ impl PoolEntry {
         ensures { result ≡ referred (entry_seen self) }
     {
         let PoolEntry { tag, bytes } = self;
-        let token = self.token();
+        let (class, token) = (class_in(bytes), self.token());
         match tag {
-            1 => PoolReference::Class(class_in(bytes)),
-            2 => PoolReference::InstanceField {
-                class: class_in(bytes),
-                token,
-            },
-            3 => PoolReference::VirtualMethod {
-                class: class_in(bytes),
-                token,
-            },
-            4 => PoolReference::SuperMethod {
-                class: class_in(bytes),
-                token,
-            },
+            1 => PoolReference::Class(class),
+            2 => PoolReference::InstanceField { class, token },
+            3 => PoolReference::VirtualMethod { class, token },
+            4 => PoolReference::SuperMethod { class, token },
             5 => PoolReference::StaticField(static_in(bytes)),
             _ => PoolReference::StaticMethod(static_in(bytes)),
         }
