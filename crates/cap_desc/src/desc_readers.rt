@@ -47,11 +47,9 @@ impl<'a> DescPart<'a> {
     pub fn methods(&self) -> MethodsOf<'a>
         ensures { methods_of_left result ≡ methods_of (descriptor_seen self.now).classes }
     {
+        let items = self.classes.items;
         MethodsOf {
-            methods: DescMethods {
-                items: self.classes.items,
-                left: 0,
-            },
+            methods: DescMethods { items, left: 0 },
             classes: self.classes,
         }
     }
@@ -61,11 +59,9 @@ impl<'a> DescPart<'a> {
     pub fn methods_but<'s>(&self, set: &'s Offsets) -> MethodsBut<'a, 's>
         ensures { methods_but_left result ≡ methods_but (holds set.now) (descriptor_seen self.now).classes }
     {
+        let items = self.classes.items;
         MethodsBut {
-            methods: DescMethods {
-                items: self.classes.items,
-                left: 0,
-            },
+            methods: DescMethods { items, left: 0 },
             classes: self.classes,
             set,
         }
@@ -76,11 +72,9 @@ impl<'a> DescPart<'a> {
     pub fn fields(&self) -> FieldsOf<'a>
         ensures { fields_of_left result ≡ fields_of (descriptor_seen self.now).classes }
     {
+        let items = self.classes.items;
         FieldsOf {
-            fields: DescFields {
-                items: self.classes.items,
-                left: 0,
-            },
+            fields: DescFields { items, left: 0 },
             classes: self.classes,
         }
     }

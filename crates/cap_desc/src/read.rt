@@ -17,22 +17,19 @@ const DESCRIPTOR: u8 = 11;
 
 /// The next so many classes.
 #[tactic(auto, using(cap_bytes::proofs::Loops::passing, cap_bytes::proofs::Loops::yielding))]
-fn classes<'a>(items: &mut Cursor<'a>, count: u8) -> Result<DescClasses<'a>, FormFault>
-    ensures { Takes described_left (repeat count class_descriptor_info) items.old result items.new }
+fn classes<'a>(items: &mut Cursor<'a>, left: u8) -> Result<DescClasses<'a>, FormFault>
+    ensures { Takes described_left (repeat left class_descriptor_info) items.old result items.new }
 {
     let first = *items;
-    'classes: for _ in 0..count {
+    'classes: for _ in 0..left {
         take::class_descriptor_info(items)?;
     }
-    Ok(DescClasses {
-        items: first,
-        left: count,
-    })
+    Ok(DescClasses { items: first, left })
 }
 
 /// The Descriptor component that the info is, or the first item that breaks its format. The type
 /// descriptors after the pool's types are not read.
-#[tactic(auto, using(cap_bytes::proofs::Laws::whole, crate::proofs::Standing::descriptor_stands), unfolding(cap_bytes::specs::Reading::reading))]
+#[tactic(auto, using(crate::proofs::Standing::descriptor))]
 pub fn descriptor(info: View<'_>) -> Result<DescPart<'_>, FormFault>
     requires { length info.bytes.now ≤ 65535 }
     ensures found { IfOk result (λ x. Stands descriptor_info info.entry.bytes.now (descriptor_seen x)) }

@@ -42,28 +42,22 @@ pub(crate) fn method_descriptor_info(items: &mut Cursor<'_>) -> Result<MethodInf
 
 /// The next so many fields.
 #[inline(always)]
-pub(crate) fn fields<'a>(items: &mut Cursor<'a>, count: u16) -> Result<DescFields<'a>, FormFault>
-    ensures { Takes fields_left (repeat count field_descriptor_info) items.old result items.new }
+pub(crate) fn fields<'a>(items: &mut Cursor<'a>, left: u16) -> Result<DescFields<'a>, FormFault>
+    ensures { Takes fields_left (repeat left field_descriptor_info) items.old result items.new }
 {
     let first = *items;
-    items.piece(7 * count as u32)?;
-    Ok(DescFields {
-        items: first,
-        left: count,
-    })
+    items.piece(7 * left as u32)?;
+    Ok(DescFields { items: first, left })
 }
 
 /// The next so many methods.
 #[inline(always)]
-pub(crate) fn methods<'a>(items: &mut Cursor<'a>, count: u16) -> Result<DescMethods<'a>, FormFault>
-    ensures { Takes methods_left (repeat count method_descriptor_info) items.old result items.new }
+pub(crate) fn methods<'a>(items: &mut Cursor<'a>, left: u16) -> Result<DescMethods<'a>, FormFault>
+    ensures { Takes methods_left (repeat left method_descriptor_info) items.old result items.new }
 {
     let first = *items;
-    items.piece(12 * count as u32)?;
-    Ok(DescMethods {
-        items: first,
-        left: count,
-    })
+    items.piece(12 * left as u32)?;
+    Ok(DescMethods { items: first, left })
 }
 
 /// The next `class_descriptor_info`.

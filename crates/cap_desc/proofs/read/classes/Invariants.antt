@@ -3,4 +3,4 @@ use Rattle.cap_desc.specs.DescriptorFormat.{class_descriptor_info}
 use Rattle.cap_desc.proofs.read.classes.Given as goal
 
 abbrev pub invariant-classes : goal.invariant-classes
-invariant-classes l = HasPassed class_descriptor_info l.count l.initial.items l.counter l.items
+invariant-classes l = HasPassed class_descriptor_info l.left l.initial.items l.counter l.items
