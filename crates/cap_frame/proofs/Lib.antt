@@ -1,1 +1,2 @@
 pub mod Customs
+mod Standing

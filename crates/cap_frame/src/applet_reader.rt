@@ -1,7 +1,7 @@
 ghost use Rattle.std.specs.Prelude.{◌≡◌, ◌≤◌, length, IfOk, IfErr};
 ghost use Rattle.cap_bytes.specs.Exact.{IsExact};
 ghost use Rattle.cap_bytes.specs.Spelling.{info_of, Stands, Breaks};
-ghost use Rattle.cap_bytes.specs.Taking.{Takes, Reads};
+ghost use Rattle.cap_bytes.specs.Taking.{Takes};
 ghost use Rattle.cap_frame.specs.AppletFormat.{applet_info, applets_info};
 ghost use Rattle.cap_frame.specs.Applets.{applet_seen, applets_of};
 
@@ -13,22 +13,12 @@ use cap_bytes::{Cursor, FormFault, View};
 const APPLET: u8 = 3;
 
 /// Reads the info of an Applet component.
-#[tactic(auto, using(cap_bytes::proofs::Laws::whole))]
+#[tactic(auto, using(crate::proofs::Standing::applets, cap_bytes::proofs::Loops::passing, cap_bytes::proofs::Loops::yielding))]
 pub fn applets(info: View<'_>) -> Result<Applets<'_>, FormFault>
     requires { length info.bytes.now ≤ 65535 }
     ensures found { IfOk result (λ x. Stands applets_info info.entry.bytes.now (applets_of x)) }
     ensures fault { IfErr result (λ e. Breaks (info_of 3) applets_info info.entry.bytes.now 0 e) }
     ensures exact { IsExact (info_of 3) applets_info info.entry.bytes.now }
-    ensures info { IfOk result (λ x. x.info ≡ info.entry) }
-{
-    read(info)
-}
-
-/// The items of the component.
-#[tactic(auto, using(cap_bytes::proofs::Loops::passing, cap_bytes::proofs::Loops::yielding), unfolding(cap_bytes::specs::Reading::reading))]
-fn read(info: View<'_>) -> Result<Applets<'_>, FormFault>
-    requires { length info.bytes.now ≤ 65535 }
-    ensures value { Reads applets_of (info_of 3) applets_info info.entry.bytes.now result }
     ensures info { IfOk result (λ x. x.info ≡ info.entry) }
 {
     let mut items = Cursor::of(info, APPLET);

@@ -1,7 +1,7 @@
 ghost use Rattle.std.specs.Prelude.{◌≡◌, ◌≤◌, length, IfOk, IfErr};
 ghost use Rattle.cap_bytes.specs.Exact.{IsExact};
 ghost use Rattle.cap_bytes.specs.Spelling.{info_of, Stands, Breaks};
-ghost use Rattle.cap_bytes.specs.Taking.{Takes, Reads};
+ghost use Rattle.cap_bytes.specs.Taking.{Takes};
 ghost use Rattle.cap_frame.specs.Directory.{custom_seen, customs_left, image_sizes_seen, directory_items};
 ghost use Rattle.cap_frame.specs.DirectoryFormat.{custom_info, after_tag, customs_info, none, size_count, image_sizes_info, directory_info};
 ghost use Rattle.cap_frame.specs.Tags.{named_in};
@@ -14,22 +14,12 @@ use cap_bytes::{Cursor, FormFault, FormKind, Format, View};
 const DIRECTORY: u8 = 2;
 
 /// Reads the info of a Directory component in the format that the Header names.
-#[tactic(auto, using(cap_bytes::proofs::Laws::whole))]
+#[tactic(auto, using(crate::proofs::Standing::directory, cap_bytes::proofs::Loops::yielding))]
 pub fn directory(info: View<'_>, format: Format) -> Result<Directory<'_>, FormFault>
     requires { length info.bytes.now ≤ 65535 }
     ensures found { IfOk result (λ x. Stands (directory_info format) info.entry.bytes.now (directory_items x)) }
     ensures fault { IfErr result (λ e. Breaks (info_of 2) (directory_info format) info.entry.bytes.now 0 e) }
     ensures exact { IsExact (info_of 2) (directory_info format) info.entry.bytes.now }
-    ensures info { IfOk result (λ x. x.info ≡ info.entry) }
-{
-    read(info, format)
-}
-
-/// The items of the component.
-#[tactic(auto, using(cap_bytes::proofs::Loops::yielding), unfolding(cap_bytes::specs::Reading::reading))]
-fn read(info: View<'_>, format: Format) -> Result<Directory<'_>, FormFault>
-    requires { length info.bytes.now ≤ 65535 }
-    ensures value { Reads directory_items (info_of 2) (directory_info format) info.entry.bytes.now result }
     ensures info { IfOk result (λ x. x.info ≡ info.entry) }
 {
     let mut items = Cursor::of(info, DIRECTORY);
@@ -63,13 +53,10 @@ fn size_count(format: Format) -> u16
 fn image_sizes(items: &mut Cursor<'_>) -> Result<ImageSizes, FormFault>
     ensures { Takes image_sizes_seen image_sizes_info items.old result items.new }
 {
-    let image_size = items.u2()?;
-    let array_init_count = items.u2()?;
-    let array_init_size = items.u2()?;
     Ok(ImageSizes {
-        image_size,
-        array_init_count,
-        array_init_size,
+        image_size: items.u2()?,
+        array_init_count: items.u2()?,
+        array_init_size: items.u2()?,
     })
 }
 

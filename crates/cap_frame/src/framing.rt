@@ -1,28 +1,17 @@
 ghost use Rattle.std.specs.Prelude.{◌≡◌, ◌≤◌, length, IfOk, IfErr};
 ghost use Rattle.cap_bytes.specs.Exact.{IsExact};
 ghost use Rattle.cap_bytes.specs.Spelling.{file_of, fault_at, Stands, Breaks};
-ghost use Rattle.cap_bytes.specs.Taking.{Reads};
 ghost use Rattle.cap_frame.specs.Frame.{component};
-ghost use Rattle.cap_frame.specs.Framed.{info_bytes};
 
 use byteorder::{BigEndian, ByteOrder};
 use cap_bytes::{FormFault, FormKind, Part, View};
 
 /// The info of a component's file (section 6.1): the bytes after its tag and its size.
-#[tactic(auto, using(cap_bytes::proofs::Laws::whole))]
+#[tactic(auto, using(crate::proofs::Standing::component_file))]
 pub fn frame(bytes: &[u8], part: Part) -> Result<View<'_>, FormFault>
     ensures found { IfOk result (λ info. Stands (component part.0) bytes.entry.now info.bytes.now) }
     ensures fault { IfErr result (λ e. Breaks (file_of part.0) (component part.0) bytes.entry.now 0 e) }
     ensures exact { IsExact (file_of part.0) (component part.0) bytes.entry.now }
-    ensures few { IfOk result (λ info. length info.bytes.now ≤ 65535) }
-{
-    framed(bytes, part)
-}
-
-/// The bytes after the tag and the size, as many as the size tells.
-#[tactic(auto, unfolding(cap_bytes::specs::Reading::reading))]
-fn framed(bytes: &[u8], part: Part) -> Result<View<'_>, FormFault>
-    ensures value { Reads info_bytes (file_of part.0) (component part.0) bytes.entry.now result }
     ensures few { IfOk result (λ info. length info.bytes.now ≤ 65535) }
 {
     if bytes.len() < 3 {

@@ -1,9 +1,9 @@
 ghost use Rattle.std.specs.Prelude.{◌≡◌, ◌≤◌, length, IfOk, IfErr};
 ghost use Rattle.cap_bytes.specs.Exact.{IsExact};
 ghost use Rattle.cap_bytes.specs.Spelling.{info_of, Stands, Breaks};
-ghost use Rattle.cap_bytes.specs.Taking.{Takes, Reads, same, bytes};
+ghost use Rattle.cap_bytes.specs.Taking.{Takes, same, bytes};
 ghost use Rattle.cap_frame.specs.Header.{header_items};
-ghost use Rattle.cap_frame.specs.HeaderFormat.{magic, version, format_of, name_info, header_info};
+ghost use Rattle.cap_frame.specs.HeaderFormat.{magic, version, name_info, header_info};
 
 use crate::header_flags::HeaderFlags;
 use crate::header_record::Header;
@@ -14,22 +14,12 @@ use cap_bytes::{Cursor, FormFault, FormKind, Format, View};
 const HEADER: u8 = 1;
 
 /// Reads the info of a Header component.
-#[tactic(auto, using(cap_bytes::proofs::Laws::whole))]
+#[tactic(auto, using(crate::proofs::Standing::header))]
 pub fn header(info: View<'_>) -> Result<Header<'_>, FormFault>
     requires { length info.bytes.now ≤ 65535 }
     ensures found { IfOk result (λ x. Stands header_info info.entry.bytes.now (header_items x)) }
     ensures fault { IfErr result (λ e. Breaks (info_of 1) header_info info.entry.bytes.now 0 e) }
     ensures exact { IsExact (info_of 1) header_info info.entry.bytes.now }
-    ensures info { IfOk result (λ x. x.info ≡ info.entry) }
-{
-    read(info)
-}
-
-/// The items of the component.
-#[tactic(auto, unfolding(cap_bytes::specs::Reading::reading))]
-fn read(info: View<'_>) -> Result<Header<'_>, FormFault>
-    requires { length info.bytes.now ≤ 65535 }
-    ensures value { Reads header_items (info_of 1) header_info info.entry.bytes.now result }
     ensures info { IfOk result (λ x. x.info ≡ info.entry) }
 {
     let mut items = Cursor::of(info, HEADER);
@@ -75,14 +65,7 @@ fn version(items: &mut Cursor<'_>) -> Result<Format, FormFault>
     if items.u1()? != 2 {
         return Err(major_place.fault(FormKind::BadVersion));
     }
-    Ok(format_of(minor))
-}
-
-/// The format with a minor version.
-fn format_of(minor: u8) -> Format
-    ensures { result ≡ format_of minor }
-{
-    if minor == 1 { Format::V21 } else { Format::V22 }
+    Ok(if minor == 1 { Format::V21 } else { Format::V22 })
 }
 
 /// The package's name.

@@ -1,7 +1,6 @@
 ghost use Rattle.std.specs.Prelude.{◌≡◌, ◌≤◌, length, IfOk, IfErr};
 ghost use Rattle.cap_bytes.specs.Exact.{IsExact};
 ghost use Rattle.cap_bytes.specs.Spelling.{info_of, Stands, Breaks};
-ghost use Rattle.cap_bytes.specs.Taking.{Reads};
 ghost use Rattle.cap_frame.specs.ImportFormat.{imports_info};
 ghost use Rattle.cap_frame.specs.Imports.{packages};
 
@@ -14,22 +13,12 @@ use cap_bytes::{Cursor, FormFault, View};
 const IMPORT: u8 = 4;
 
 /// Reads the info of an Import component.
-#[tactic(auto, using(cap_bytes::proofs::Laws::whole))]
+#[tactic(auto, using(crate::proofs::Standing::imports, cap_bytes::proofs::Loops::passing, cap_bytes::proofs::Loops::yielding))]
 pub fn imports(info: View<'_>) -> Result<Imports<'_>, FormFault>
     requires { length info.bytes.now ≤ 65535 }
     ensures found { IfOk result (λ x. Stands imports_info info.entry.bytes.now (packages x)) }
     ensures fault { IfErr result (λ e. Breaks (info_of 4) imports_info info.entry.bytes.now 0 e) }
     ensures exact { IsExact (info_of 4) imports_info info.entry.bytes.now }
-    ensures info { IfOk result (λ x. x.info ≡ info.entry) }
-{
-    read(info)
-}
-
-/// The items of the component.
-#[tactic(auto, using(cap_bytes::proofs::Loops::passing, cap_bytes::proofs::Loops::yielding), unfolding(cap_bytes::specs::Reading::reading))]
-fn read(info: View<'_>) -> Result<Imports<'_>, FormFault>
-    requires { length info.bytes.now ≤ 65535 }
-    ensures value { Reads packages (info_of 4) imports_info info.entry.bytes.now result }
     ensures info { IfOk result (λ x. x.info ≡ info.entry) }
 {
     let mut items = Cursor::of(info, IMPORT);
