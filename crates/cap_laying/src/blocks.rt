@@ -1,7 +1,5 @@
-ghost use Rattle.std.specs.Prelude.{◌≡◌, ◌≤◌, ◌+◌, ◌++◌, IfOk, OnOk, filter, length};
-ghost use Rattle.std.specs.List.{flat_map};
-ghost use Rattle.std.specs.Option.{option_to_list};
-ghost use Rattle.cap_laying.specs.Blocks.{ArePlacedBodies, IsPlacedBody, blocks, entries_of_blocks, firsts, had_none, handler_indexes, total_handlers};
+ghost use Rattle.std.specs.Prelude.{◌≡◌, ◌≤◌, ◌+◌, ◌++◌, IfOk, OnOk, length};
+ghost use Rattle.cap_laying.specs.Blocks.{ArePlacedBodies, IsPlacedBody, blocks, entries_of_blocks, firsts, handler_indexes, total_handlers};
 ghost use Rattle.cap_laying.specs.HandlerTable.{entries_at, table_bytes};
 ghost use Rattle.cap_laying.specs.Member.{AreWithin, handlers_of, lead_size};
 ghost use Rattle.cap_laying.specs.MethodInfo.{AreSmallEntries};
@@ -23,8 +21,16 @@ pub(crate) fn block_order<'a>(
 {
     let firsts = firsts(alloc, room, members)?;
     let mut blocks = Vec::new(alloc);
-    put_present(&firsts, &mut blocks)?;
-    put_late(members, &mut blocks)?;
+    'slots: for slot in &firsts {
+        if let Some(member) = slot {
+            blocks.push(*member)?;
+        }
+    }
+    'members: for member in members {
+        if member.handlers_from.is_none() {
+            blocks.push(*member)?;
+        }
+    }
     Ok(blocks)
 }
 
@@ -45,34 +51,6 @@ fn firsts<'a>(
         }
     }
     Ok(table)
-}
-
-fn put_present<'a>(
-    table: &[Option<WrittenMember<'a>>],
-    out: &mut Vec<WrittenMember<'a>>,
-) -> Result<(), AllocError>
-    ensures { OnOk result (out.new.items ≡ out.old.items ++ flat_map option_to_list table.now) }
-{
-    'slots: for slot in table {
-        if let Some(member) = slot {
-            out.push(*member)?;
-        }
-    }
-    Ok(())
-}
-
-fn put_late<'a>(
-    members: &[WrittenMember<'a>],
-    out: &mut Vec<WrittenMember<'a>>,
-) -> Result<(), AllocError>
-    ensures { OnOk result (out.new.items ≡ out.old.items ++ filter had_none members.now) }
-{
-    'members: for member in members {
-        if member.handlers_from.is_none() {
-            out.push(*member)?;
-        }
-    }
-    Ok(())
 }
 
 /// The handlers of a method.

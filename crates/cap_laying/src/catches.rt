@@ -1,5 +1,5 @@
 ghost use Rattle.std.specs.Prelude.{◌≡◌, ◌≤◌, ◌<◌, ◌+◌, ◌*◌, length, take, OnOk, OnErr};
-ghost use Rattle.cap_laying.specs.Catches.{catch_place, catch_places};
+ghost use Rattle.cap_laying.specs.Catches.{catch_places};
 ghost use Rattle.cap_laying.specs.Telling.{IsFew, AppendsDistances};
 
 use crate::told::ToldPlaces;
@@ -24,25 +24,11 @@ pub fn tell_catches(
 {
     let mut at = start;
     'handlers: for handler in handlers {
-        tell_catch(at, handler.pool, told)?;
+        let place = at + 6;
         at += 8;
-    }
-    Ok(())
-}
-
-/// Tells the place of the pool number in an entry, unless it is 0.
-#[tactic(auto, using(crate::proofs::Tellings::tells_none))]
-fn tell_catch(at: u16, pool: u16, told: &mut ToldPlaces) -> Result<(), AllocError>
-    requires end { at + 8 ≤ 65535 }
-    requires order { told.old.last ≤ at }
-    requires few { IsFew told.old }
-    ensures told { OnOk result (AppendsDistances told.old (catch_place at pool) told.new) }
-    ensures few { OnOk result (IsFew told.new) }
-    ensures last { OnOk result (told.new.last ≤ at + 8) }
-    ensures begun { OnErr result (take (length told.old.bytes.items) told.new.bytes.items ≡ told.old.bytes.items) }
-{
-    if pool != 0 {
-        told.tell(at + 6)?;
+        if handler.pool != 0 {
+            told.tell(place)?;
+        }
     }
     Ok(())
 }

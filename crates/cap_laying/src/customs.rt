@@ -1,7 +1,7 @@
 ghost use Rattle.std.specs.Prelude.{◌≡◌, ◌≤◌, ◌+◌, ◌++◌, filter, length, OnOk};
 ghost use Rattle.std.specs.List.{flat_map};
 ghost use Rattle.cap_laying.specs.DirectoryBytes.{AreShort, custom_bytes, customs_size};
-ghost use Rattle.cap_laying.specs.NewDirectory.{index_entry, kept_bytes, kept_count, kept_size, stays_in_index};
+ghost use Rattle.cap_laying.specs.NewDirectory.{index_entry, kept_count, kept_size, stays_in_index};
 ghost use Rattle.cap_frame.specs.Directory.{custom_seen, directory_items};
 
 use crate::sizes::IndexChange;
@@ -87,25 +87,11 @@ pub(crate) fn put_customs(
         ≡ out.old.items ++ flat_map custom_bytes (filter (stays_in_index change) (directory_items directory.now).customs)) }
 {
     'customs: for custom in directory.customs() {
-        put_kept(change, &custom, out)?;
+        if stays(change, &custom) {
+            put_custom(custom.tag, custom.size, custom.aid, out)?;
+        }
     }
     Ok(())
-}
-
-/// Appends a custom component if it stays.
-fn put_kept(
-    change: IndexChange,
-    custom: &CustomEntry<'_>,
-    out: &mut Vec<u8>,
-) -> Result<(), AllocError>
-    requires { length custom.now.aid.now ≤ 16 }
-    ensures { OnOk result (out.new.items ≡ out.old.items ++ kept_bytes change (custom_seen custom.now)) }
-{
-    if stays(change, custom) {
-        put_custom(custom.tag, custom.size, custom.aid, out)
-    } else {
-        Ok(())
-    }
 }
 
 /// Appends the entry of a target index that is written.

@@ -1,4 +1,4 @@
-ghost use Rattle.std.specs.Prelude.{◌≡◌, ◌≤◌, ◌<◌, ◌+◌, Some, length, take, OnOk, OnErr};
+ghost use Rattle.std.specs.Prelude.{◌≡◌, ◌≤◌, ◌<◌, ◌+◌, length, take, OnOk, OnErr};
 ghost use Rattle.cap_laying.specs.Indices.{HasIndexInside, index_by, indices};
 ghost use Rattle.cap_laying.specs.Telling.{IsFew, AppendsDistances};
 ghost use Rattle.jc_decode.specs.Encoding.{IsAllowed};
@@ -7,7 +7,7 @@ ghost use Rattle.jc_decode.specs.PoolIndex.{bytes_of_index, pool_index};
 
 use crate::told::ToldPlaces;
 use cap_bytes::View;
-use jc_decode::{IndexWidth, Insn, PoolIndex, decode};
+use jc_decode::{IndexWidth, Insn, decode};
 use std::alloc::AllocError;
 
 /// Tells the places of the indices of a width, of the instructions of a code that begins at an offset of the
@@ -55,31 +55,11 @@ fn tell_insn(
     ensures begun { OnErr result (take (length told.old.bytes.items) told.new.bytes.items ≡ told.old.bytes.items) }
 {
     match insn.pool_index() {
-        Some(index) => tell_index(width, place, index, told),
-        None => Ok(()),
+        Some(index) if bytes_of(index.width) == bytes_of(width) => {
+            told.tell(place + u16::from(index.at))
+        }
+        _ => Ok(()),
     }
-}
-
-/// Tells the place of an index where it has this width.
-#[tactic(auto, using(crate::proofs::Tellings::tells_none))]
-fn tell_index(
-    width: IndexWidth,
-    place: u16,
-    index: PoolIndex,
-    told: &mut ToldPlaces,
-) -> Result<(), AllocError>
-    requires end { place + index.at ≤ 65535 }
-    requires order { told.old.last < place + index.at }
-    requires few { IsFew told.old }
-    ensures few { OnOk result (IsFew told.new) }
-    ensures told { OnOk result (AppendsDistances told.old (index_by (bytes_of_index width) place (Some index)) told.new) }
-    ensures last { OnOk result (told.new.last ≤ place + index.at) }
-    ensures begun { OnErr result (take (length told.old.bytes.items) told.new.bytes.items ≡ told.old.bytes.items) }
-{
-    if bytes_of(index.width) == bytes_of(width) {
-        told.tell(place + u16::from(index.at))?;
-    }
-    Ok(())
 }
 
 fn bytes_of(width: IndexWidth) -> u8

@@ -1,4 +1,4 @@
-ghost use Rattle.std.specs.Prelude.{◌≡◌, ◌≤◌, ◌<◌, ◌+◌, IfOk, Some, None, MatchOption, slice_index};
+ghost use Rattle.std.specs.Prelude.{◌≡◌, ◌≤◌, ◌<◌, ◌+◌, IfOk, Some, None, MatchOption};
 ghost use Rattle.cap_laying.specs.Member.{body_size, methods_end_from};
 ghost use Rattle.cap_laying.specs.NewPlaces.{AreSmallBodies, IsSmallBody, new_method, news_from};
 
@@ -83,16 +83,6 @@ fn new_method(indexes: &[u16], at: usize, member: &WrittenMember<'_>) -> NewMeth
         offset: at as u16,
         bytecode_count,
         handler_count,
-        handler_index: index_of(indexes, member.offset),
-    }
-}
-
-/// The index of the method that stood at an offset.
-fn index_of(indexes: &[u16], offset: u16) -> u16
-    ensures { result ≡ slice_index indexes.now offset }
-{
-    match indexes.get(offset as usize) {
-        Some(index) => *index,
-        None => 0,
+        handler_index: indexes.get(member.offset as usize).copied().unwrap_or(0),
     }
 }

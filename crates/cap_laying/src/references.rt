@@ -1,8 +1,8 @@
 ghost use Rattle.std.specs.Prelude.{◌≡◌, ◌≤◌, ◌+◌, ◌*◌, length, IfOk, OnOk};
 ghost use Rattle.cap_laying.specs.Blocks.{total_handlers};
-ghost use Rattle.cap_laying.specs.Member.{body_size, methods_end_from, handlers_of, size_if};
+ghost use Rattle.cap_laying.specs.Member.{methods_end_from, handlers_of, size_if};
 ghost use Rattle.cap_laying.specs.NewPlaces.{AreSmallBodies, IsSmallIf};
-ghost use Rattle.cap_laying.specs.References.{block_catches, body_indices, indices_if, method_indices, references_info};
+ghost use Rattle.cap_laying.specs.References.{block_catches, indices_if, method_indices, references_info};
 ghost use Rattle.cap_laying.specs.Catches.{catch_places};
 ghost use Rattle.cap_laying.specs.Telling.{IsFew, AppendsDistances};
 ghost use Rattle.jc_decode.specs.PoolIndex.{bytes_of_index};
@@ -76,36 +76,17 @@ fn tell_slot(
     ensures last { OnOk result (told.new.last ≤ at + size_if slot.now) }
     ensures end { IfOk result (λ end. end ≡ at + size_if slot.now) }
 {
-    match slot {
-        Some(member) => {
-            tell_body(width, at, member.body, told)?;
-            Ok(at + body_size(member.body) as u16)
-        }
-        None => Ok(at),
-    }
-}
-
-/// Tells those in a method that stands at a place.
-#[tactic(auto, using(crate::proofs::Tellings::tells_none))]
-fn tell_body(
-    width: IndexWidth,
-    at: u16,
-    body: Body<'_>,
-    told: &mut ToldPlaces,
-) -> Result<(), AllocError>
-    requires end { at + body_size body ≤ 65535 }
-    requires order { told.old.last ≤ at }
-    requires few { IsFew told.old }
-    ensures told { OnOk result (AppendsDistances told.old (body_indices (bytes_of_index width) at body.entry) told.new) }
-    ensures few { OnOk result (IsFew told.new) }
-    ensures last { OnOk result (told.new.last ≤ at + body_size body.entry) }
-{
-    match body {
+    let Some(member) = slot else {
+        return Ok(at);
+    };
+    let end = at + body_size(member.body) as u16;
+    match member.body {
         Body::Code(laid) => {
             let code = View::of(laid.code.as_slice());
-            tell_indices(width, at + header_size(laid), code, told)
+            tell_indices(width, at + header_size(laid), code, told)?;
+            Ok(end)
         }
-        Body::Header(_) => Ok(()),
+        Body::Header(_) => Ok(end),
     }
 }
 

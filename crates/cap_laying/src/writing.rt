@@ -93,15 +93,11 @@ fn old_size(directory: &Directory<'_>, tag: u8) -> u16
 fn new_size(own: u16, new: ComponentSizes, tag: u8, old: u16) -> u16
     ensures { result ≡ new_size own new tag old }
 {
-    if tag == 2 {
-        own
-    } else if tag == 7 {
-        new.methods
-    } else if tag == 9 {
-        new.references
-    } else if tag == 12 {
-        0
-    } else {
-        old
+    match tag {
+        2 => own,
+        7 => new.methods,
+        9 => new.references,
+        12 => 0,
+        _ => old,
     }
 }
