@@ -7,7 +7,7 @@ ghost use Rattle.cap_bytes.specs.Edit.{patched_all};
 ghost use Rattle.cap_bytes.specs.Renewal.{Renews};
 ghost use Rattle.cap_renewal.specs.ClassEdits.{class_edits, classes_edits, renewed_class};
 ghost use Rattle.cap_renewal.specs.NewMethods.{to};
-ghost use Rattle.cap_renewal.specs.Rooms.{AllRooms, TablesFit};
+ghost use Rattle.cap_renewal.specs.Rooms.{TablesFit};
 
 use crate::new_methods::{NewMethods, are_small};
 use crate::tables::renew_table;
@@ -25,15 +25,6 @@ pub fn renew_classes(classes: &ClassPart<'_>, news: &NewMethods, info: &mut [u8]
     are_bytes(info);
     are_small(news);
     patches_renew();
-    write_classes(classes, news, info);
-}
-
-#[tactic(auto, using(crate::proofs::Steps::one_class))]
-fn write_classes(classes: &ClassPart<'_>, news: &NewMethods, info: &mut [u8])
-    requires { AllRooms (length info.old) (records classes.now) }
-    ensures value { info.new ≡ patched_all (classes_edits (to news.now) (records classes.now)) info.old }
-    ensures long { length info.new ≡ length info.old }
-{
     'classes: for class in classes.iter() {
         write_class(&class, news, info);
     }

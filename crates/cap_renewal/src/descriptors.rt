@@ -30,20 +30,6 @@ pub fn renew_descriptor(
     are_bytes(info);
     are_small(news);
     patches_renew();
-    write_classes(descriptor, interfaces, news, info);
-}
-
-fn write_classes(
-    descriptor: &DescPart<'_>,
-    interfaces: &Offsets,
-    news: &NewMethods,
-    info: &mut [u8],
-)
-    requires { Stands descriptor_info info.old (descriptor_seen descriptor.now) }
-    ensures value { info.new
-        ≡ patched_all (descriptor_edits (holds interfaces.now) news.now (descriptor_seen descriptor.now).classes) info.old }
-    ensures long { length info.new ≡ length info.old }
-{
     let mut at = 1;
     'classes: for class in descriptor.classes() {
         at = write_class(&class, interfaces, news, at, info);

@@ -1,8 +1,7 @@
-ghost use Rattle.std.specs.Prelude.{◌≡◌, length, map};
+ghost use Rattle.std.specs.Prelude.{map};
 ghost use Rattle.cap_bytes.specs.Spelling.{Stands};
 ghost use Rattle.cap_pool.specs.Export.{export_seen as exported};
 ghost use Rattle.cap_pool.specs.ExportFormat.{export_info};
-ghost use Rattle.cap_bytes.specs.Edit.{patched_all};
 ghost use Rattle.cap_bytes.specs.Renewal.{Renews};
 ghost use Rattle.cap_renewal.specs.ExportEdits.{export_edits, renewed_exported};
 ghost use Rattle.cap_renewal.specs.NewMethods.{to};
@@ -22,14 +21,6 @@ pub fn renew_export(export: &Export<'_>, news: &NewMethods, info: &mut [u8])
     are_bytes(info);
     are_small(news);
     patches_renew();
-    write_methods(export, news, info);
-}
-
-fn write_methods(export: &Export<'_>, news: &NewMethods, info: &mut [u8])
-    requires { Stands export_info info.old (exported export.now) }
-    ensures value { info.new ≡ patched_all (export_edits (to news.now) (exported export.now)) info.old }
-    ensures long { length info.new ≡ length info.old }
-{
     let mut at = 1;
     'classes: for class in export.iter() {
         let methods = at + 4 + 2 * class.fields.len() as usize;

@@ -1,12 +1,8 @@
-ghost use Rattle.std.specs.Prelude.{List, map, IfOk};
+ghost use Rattle.std.specs.Prelude.{map, IfOk};
 ghost use Rattle.cap_renewal.specs.Files.{IsRenewed, IsRenewedIf, file_seen};
 ghost use Rattle.cap_frame.specs.AppletFormat.{applets_info};
-ghost use Rattle.cap_frame.specs.Applets.{applets_of};
-ghost use Rattle.cap_pool.specs.Export.{export_seen as exported};
 ghost use Rattle.cap_pool.specs.ExportFormat.{export_info};
 ghost use Rattle.cap_pool.specs.PoolFormat.{pool_info};
-ghost use Rattle.cap_components.specs.Saying.{HoldsComponent};
-ghost use Rattle.cap_components.specs.Parts.{Lent};
 ghost use Rattle.cap_renewal.specs.AppletEdits.{applets_edits, renewed_applet};
 ghost use Rattle.cap_renewal.specs.ExportEdits.{export_edits, renewed_exported};
 ghost use Rattle.cap_renewal.specs.NewMethods.{to};
@@ -14,9 +10,7 @@ ghost use Rattle.cap_renewal.specs.PoolEdits.{pool_edits, renewed_entry};
 
 use crate::framed::file_of;
 use crate::{NewMethods, renew_applets, renew_export, renew_pool};
-use cap_frame::Applets;
 use cap_package::Package;
-use cap_pool::Export;
 use std::alloc::{AllocError, Global};
 
 /// The file of the Applet component with the new offsets of the install methods, where the package has one.
@@ -29,25 +23,12 @@ pub fn applet_file(
         (applets_edits (to news.now)) «package».now.applets (file_seen file)) }
 {
     let _parts = package.parts();
-    match package.applets() {
-        Some(applets) => Ok(Some(held_applets(alloc, &applets, news)?)),
-        None => Ok(None),
-    }
-}
-
-fn held_applets(
-    alloc: Global,
-    applets: &Applets<'_>,
-    news: &NewMethods,
-) -> Result<Vec<u8>, AllocError>
-    requires { (old : List Lent) × HoldsComponent old 3 applets_info applets.now.info.bytes.now (applets_of applets.now) }
-    ensures { (old : List Lent) → HoldsComponent old 3 applets_info applets.now.info.bytes.now (applets_of applets.now)
-        → IfOk result (λ file. IsRenewed old 3 applets_info (map (renewed_applet (to news.now)))
-        (applets_edits (to news.now)) (applets_of applets.now) file.items) }
-{
+    let Some(applets) = package.applets() else {
+        return Ok(None);
+    };
     let mut info = applets.info().bytes.to_vec(alloc)?;
-    renew_applets(applets, news, info.as_mut_slice());
-    file_of(alloc, 3, &info)
+    renew_applets(&applets, news, info.as_mut_slice());
+    Ok(Some(file_of(alloc, 3, &info)?))
 }
 
 /// The file of the ConstantPool component with the new offsets of the package's own static methods.
@@ -75,19 +56,10 @@ pub fn export_file(
         (export_edits (to news.now)) «package».now.export (file_seen file)) }
 {
     let _parts = package.parts();
-    match package.export() {
-        Some(export) => Ok(Some(held_export(alloc, &export, news)?)),
-        None => Ok(None),
-    }
-}
-
-fn held_export(alloc: Global, export: &Export<'_>, news: &NewMethods) -> Result<Vec<u8>, AllocError>
-    requires { (old : List Lent) × HoldsComponent old 10 export_info export.now.info.bytes.now (exported export.now) }
-    ensures { (old : List Lent) → HoldsComponent old 10 export_info export.now.info.bytes.now (exported export.now)
-        → IfOk result (λ file. IsRenewed old 10 export_info (map (renewed_exported (to news.now)))
-        (export_edits (to news.now)) (exported export.now) file.items) }
-{
+    let Some(export) = package.export() else {
+        return Ok(None);
+    };
     let mut info = export.info().bytes.to_vec(alloc)?;
-    renew_export(export, news, info.as_mut_slice());
-    file_of(alloc, 10, &info)
+    renew_export(&export, news, info.as_mut_slice());
+    Ok(Some(file_of(alloc, 10, &info)?))
 }

@@ -73,10 +73,7 @@ impl NewMethods {
     pub fn at(&self, offset: u16) -> Option<NewMethod>
         ensures { result ≡ at_offset self.now offset }
     {
-        match self.items.get(offset as usize) {
-            Some(method) => *method,
-            None => None,
-        }
+        *self.items.get(offset as usize)?
     }
 
     /// The new offset of the method that stood at an offset; where none did, the offset itself.
@@ -84,10 +81,7 @@ impl NewMethods {
     pub fn offset(&self, offset: u16) -> u16
         ensures { result ≡ to self.now offset }
     {
-        match self.at(offset) {
-            Some(method) => method.offset,
-            None => offset,
-        }
+        self.at(offset).map_or(offset, |method| method.offset)
     }
 
     /// The new numbers of a method; those that it has where none stood at its offset.

@@ -5,7 +5,7 @@ ghost use Rattle.cap_pool.specs.PoolFormat.{pool_info};
 ghost use Rattle.cap_bytes.specs.Edit.{patched_all};
 ghost use Rattle.cap_bytes.specs.Renewal.{Renews};
 ghost use Rattle.cap_renewal.specs.NewMethods.{to};
-ghost use Rattle.cap_renewal.specs.PoolEdits.{entry_edits, own_method, pool_edits, renewed_entry};
+ghost use Rattle.cap_renewal.specs.PoolEdits.{entry_edits, pool_edits, renewed_entry};
 
 use crate::new_methods::{NewMethods, are_small};
 use cap_bytes::{are_bytes, patch, patches_renew};
@@ -21,14 +21,6 @@ pub fn renew_pool(pool: &Pool<'_>, news: &NewMethods, info: &mut [u8])
     are_bytes(info);
     are_small(news);
     patches_renew();
-    write_entries(pool, news, info);
-}
-
-fn write_entries(pool: &Pool<'_>, news: &NewMethods, info: &mut [u8])
-    requires { Stands pool_info info.old (entries pool.now) }
-    ensures value { info.new ≡ patched_all (pool_edits (to news.now) (entries pool.now)) info.old }
-    ensures long { length info.new ≡ length info.old }
-{
     let mut at = 2;
     'entries: for entry in pool.iter() {
         write_entry(&entry, news, at, info);
@@ -42,17 +34,7 @@ fn write_entry(entry: &PoolEntry, news: &NewMethods, at: usize, info: &mut [u8])
     ensures value { info.new ≡ patched_all (entry_edits (to news.now) at (entry_seen entry.now)) info.old }
     ensures long { length info.new ≡ length info.old }
 {
-    if let Some(offset) = own_method(entry) {
+    if let PoolReference::StaticMethod(StaticReference::Internal(offset)) = entry.reference() {
         patch(info, at + 2, news.offset(offset));
-    }
-}
-
-/// The offset of the static method of the package that an entry names.
-fn own_method(entry: &PoolEntry) -> Option<u16>
-    ensures { result ≡ own_method (entry_seen entry.now) }
-{
-    match entry.reference() {
-        PoolReference::StaticMethod(StaticReference::Internal(offset)) => Some(offset),
-        _ => None,
     }
 }

@@ -1,4 +1,4 @@
-ghost use Rattle.std.specs.Prelude.{◌≡◌, ◌≤◌, ◌+◌, ◌*◌, ℕ, List, length};
+ghost use Rattle.std.specs.Prelude.{◌≡◌, ◌≤◌, ◌+◌, ◌*◌, length};
 ghost use Rattle.cap_bytes.specs.Table.{numbers};
 ghost use Rattle.cap_bytes.specs.Edit.{patched_all};
 ghost use Rattle.cap_renewal.specs.Along.{table_edits};

@@ -4,7 +4,7 @@ use Rattle.cap_bytes.specs.Edit.{patched_all}
 use Rattle.cap_renewal.specs.PoolEdits.{entry_edits, entry_width, pool_edits}
 use Rattle.cap_renewal.specs.NewMethods.{to}
 use Rattle.cap_renewal.proofs.Items.{IsRenewing}
-use Rattle.cap_renewal.proofs.pool.write_entries.Given as goal
+use Rattle.cap_renewal.proofs.pool.renew_pool.Given as goal
 
 abbrev pub invariant-entries : goal.invariant-entries
 invariant-entries l =

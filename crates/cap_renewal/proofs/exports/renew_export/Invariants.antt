@@ -4,7 +4,7 @@ use Rattle.cap_bytes.specs.Edit.{patched_all}
 use Rattle.cap_renewal.specs.ExportEdits.{exported_edits, exported_width, export_edits}
 use Rattle.cap_renewal.specs.NewMethods.{to}
 use Rattle.cap_renewal.proofs.Items.{IsRenewing}
-use Rattle.cap_renewal.proofs.exports.write_methods.Given as goal
+use Rattle.cap_renewal.proofs.exports.renew_export.Given as goal
 
 abbrev pub invariant-classes : goal.invariant-classes
 invariant-classes l =

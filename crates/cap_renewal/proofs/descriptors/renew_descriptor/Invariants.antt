@@ -5,7 +5,7 @@ use Rattle.cap_desc.specs.ClassRecords.{described_left}
 use Rattle.cap_bytes.specs.Edit.{patched_all}
 use Rattle.cap_renewal.specs.DescriptorEdits.{class_edits, class_width, descriptor_edits}
 use Rattle.cap_renewal.proofs.Items.{IsRenewing}
-use Rattle.cap_renewal.proofs.descriptors.write_classes.Given as goal
+use Rattle.cap_renewal.proofs.descriptors.renew_descriptor.Given as goal
 
 abbrev pub invariant-classes : goal.invariant-classes
 invariant-classes l =
