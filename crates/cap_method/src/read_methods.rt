@@ -1,8 +1,8 @@
-ghost use Rattle.std.specs.Prelude.{◌≡◌, ◌≤◌, length, IfOk, IfErr, IfSome, IfNone, option_map, slice_get};
+ghost use Rattle.std.specs.Prelude.{◌≡◌, ◌≤◌, length, IfOk, IfErr, IfSome, IfNone, slice_get};
 ghost use Rattle.std.specs.Iterator.{YieldsFirst, item_count};
 ghost use Rattle.cap_bytes.specs.Exact.{IsExact};
 ghost use Rattle.cap_bytes.specs.Spelling.{info_of, Stands, Breaks};
-ghost use Rattle.cap_bytes.specs.Taking.{Takes, PassesOver, Reads, same};
+ghost use Rattle.cap_bytes.specs.Taking.{Takes, PassesOver, same};
 ghost use Rattle.cap_bytes.specs.Grammar.{repeat};
 ghost use Rattle.cap_method.specs.MethodFormat.{Header, handler_info, methods_info, method_header};
 ghost use Rattle.cap_method.specs.MethodPart.{handlers, handlers_left, header_seen, HeaderAt};
@@ -45,11 +45,13 @@ fn pass_handlers(items: &mut Cursor<'_>, count: u8) -> Result<(), FormFault>
     Ok(())
 }
 
-/// The items of the component.
-#[tactic(auto, using(cap_bytes::proofs::Loops::yielding), unfolding(cap_bytes::specs::Reading::reading))]
-fn read(info: View<'_>) -> Result<MethodPart<'_>, FormFault>
+/// The Method component that the info is, or the first item that breaks its format.
+#[tactic(auto, using(crate::proofs::Standing::methods, cap_bytes::proofs::Loops::yielding))]
+pub fn methods(info: View<'_>) -> Result<MethodPart<'_>, FormFault>
     requires { length info.bytes.now ≤ 65535 }
-    ensures value { Reads handlers (info_of 7) methods_info info.entry.bytes.now result }
+    ensures found { IfOk result (λ x. Stands methods_info info.entry.bytes.now (handlers x)) }
+    ensures fault { IfErr result (λ e. Breaks (info_of 7) methods_info info.entry.bytes.now 0 e) }
+    ensures exact { IsExact (info_of 7) methods_info info.entry.bytes.now }
     ensures info { IfOk result (λ x. x.info ≡ info.entry) }
 {
     let mut items = Cursor::of(info, METHOD);
@@ -58,18 +60,6 @@ fn read(info: View<'_>) -> Result<MethodPart<'_>, FormFault>
     pass_handlers(&mut items, left)?;
     let _methods = items.rest();
     Ok(MethodPart { info, handlers })
-}
-
-/// The Method component that the info is, or the first item that breaks its format.
-#[tactic(auto, using(cap_bytes::proofs::Laws::whole))]
-pub fn methods(info: View<'_>) -> Result<MethodPart<'_>, FormFault>
-    requires { length info.bytes.now ≤ 65535 }
-    ensures found { IfOk result (λ x. Stands methods_info info.entry.bytes.now (handlers x)) }
-    ensures fault { IfErr result (λ e. Breaks (info_of 7) methods_info info.entry.bytes.now 0 e) }
-    ensures exact { IsExact (info_of 7) methods_info info.entry.bytes.now }
-    ensures info { IfOk result (λ x. x.info ≡ info.entry) }
-{
-    read(info)
 }
 
 impl<'a> Iterator for HandlerEntries<'a> {
@@ -96,15 +86,12 @@ fn header(items: &mut Cursor<'_>) -> Result<MethodHeader, FormFault>
     let first = items.u1()?;
     let flags = MethodFlags::of(first);
     if first >= 0x80 {
-        let max_stack = items.u1()?;
-        let nargs = items.u1()?;
-        let max_locals = items.u1()?;
         Ok(MethodHeader {
             flags,
             size: 4,
-            max_stack,
-            nargs,
-            max_locals,
+            max_stack: items.u1()?,
+            nargs: items.u1()?,
+            max_locals: items.u1()?,
         })
     } else {
         let second = items.u1()?;

@@ -3,7 +3,7 @@ ghost use Rattle.std.specs.Iterator.{YieldsFirstBy, item_count};
 ghost use Rattle.cap_bytes.specs.Exact.{IsExact};
 ghost use Rattle.cap_bytes.specs.Spelling.{info_of, Stands, Breaks};
 ghost use Rattle.cap_bytes.specs.Taking.{Takes, Reads, bytes};
-ghost use Rattle.cap_method.specs.StaticFormat.{is_primitive, is_whole, array_init_info, array_inits, non_default_values, statics_info};
+ghost use Rattle.cap_method.specs.StaticFormat.{is_whole, array_init_info, array_inits, non_default_values, statics_info};
 ghost use Rattle.cap_method.specs.StaticPart.{array_seen, arrays_left, statics_seen};
 
 use crate::array_init::ArrayInit;
