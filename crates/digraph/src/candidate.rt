@@ -1,8 +1,8 @@
-ghost use Rattle.std.specs.Prelude.{◌≡◌, ◌<◌, ◌≤◌, ℕ, length, All, IsTrue, IfOk, MatchOption, MatchBool};
+ghost use Rattle.std.specs.Prelude.{◌<◌, ◌≤◌, ℕ, length, All, IsTrue, IfOk, MatchOption, MatchBool};
 ghost use Rattle.digraph.specs.Way.{Recurs, IsLeastRecurring};
 ghost use Rattle.digraph.specs.Graph.{Edge};
 ghost use Rattle.digraph.specs.Marks.{AreLedTo};
-ghost use Rattle.digraph.specs.Ranks.{AreRanks, AllFall, rank_of};
+ghost use Rattle.digraph.specs.Ranks.{AreRanks, rank_of};
 
 use crate::graph::Digraph;
 use crate::hints::look_over;
@@ -53,7 +53,7 @@ fn recurs(
     if from != v && !reached[v as usize] {
         return Ok(false);
     }
-    if ranked && all_fall(graph, ranks, v) {
+    if ranked && fall(graph.row(v), ranks, ranks[v as usize]) {
         return Ok(false);
     }
     let after = led_to(alloc, graph, v)?;
@@ -86,15 +86,6 @@ fn never_rise(row: &[u32], ranks: &[u32], rank: u32) -> bool
         }
     }
     true
-}
-
-/// Whether each edge of a vertex lowers the rank.
-fn all_fall(graph: &Digraph, ranks: &[u32], v: u32) -> bool
-    requires vertex { v < length graph.now }
-    requires lengths { length ranks.now ≡ length graph.now }
-    ensures { IsTrue result → AllFall graph.now ranks.now v }
-{
-    fall(graph.row(v), ranks, ranks[v as usize])
 }
 
 /// Whether these vertices have ranks that are less.

@@ -103,13 +103,14 @@ impl Walk {
         self.meet(to)
     }
 
-    /// Opens the vertex at the end of an edge; one that is open, or leads to one, joins all groups from its own on.
+    /// Opens the vertex at the end of an edge; one without a rank, which is open or leads to one that is, joins all
+    /// groups from its own on.
     fn meet(&mut self, to: u32) -> Result<(), AllocError> {
         let opened = self.opened_at(to);
         if opened == 0 {
             return self.open(to);
         }
-        if self.has_rank(to) {
+        if self.hints.ranks.get(to as usize).copied().unwrap_or(0) != u32::MAX {
             return Ok(());
         }
         while let Some(start) = self.starts.pop() {
@@ -119,11 +120,6 @@ impl Walk {
             }
         }
         Ok(())
-    }
-
-    /// Whether a vertex has a rank.
-    fn has_rank(&self, v: u32) -> bool {
-        self.hints.ranks.get(v as usize).copied().unwrap_or(0) != u32::MAX
     }
 
     /// Closes a vertex. Where a group begins with it, all without a rank from it on are one.

@@ -32,7 +32,7 @@ pub fn greatest(
     Ok(known[from as usize])
 }
 
-/// Settles the vertices in an order, as far as it serves.
+/// Settles the vertices of the graph in an order, as far as it serves.
 fn along(graph: &Digraph, weights: &[u32], known: &mut Vec<Option<u32>>, order: &[u32])
     requires weights { length weights.now ≡ length graph.now }
     requires small { sum weights.now < 2 ^ 32 }
@@ -40,19 +40,9 @@ fn along(graph: &Digraph, weights: &[u32], known: &mut Vec<Option<u32>>, order: 
     ensures { IsTable graph.now weights.now known.new.items }
 {
     'order: for v in order {
-        settle_if(graph, weights, known, *v);
-    }
-}
-
-/// Settles a vertex, if it is one and can be.
-fn settle_if(graph: &Digraph, weights: &[u32], known: &mut Vec<Option<u32>>, v: u32)
-    requires weights { length weights.now ≡ length graph.now }
-    requires small { sum weights.now < 2 ^ 32 }
-    requires table { IsTable graph.now weights.now known.old.items }
-    ensures { IsTable graph.now weights.now known.new.items }
-{
-    if v < graph.len() {
-        let _ = settle(graph, weights, known, v);
+        if *v < graph.len() {
+            let _ = settle(graph, weights, known, *v);
+        }
     }
 }
 

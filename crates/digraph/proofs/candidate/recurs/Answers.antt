@@ -1,6 +1,9 @@
+use Rattle.std.proofs.Common.{rules}
+use Rattle.digraph.specs.Ranks.{AllFall}
 use Rattle.digraph.proofs.Ranking.{falls-on-no-cycle}
 use Rattle.digraph.proofs.candidate.recurs.Goals as goal
 
-pub returns-then-all_fall : goal.returns-then-all_fall
-returns-then-all_fall c = λ r.
-    falls-on-no-cycle c.args.graph.now c.args.ranks.now c.args.v (c.requires.ranked c.if-ranked.true) (c.all_fall.ensures c.if-all_fall.true) r.again
+pub returns-then-fall : goal.returns-then-fall
+returns-then-fall c = λ r.
+    let falls : AllFall c.args.graph.now c.args.ranks.now c.args.v = search rules in
+    falls-on-no-cycle c.args.graph.now c.args.ranks.now c.args.v (c.requires.ranked c.if-ranked.true) falls r.again
