@@ -1,16 +1,14 @@
 ghost use Rattle.std.specs.Prelude.{◌≡◌, ◌++◌, drop, map, OnOk, IfOk};
 ghost use Rattle.offset_set.specs.Bits.{holds};
-ghost use Rattle.cap_desc.specs.ClassRecords.{described_class_seen};
 ghost use Rattle.cap_desc.specs.Descriptors.{descriptor_seen};
 ghost use Rattle.cap_desc.specs.MemberLists.{methods_left};
 ghost use Rattle.cap_desc.specs.MemberRecords.{method_seen};
 ghost use Rattle.law_package.specs.Written.{lead_bytes};
-ghost use Rattle.cap_write.specs.Described.{seen_body, body_seen, first_of_them, member_seen, seen_class, seen_classes, seen_method, seen_methods};
+ghost use Rattle.cap_write.specs.Described.{seen_body, body_seen, first_of_them, member_seen, seen_classes, seen_method, seen_methods};
 ghost use Rattle.cap_write.specs.SmallStacks.{BodyHasSmallStack, HaveSmallStacks};
 
-use crate::facts::is_byte;
 use cap_bytes::View;
-use cap_desc::{DescClass, DescMethods, DescPart, MethodInfo};
+use cap_desc::{DescMethods, DescPart, MethodInfo};
 use cap_laying::{Body, WrittenMember};
 use jc_decode::Laid;
 use offset_set::Offsets;
@@ -18,7 +16,7 @@ use std::alloc::{AllocError, Global};
 
 /// The described methods of classes, in the Descriptor's order: each as it is written with its element of the
 /// list, which has one for each method of an interface too.
-#[tactic(auto, using(crate::proofs::Putting::one_class))]
+#[tactic(auto, using(crate::proofs::Putting::one_class, crate::proofs::Putting::no_method))]
 pub(crate) fn members<'a>(
     alloc: Global,
     descriptor: &DescPart<'_>,
@@ -33,42 +31,20 @@ pub(crate) fn members<'a>(
     let mut out = Vec::new(alloc);
     let mut rest = laid;
     'classes: for class in descriptor.classes() {
-        put_class(&class, interfaces, info, rest, &mut out)?;
+        let own = rest;
         rest = after(rest, class.method_count() as usize);
+        if !interfaces.has(class.class_ref()) {
+            put_methods(class.methods(), info, own, &mut out)?;
+        }
     }
     Ok(out)
-}
-
-/// Appends the methods of a class, unless it is an interface.
-#[tactic(auto, using(crate::proofs::Putting::no_method))]
-fn put_class<'a>(
-    class: &DescClass<'_>,
-    interfaces: &Offsets,
-    info: View<'a>,
-    laid: &'a [Option<Laid>],
-    out: &mut Vec<WrittenMember<'a>>,
-) -> Result<(), AllocError>
-    requires stacks { HaveSmallStacks out.old.items }
-    ensures seen { OnOk result (map member_seen out.new.items
-        ≡ map member_seen out.old.items
-        ++ seen_class (holds interfaces.now) info.entry.bytes.now (described_class_seen class.now) laid.now) }
-    ensures stacks { OnOk result (HaveSmallStacks out.new.items) }
-{
-    if interfaces.has(class.class_ref()) {
-        return Ok(());
-    }
-    put_methods(class.methods(), info, laid, out)
 }
 
 /// What is left of a list after so many elements.
 fn after<'a>(laid: &'a [Option<Laid>], count: usize) -> &'a [Option<Laid>]
     ensures { result.now ≡ drop count laid.now }
 {
-    if count <= laid.len() {
-        &laid[count..]
-    } else {
-        &[]
-    }
+    laid.get(count..).unwrap_or(&[])
 }
 
 /// Appends the methods of a class.
@@ -99,11 +75,7 @@ fn member<'a>(method: &MethodInfo, info: View<'a>, laid: &'a [Option<Laid>]) -> 
 {
     WrittenMember {
         offset: method.method_offset,
-        handlers_from: if method.handler_count == 0 {
-            None
-        } else {
-            Some(method.handler_index)
-        },
+        handlers_from: (method.handler_count != 0).then_some(method.handler_index),
         body: body(info, method.method_offset, laid),
     }
 }
@@ -115,7 +87,8 @@ fn body<'a>(info: View<'a>, offset: u16, laid: &'a [Option<Laid>]) -> Body<'a>
 {
     match laid.first() {
         Some(Some(laid)) => {
-            is_byte(laid.max_stack);
+            // The number has one byte: a fact for proofs, and no work.
+            let _stack = laid.max_stack;
             Body::Code(laid)
         }
         _ => Body::Header(lead(info, offset)),

@@ -1,15 +1,7 @@
-ghost use Rattle.std.specs.Prelude.{◌<◌};
 ghost use Rattle.cap_laying.specs.WrittenDirectory.{MayStand};
 
 use cap_bytes::are_bytes;
 use cap_package::Package;
-
-/// A number of one byte: a fact for proofs, and no work.
-pub(crate) fn is_byte(number: u8)
-    ensures { number < 256 }
-{
-    let _ = number;
-}
 
 /// The Directory of a package has numbers and tags that their items hold: a fact for proofs, and no work.
 pub(crate) fn directory_fits(package: &Package<'_, '_>)

@@ -46,8 +46,7 @@ pub(crate) fn new_index(
 fn keeps_index(package: &Package<'_, '_>) -> bool
     ensures { result ≡ keeps_index «package».now }
 {
-    match package.custom(INDEX) {
-        Some(custom) => !(custom.aid == INDEX_AID.as_slice()),
-        None => false,
-    }
+    package
+        .custom(INDEX)
+        .is_some_and(|custom| !(custom.aid == INDEX_AID.as_slice()))
 }

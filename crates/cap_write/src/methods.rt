@@ -27,13 +27,8 @@ pub(crate) fn members_of<'a>(
     let _parts = package.parts();
     let methods = package.methods();
     let interfaces = interface_offsets(&package.classes());
-    let members = members(
-        alloc,
-        &package.descriptor(),
-        &interfaces,
-        methods.info(),
-        laid,
-    )?;
+    let descriptor = package.descriptor();
+    let members = members(alloc, &descriptor, &interfaces, methods.info(), laid)?;
     Ok(members)
 }
 

@@ -21,11 +21,11 @@ returns-clause-are c =
     ∙ ap (λ (m : Methods). m.info) c.methods-methods.ensures in
     let set : holds c.interface_offsets-interfaces.result ≡ names_interface p.classes = c.interface_offsets-interfaces.ensures
     ∙ ap names_interface c.classes.ensures.items in
-    let items : (descriptor_seen c.descriptor.result).classes ≡ p.description.items.classes = ap (λ (d : Description). d.items.classes)
-    c.descriptor.ensures in
+    let items : (descriptor_seen c.descriptor-descriptor.result).classes ≡ p.description.items.classes = ap (λ (d : Description). d.items.classes)
+    c.descriptor-descriptor.ensures in
     let are : map member_seen ms ≡ seen_package p ls =
-    c.in_ok-members.ensures.seen ∙ ap (λ (s : ℕ → Bool). seen_classes s c.info.result.bytes.now (descriptor_seen c.descriptor.result).classes ls) set
-    ∙ ap (λ (b : List ℕ). seen_classes (names_interface p.classes) b (descriptor_seen c.descriptor.result).classes ls) bytes
+    c.in_ok-members.ensures.seen ∙ ap (λ (s : ℕ → Bool). seen_classes s c.info.result.bytes.now (descriptor_seen c.descriptor-descriptor.result).classes ls) set
+    ∙ ap (λ (b : List ℕ). seen_classes (names_interface p.classes) b (descriptor_seen c.descriptor-descriptor.result).classes ls) bytes
     ∙ ap (λ (cs : List ClassDescriptor). seen_classes (names_interface p.classes) p.methods.info cs ls) items in
     record {
       are = members_are p ls ms c.requires are;
