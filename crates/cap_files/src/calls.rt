@@ -1,7 +1,6 @@
 ghost use Rattle.std.specs.Prelude.{◌≡◌, ◌≤◌, length, nat_lt, IfOk, if◌then◌else◌};
-ghost use Rattle.cap_files.specs.Calls.{no_calls, next_keep, one_more_call, faulted, with_failure, keep_at};
+ghost use Rattle.cap_files.specs.Calls.{no_calls, next_keep, one_more_call, faulted, with_failure};
 
-use crate::count::raise;
 use std::alloc::{AllocError, Global};
 use std::marker::Model;
 
@@ -59,13 +58,17 @@ impl Calls {
         true
     }
 
-    /// Counts a call, and answers how many bytes it keeps if it is to fail.
+    /// Counts a call, and answers how many bytes it keeps if it is to fail, by the first that is listed with its number.
     pub(crate) fn next(&mut self) -> Option<u32>
         ensures keep { result ≡ next_keep self.old }
         ensures after { self.new ≡ one_more_call self.old }
     {
-        raise(&mut self.made);
-        keep_of(&self.failures, self.made)
+        self.made = self.made.saturating_add(1);
+        let call = self.made;
+        self.failures
+            .iter()
+            .find(|failure| u64::from(failure.call) == call)
+            .map(|failure| failure.keep)
     }
 
     /// Counts a failure.
@@ -73,16 +76,6 @@ impl Calls {
         ensures after { self.new ≡ faulted self.old }
         ensures rises { self.old.faults ≤ self.new.faults }
     {
-        raise(&mut self.faults);
+        self.faults = self.faults.saturating_add(1);
     }
-}
-
-// How many bytes a call keeps, by the first that is listed with its number.
-fn keep_of(failures: &[Failure], call: u64) -> Option<u32>
-    ensures { result ≡ keep_at call failures.now }
-{
-    failures
-        .iter()
-        .find(|failure| u64::from(failure.call) == call)
-        .map(|failure| failure.keep)
 }

@@ -1,8 +1,6 @@
 ghost use Rattle.std.specs.Prelude.{◌≡◌, None, IfOk};
-ghost use Rattle.cap_files.specs.Counts.{CountsFault};
 ghost use Rattle.cap_files.specs.Disk.{on_disk};
 ghost use Rattle.cap_files.specs.Folder.{Loads, LoadLeaves, Stores, StoreCounts, key_of};
-ghost use Rattle.cap_files.specs.Transfer.{CountsRead};
 
 use crate::disk::Disk;
 use crate::file_system::FileSystem;
@@ -54,7 +52,23 @@ impl<D: Disk> Folder for DirFolder<D> {
             (on_disk (D.held self.new.disk) (D.read_faults self.new.disk) (D.write_faults self.new.disk)) result }
         ensures closed { D.opened self.new.disk ≡ None }
     {
-        read(&mut self.disk, dir, part, to)
+        to.clear();
+        match self.disk.open(dir, part) {
+            Ok(true) => {}
+            Ok(false) => return Ok(false),
+            Err(_) => return Err(LoadEnd::Failed),
+        }
+        // It is closed also where a read failed.
+        let read = read_part(&mut self.disk, to);
+        self.disk.end_read();
+        match read {
+            Ok(()) => Ok(true),
+            Err(LoadEnd::TooLong) => Err(LoadEnd::TooLong),
+            Err(end) => {
+                to.clear();
+                Err(end)
+            }
+        }
     }
 
     fn store(&mut self, dir: &str, part: Part, bytes: &[u8]) -> Result<(), StoreFailed>
@@ -64,53 +78,12 @@ impl<D: Disk> Folder for DirFolder<D> {
             (on_disk (D.held self.new.disk) (D.read_faults self.new.disk) (D.write_faults self.new.disk)) result }
         ensures closed { D.opened self.new.disk ≡ None }
     {
-        write(&mut self.disk, dir, part, bytes)
-    }
-}
-
-// Reads the file of a part, if it is there, and closes it also where a read failed. After a failure,
-// and out of memory, `to` is empty.
-fn read<D: Disk>(disk: &mut D, dir: &str, part: Part, to: &mut Vec<u8>) -> Result<bool, LoadEnd>
-    ensures bytes { Loads (D.held disk.old) (key_of part dir.now) to.new.items result }
-    ensures closed { D.opened disk.new ≡ None }
-    ensures held { D.held disk.new ≡ D.held disk.old }
-    ensures read_faults { CountsRead (D.read_faults disk.old) (D.read_faults disk.new) result }
-    ensures write_faults { D.write_faults disk.new ≡ D.write_faults disk.old }
-{
-    to.clear();
-    match disk.open(dir, part) {
-        Ok(true) => {}
-        Ok(false) => return Ok(false),
-        Err(_) => return Err(LoadEnd::Failed),
-    }
-    let read = read_part(disk, to);
-    disk.end_read();
-    match read {
-        Ok(()) => Ok(true),
-        Err(LoadEnd::TooLong) => Err(LoadEnd::TooLong),
-        Err(LoadEnd::Failed) => {
-            to.clear();
-            Err(LoadEnd::Failed)
+        if self.disk.create(dir, part).is_err() {
+            return Err(StoreFailed);
         }
-        Err(LoadEnd::Memory) => {
-            to.clear();
-            Err(LoadEnd::Memory)
-        }
+        // It is closed also where a write failed.
+        let stored = write_part(&mut self.disk, bytes);
+        self.disk.end_write(dir, part);
+        stored
     }
-}
-
-// Writes the file of a part, and closes it also where a write failed.
-fn write<D: Disk>(disk: &mut D, dir: &str, part: Part, bytes: &[u8]) -> Result<(), StoreFailed>
-    ensures bytes { Stores (D.held disk.old) (key_of part dir.now) bytes.now (D.held disk.new) result }
-    ensures closed { D.opened disk.new ≡ None }
-    ensures write_faults { CountsFault (D.write_faults disk.old) (D.write_faults disk.new) result }
-    ensures read_faults { D.read_faults disk.new ≡ D.read_faults disk.old }
-{
-    match disk.create(dir, part) {
-        Ok(()) => {}
-        Err(_) => return Err(StoreFailed),
-    }
-    let stored = write_part(disk, bytes);
-    disk.end_write(dir, part);
-    stored
 }

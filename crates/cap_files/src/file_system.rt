@@ -3,7 +3,6 @@ ghost use Rattle.std.specs.Option.{option_map};
 ghost use Rattle.cap_files.specs.Counts.{one_more};
 ghost use Rattle.cap_files.specs.Disk.{FindsFile, of_open};
 
-use crate::count::raise;
 use crate::disk::{Disk, DiskFailed};
 use crate::path::Path;
 use cap_bytes::Part;
@@ -46,7 +45,7 @@ impl<'a, R: Files> FileSystem<'a, R> {
         ensures after { self.new ≡ record self.old { read_faults = one_more self.old.read_faults } }
         ensures rises { self.old.read_faults ≤ self.new.read_faults }
     {
-        raise(&mut self.read_faults);
+        self.read_faults = self.read_faults.saturating_add(1);
         DiskFailed
     }
 
@@ -55,7 +54,7 @@ impl<'a, R: Files> FileSystem<'a, R> {
         ensures after { self.new ≡ record self.old { write_faults = one_more self.old.write_faults } }
         ensures rises { self.old.write_faults ≤ self.new.write_faults }
     {
-        raise(&mut self.write_faults);
+        self.write_faults = self.write_faults.saturating_add(1);
         DiskFailed
     }
 }

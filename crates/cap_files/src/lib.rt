@@ -5,7 +5,6 @@
 #![tactic(auto)]
 
 mod calls;
-mod count;
 mod dir_folder;
 mod disk;
 mod file_system;

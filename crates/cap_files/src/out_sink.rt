@@ -1,6 +1,4 @@
 ghost use Rattle.std.specs.Prelude.{◌≡◌};
-ghost use Rattle.cap_files.specs.Counts.{CountsFault};
-ghost use Rattle.cap_files.specs.Sink.{Puts};
 
 use crate::output::{Output, StandardOutput};
 use crate::sink::{Sink, SinkFailed};
@@ -30,21 +28,13 @@ impl<O: Output> Sink for OutSink<O> {
     ghost faults = { λ s. O.faults s.output };
 
     fn put(&mut self, piece: &[u8]) -> Result<(), SinkFailed> {
-        write_all(&mut self.output, piece)
-    }
-}
-
-// Writes all bytes to the output.
-fn write_all<O: Output>(output: &mut O, piece: &[u8]) -> Result<(), SinkFailed>
-    ensures bytes { Puts (O.taken output.old) piece.now (O.taken output.new) result }
-    ensures faults { CountsFault (O.faults output.old) (O.faults output.new) result }
-{
-    let mut left = piece;
-    'pieces: while !left.is_empty() {
-        match output.take(left) {
-            Ok(taken) => left = &left[taken..],
-            Err(end) => return Err(end),
+        let mut left = piece;
+        'pieces: while !left.is_empty() {
+            match self.output.take(left) {
+                Ok(taken) => left = &left[taken..],
+                Err(end) => return Err(end),
+            }
         }
+        Ok(())
     }
-    Ok(())
 }
