@@ -2,7 +2,7 @@ ghost use Rattle.std.specs.Prelude.{◌≡◌, ◌<◌, ◌^◌, ◌↔◌, leng
 ghost use Rattle.jc_base.specs.Class.{AreClasses, IsClass, IsNextOnChain, IsEndOfChain, parent_of, is_interface};
 ghost use Rattle.jc_base.specs.Dispatch.{entry_at, public_of, visible_of};
 
-use crate::list::{ClassRecs, Dispatch};
+use crate::list::ClassRecs;
 use crate::record::ClassRec;
 use std::marker::Model;
 
@@ -103,7 +103,7 @@ impl Classes {
         requires { c < length self.now.records }
         ensures { result ≡ slice_get (public_of self.now c) token }
     {
-        entry(&self.at(c).public, token)
+        self.at(c).public.as_slice().get(token as usize).copied()
     }
 
     /// The method at a package-visible token of a class, the first of which counts as 0.
@@ -112,7 +112,7 @@ impl Classes {
         requires { c < length self.now.records }
         ensures { result ≡ slice_get (visible_of self.now c) n }
     {
-        entry(&self.at(c).visible, n)
+        self.at(c).visible.as_slice().get(n as usize).copied()
     }
 
     /// The class of a role.
@@ -129,11 +129,4 @@ impl Classes {
     {
         self.roles
     }
-}
-
-/// The method at a number of a dispatch list.
-fn entry(list: &Dispatch, n: u8) -> Option<u16>
-    ensures { result ≡ slice_get list.now n }
-{
-    list.as_slice().get(n as usize).copied()
 }

@@ -36,23 +36,6 @@ pub struct Lookups<'a> {
     pub by_class: ClassIndex,
 }
 
-/// Whether all package-visible lists of a class have bodies only.
-fn visible_have_bodies(
-    classes: &Classes,
-    methods: &Methods,
-    slots: &Vec<Option<VisibleBodies>>,
-    c: u16,
-) -> bool
-    requires class { IsClass classes.now c }
-    requires slots { AreFilledBelow classes.now methods.now slots.now.items (length classes.now.records) }
-    ensures { IsTrue result ↔ AllHaveBodies classes.now methods.now c }
-{
-    match known_at(slots, c) {
-        Some(known) => known.all,
-        None => true,
-    }
-}
-
 /// Whether objects can be made of a class.
 fn is_concrete(
     classes: &Classes,
@@ -68,30 +51,15 @@ fn is_concrete(
     if classes.is_interface(c) || !public_have_bodies(classes, methods, c) {
         return false;
     }
-    visible_have_bodies(classes, methods, slots, c)
-}
-
-/// By class whether objects can be made of it.
-#[tactic(auto, using(crate::proofs::Filling::concretes))]
-fn concrete_classes(
-    alloc: Global,
-    classes: &Classes,
-    methods: &Methods,
-) -> Result<Vec<bool>, AllocError>
-    requires few { length classes.now.records ≤ 4096 }
-    requires links { AreLinkedClasses 16 classes.now methods.now }
-    ensures { IfOk result (λ flags. AreConcrete classes.now methods.now (length classes.now.records) flags.items) }
-{
-    let slots = visible_bodies(alloc, classes, methods)?;
-    let mut flags = Vec::with_capacity(alloc, classes.len())?;
-    'classes: for c in 0..classes.len() {
-        flags.push(is_concrete(classes, methods, &slots, c as u16))?;
+    match known_at(slots, c) {
+        Some(known) => known.all,
+        None => true,
     }
-    Ok(flags)
 }
 
 impl ClassIndex {
     /// The index of classes with their methods.
+    #[tactic(auto, using(crate::proofs::Filling::concretes))]
     pub fn of(alloc: Global, classes: &Classes, methods: &Methods) -> Result<ClassIndex, AllocError>
         requires few { length classes.now.records ≤ 4096 }
         requires few_methods { length methods.now ≤ 32768 }
@@ -99,10 +67,13 @@ impl ClassIndex {
         requires known { All (λ m. m.class < length classes.now.records) methods.now }
         ensures { IfOk result (IsIndexOf classes.now methods.now) }
     {
-        Ok(ClassIndex {
-            bounds: method_bounds(alloc, methods, classes.len())?,
-            concrete: concrete_classes(alloc, classes, methods)?,
-        })
+        let bounds = method_bounds(alloc, methods, classes.len())?;
+        let slots = visible_bodies(alloc, classes, methods)?;
+        let mut concrete = Vec::with_capacity(alloc, classes.len())?;
+        'classes: for c in 0..classes.len() {
+            concrete.push(is_concrete(classes, methods, &slots, c as u16))?;
+        }
+        Ok(ClassIndex { bounds, concrete })
     }
 
     /// Where the numbers of the methods of a class or an interface lie.

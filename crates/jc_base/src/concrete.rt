@@ -15,15 +15,6 @@ pub fn is_concrete(classes: &Classes, methods: &Methods, class: u16) -> bool
     ensures is { IsTrue result ↔ IsConcrete classes.now methods.now class }
     ensures computed { result ≡ is_concrete classes.now methods.now class }
 {
-    have_bodies(classes, methods, class)
-}
-
-/// Whether it is no interface, and each method of its lists has a body.
-fn have_bodies(classes: &Classes, methods: &Methods, class: u16) -> bool
-    requires known { class < length classes.now.records }
-    requires links { AreLinkedClasses 16 classes.now methods.now }
-    ensures { IsTrue result ↔ IsConcrete classes.now methods.now class }
-{
     if classes.is_interface(class) || !public_have_bodies(classes, methods, class) {
         return false;
     }

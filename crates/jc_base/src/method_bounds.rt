@@ -12,17 +12,6 @@ pub struct MethodBounds {
     pub end: u16,
 }
 
-/// Bounds between which no number lies, for each of so many classes.
-fn no_bounds(alloc: Global, count: usize) -> Result<Vec<MethodBounds>, AllocError>
-    ensures { IfOk result (λ bounds. bounds.items ≡ replicate count (record { first = 0; end = 0 })) }
-{
-    let mut bounds = Vec::with_capacity(alloc, count)?;
-    'classes: for _ in 0..count {
-        bounds.push(MethodBounds { first: 0, end: 0 })?;
-    }
-    Ok(bounds)
-}
-
 /// The bounds with one more method, whose number is above all others.
 fn widened(bounds: MethodBounds, n: u16) -> MethodBounds
     requires { n < 65535 }
@@ -47,7 +36,7 @@ pub(crate) fn method_bounds(
     requires classes { All (λ m. m.class < count) methods.now }
     ensures { IfOk result (λ bounds. AreBoundsUpTo methods.now count (length methods.now) bounds.items) }
 {
-    let mut bounds = no_bounds(alloc, count)?;
+    let mut bounds = vec![in alloc; MethodBounds { first: 0, end: 0 }; count]?;
     'methods: for n in 0..methods.len() {
         let class = methods.at(n).class as usize;
         bounds[class] = widened(bounds[class], n as u16);

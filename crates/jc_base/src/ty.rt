@@ -75,13 +75,8 @@ fn is_same(a: Ty, b: Ty) -> bool
         Ty::ArrShort => matches!(b, Ty::ArrShort),
         Ty::ArrInt => matches!(b, Ty::ArrInt),
         Ty::ArrRef(c) => matches!(b, Ty::ArrRef(d) if c == d),
-        Ty::Fresh { place, class } => match b {
-            Ty::Fresh {
-                place: other,
-                class: other_class,
-            } => place == other && class == other_class,
-            _ => false,
-        },
+        Ty::Fresh { place: p, class: c } =>
+            matches!(b, Ty::Fresh { place: q, class: d } if p == q && c == d),
         Ty::Top => matches!(b, Ty::Top),
     }
 }

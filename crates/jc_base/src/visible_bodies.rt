@@ -74,15 +74,6 @@ fn others_have_bodies(
     }
 }
 
-/// Whether the lists of other packages have bodies only, and so has its own.
-fn own_have_bodies_too(classes: &Classes, methods: &Methods, others: bool, c: u16) -> bool
-    requires known { c < length classes.now.records }
-    requires links { AreLinkedClasses 16 classes.now methods.now }
-    ensures { IsTrue result ↔ (IsTrue others × All (HasBody methods.now) (visible_of classes.now c)) }
-{
-    others && all_have_bodies(methods, record(classes, methods, c).visible.as_slice())
-}
-
 /// Fills the slot of a class from that of its superclass.
 fn fill(classes: &Classes, methods: &Methods, slots: &mut Vec<Option<VisibleBodies>>, c: u16)
     requires class { IsClass classes.now c }
@@ -92,7 +83,7 @@ fn fill(classes: &Classes, methods: &Methods, slots: &mut Vec<Option<VisibleBodi
     ensures { IsFilledOnce classes.now methods.now slots.old.items slots.new.items c }
 {
     let others = others_have_bodies(classes, methods, slots, c);
-    let all = own_have_bodies_too(classes, methods, others, c);
+    let all = others && all_have_bodies(methods, record(classes, methods, c).visible.as_slice());
     slots[c as usize] = Some(VisibleBodies { others, all });
 }
 
@@ -117,17 +108,6 @@ fn fill_up_to(
     Ok(())
 }
 
-/// An empty slot for each class.
-fn empty_slots(alloc: Global, n: usize) -> Result<Vec<Option<VisibleBodies>>, AllocError>
-    ensures { IfOk result (λ slots. slots.items ≡ replicate n None) }
-{
-    let mut slots = Vec::with_capacity(alloc, n)?;
-    'slots: for _ in 0..n {
-        slots.push(None)?;
-    }
-    Ok(slots)
-}
-
 /// What is known of the package-visible lists of each class, superclasses first, so that each class is met twice
 /// at most.
 #[tactic(auto, using(crate::proofs::Filling::fills))]
@@ -141,7 +121,7 @@ pub(crate) fn visible_bodies(
     ensures { IfOk result (λ slots. AreFilledBelow classes.now methods.now slots.items (length classes.now.records)) }
 {
     let count = classes.len();
-    let mut slots = empty_slots(alloc, count)?;
+    let mut slots = vec![in alloc; None; count]?;
     'classes: for c in 0..count {
         let class = c as u16;
         if !classes.is_interface(class) {

@@ -256,20 +256,14 @@ impl<'a> World<'a> {
         requires { method < length self.now.methods }
         ensures { result ≡ index_of self.now method }
     {
-        match self.indexes.at(method as usize) {
-            Some(index) => Some(index.again()),
-            None => None,
-        }
+        Some(self.indexes.at(method as usize).as_ref()?.again())
     }
 
     /// The number of the method that has these numbers in the Descriptor of a package.
     pub fn method_at(&self, package: u16, class_no: u16, method_no: u16) -> Option<u16>
         ensures { result ≡ method_numbered self.now.methods «package» class_no method_no }
     {
-        match place(&self.methods, package, class_no, method_no) {
-            Some(n) => Some(n as u16),
-            None => None,
-        }
+        Some(place(&self.methods, package, class_no, method_no)? as u16)
     }
 }
 

@@ -1,5 +1,0 @@
-use Rattle.jc_base.specs.ByClass.{AreConcrete}
-use Rattle.jc_base.proofs.class_index.concrete_classes.Given as goal
-
-abbrev pub invariant-classes : goal.invariant-classes
-invariant-classes l = AreConcrete l.classes l.methods l.c l.flags.items
