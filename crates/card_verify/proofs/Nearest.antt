@@ -1,6 +1,6 @@
 -- The nearest place ahead is the least.
 use Rattle.std.proofs.Common.{◌≡◌, ℕ, ◌+◌, ◌<◌, ◌≤◌, ◌⊎◌, inl, inr, ⊎_elim, Bool, true, false, ◌&&◌, if◌then◌else◌}
-use Rattle.std.proofs.Common.{Option, Some, None, List, [], ◌∷◌, ◌++◌, length, slice_get, get_or, IsSomeAnd, MatchBool, refl, sym, ◌∙◌, ap}
+use Rattle.std.proofs.Common.{Option, Some, None, List, [], ◌∷◌, ◌++◌, length, slice_get, get_or, IsSomeAnd, MatchBool, unwrap_or, refl, sym, ◌∙◌, ap}
 use Rattle.std.proofs.Common.{subst, arith, append_assoc, Contains}
 use Rattle.std.specs.Prelude.{ℤ, pos, negsuc, fold, nat_le}
 use Rattle.std.proofs.lemmas.Bool.{false≢true, cases_lt, leb-true, leb-false, ltb-true, ltb-false}
@@ -13,7 +13,7 @@ use Rattle.jc_decode.specs.Places.{IsTargetIn}
 use Rattle.jc_decode.proofs.Elements.{Contains-first, Contains-later, Contains-either}
 use Rattle.jc_control.specs.Method.{Method}
 use Rattle.card_typing.specs.Place.{IsTarget, IsEntry}
-use Rattle.card_verify.specs.Ahead.{IsLeastFrom, IsClear, is_nearer, least_or_none, nearer, nearer_target}
+use Rattle.card_verify.specs.Ahead.{IsLeastFrom, IsClear, is_nearer, nearer, nearer_target}
 
 -- a set of the same numbers
 pub least-same : (S T : ℕ → Type 0) (from : ℕ) (o : Option ℕ) → ((q : ℕ) → S q → T q) → ((q : ℕ) → T q → S q)
@@ -141,5 +141,5 @@ told-here x from o x2 h e = grind (arith, least-here, here-least)
 
 -- ---- no target before a place
 
-pub clear-least : (marked : ℕ → Type 0) (place : ℕ) (o : Option ℕ) → IsLeastFrom marked place o → IsClear marked place (least_or_none o)
+pub clear-least : (marked : ℕ → Type 0) (place : ℕ) (o : Option ℕ) → IsLeastFrom marked place o → IsClear marked place (unwrap_or o 65536)
 clear-least marked place x h = grind (arith)

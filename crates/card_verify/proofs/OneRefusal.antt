@@ -8,7 +8,6 @@ use Rattle.jc_decode.specs.Listing.{listing, targets}
 use Rattle.jc_control.specs.Method.{Method, IsMethodOf}
 use Rattle.jc_control.specs.FirstFailing.{IsFirstFailing}
 use Rattle.jc_control.specs.declared.flaw.Flaw.{Flaw}
-use Rattle.jc_control.specs.declared.flaw.Flaw.TheVariants as flaws
 use Rattle.jc_control.specs.Laws.{FirstFlawIsOne}
 use Rattle.jc_control.proofs.Elements.{taken-in}
 use Rattle.jc_control.proofs.FlawLaws.{first-flaw-refuses}

@@ -37,8 +37,3 @@ nearer from best place = if nat_le from place && is_nearer place best then Some 
 abbrev pub nearer_target : ℕ → Option ℕ → ℤ → Option ℕ
 nearer_target from best (pos place) = nearer from best place
 nearer_target from best (negsuc n) = best
-
--- the place that was found, and one beyond all code where there is none
-abbrev pub least_or_none : Option ℕ → ℕ
-least_or_none None = 65536
-least_or_none (Some least) = least

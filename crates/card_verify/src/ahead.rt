@@ -1,8 +1,8 @@
-ghost use Rattle.std.specs.Prelude.{◌≡◌, ℕ, ◌+◌, ◌<◌, ◌≤◌, fold, length, IsSomeAnd, MatchBool, Some, Ok};
+ghost use Rattle.std.specs.Prelude.{◌≡◌, ℕ, ◌+◌, ◌<◌, ◌≤◌, fold, length, MatchBool, Some, Ok};
 ghost use Rattle.jc_decode.specs.Decoding.{decoded};
 ghost use Rattle.jc_decode.specs.Listing.{targets};
 ghost use Rattle.card_typing.specs.Place.{IsTarget, IsEntry};
-ghost use Rattle.card_verify.specs.Ahead.{IsKnownAhead, IsClear, IsMarkKnown, IsLeastFrom, is_nearer, least_or_none, nearer, nearer_target};
+ghost use Rattle.card_verify.specs.Ahead.{IsKnownAhead, IsMarkKnown, IsLeastFrom, nearer, nearer_target};
 ghost use Rattle.card_verify.specs.Verifier.{method};
 
 use crate::marks::Marks;
@@ -54,33 +54,16 @@ impl Ahead {
         ensures forward { steps.old ≤ steps.new }
         ensures cost { (most : ℕ) → M.takes marks.now most → steps.new ≤ steps.old + most }
     {
-        Ahead {
-            from: place,
-            entry: self.entry_at(verifier, place),
-            clear: self.clear_at(marks, place, left, steps),
-        }
-    }
-
-    /// A place before which none is marked, from a place further on.
-    fn clear_at<M: Marks, L: Ledger>(
-        self,
-        marks: &M,
-        place: u16,
-        left: u8,
-        steps: &mut Steps<L>,
-    ) -> u32
-        requires clear { IsClear (M.marks marks.now) self.from self.clear }
-        requires up { self.from ≤ place }
-        ensures clear { IsClear (M.marks marks.now) place result }
-        ensures told { 0 < left → result ≤ place → M.marks marks.now place }
-        ensures still { left ≡ 0 → steps.new ≡ steps.old }
-        ensures forward { steps.old ≤ steps.new }
-        ensures cost { (most : ℕ) → M.takes marks.now most → steps.new ≤ steps.old + most }
-    {
-        if left > 0 && self.clear <= u32::from(place) {
-            least_or_none(marks.next_from(place, steps))
+        let entry = self.entry_at(verifier, place);
+        let clear = if left > 0 && self.clear <= u32::from(place) {
+            marks.next_from(place, steps).unwrap_or(65536)
         } else {
             self.clear
+        };
+        Ahead {
+            from: place,
+            entry,
+            clear,
         }
     }
 
@@ -90,30 +73,11 @@ impl Ahead {
         requires up { self.from ≤ place }
         ensures { IsLeastFrom (IsEntry (method verifier.entry)) place result }
     {
-        if is_passed(self.entry, place) {
-            verifier.entry_from(place)
-        } else {
-            self.entry
+        match self.entry {
+            Some(entry) if entry < u32::from(place) => verifier.entry_from(place),
+            Some(entry) => Some(entry),
+            None => None,
         }
-    }
-
-    /// Whether a handler begins at the place from which it looks.
-    pub(crate) fn is_entry(self, verifier: Verifier<'_>) -> bool
-        requires { IsLeastFrom (IsEntry (method verifier)) self.from self.entry }
-        ensures { MatchBool result (IsEntry (method verifier.entry) self.from) (¬ (IsEntry (method verifier.entry) self.from)) }
-    {
-        let _verifier = verifier;
-        is_here(self.entry, self.from)
-    }
-}
-
-/// The place that was found, and beyond every place where there is none.
-fn least_or_none(found: Option<u32>) -> u32
-    ensures { result ≡ least_or_none found }
-{
-    match found {
-        Some(place) => place,
-        None => 65536,
     }
 }
 
@@ -123,34 +87,14 @@ pub(crate) fn is_marked<M: Marks, L: Ledger>(marks: &M, place: u16, steps: &mut 
     ensures forward { steps.old ≤ steps.new }
     ensures cost { (most : ℕ) → M.takes marks.now most → steps.new ≤ steps.old + most }
 {
-    is_here(marks.next_from(place, steps), place)
-}
-
-/// Whether a place is before another.
-fn is_passed(found: Option<u32>, place: u16) -> bool
-    ensures { MatchBool result (IsSomeAnd found (λ q. q < place)) (¬ (IsSomeAnd found (λ q. q < place))) }
-{
-    match found {
-        Some(q) => q < u32::from(place),
-        None => false,
-    }
-}
-
-/// Whether this is the place that was found.
-fn is_here(found: Option<u32>, place: u16) -> bool
-    ensures { MatchBool result (found ≡ Some place) (¬ (found ≡ Some place)) }
-{
-    match found {
-        Some(q) => q == u32::from(place),
-        None => false,
-    }
+    marks.next_from(place, steps) == Some(u32::from(place))
 }
 
 /// The nearer of the best place so far and another, if that is not before the first.
 fn nearer(from: u16, best: Option<u32>, place: u32) -> Option<u32>
     ensures { result ≡ nearer from best place }
 {
-    if u32::from(from) <= place && is_nearer(place, best) {
+    if u32::from(from) <= place && best.is_none_or(|best| place < best) {
         Some(place)
     } else {
         best
@@ -164,15 +108,6 @@ fn nearer_target(from: u16, best: Option<u32>, target: i32) -> Option<u32>
     match u32::try_from(target) {
         Ok(place) => nearer(from, best, place),
         Err(_) => best,
-    }
-}
-
-fn is_nearer(place: u32, best: Option<u32>) -> bool
-    ensures { result ≡ is_nearer place best }
-{
-    match best {
-        Some(best) => place < best,
-        None => true,
     }
 }
 

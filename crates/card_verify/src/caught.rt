@@ -5,7 +5,7 @@ ghost use Rattle.jc_base.specs.World.{IsWorld};
 ghost use Rattle.jc_base.specs.declared.ty.Ty.TheVariants.{Class};
 ghost use Rattle.card_typing.specs.Place.{IsEntry, CatchesAt};
 ghost use Rattle.card_verify.specs.Verifier.{method, world_of};
-ghost use Rattle.card_verify.specs.Walk.{IsJoined, IsCaughtWith};
+ghost use Rattle.card_verify.specs.Walk.{IsCaughtWith};
 
 use crate::verifier::Verifier;
 use jc_base::{Classes, Handler, Ty, join};
@@ -35,22 +35,12 @@ fn caught_with(classes: &Classes, class: Option<u16>, handler: Handler, place: u
     requires handler { IsClass classes.now handler.class }
     ensures { IsCaughtWith classes.now place handler class result }
 {
-    if handler.entry == place {
-        Some(joined(classes, class, handler.class))
-    } else {
-        class
+    if handler.entry != place {
+        return class;
     }
-}
-
-/// The join of the class so far, if there is one, and another.
-fn joined(classes: &Classes, class: Option<u16>, other: u16) -> u16
-    requires class { IfSome class (IsClass classes.now) }
-    requires other { IsClass classes.now other }
-    ensures { IsJoined classes.now class other result }
-{
     match class {
-        Some(class) => join_classes(classes, class, other),
-        None => other,
+        Some(class) => Some(join_classes(classes, class, handler.class)),
+        None => Some(handler.class),
     }
 }
 

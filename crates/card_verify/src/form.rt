@@ -18,16 +18,8 @@ pub(crate) fn is_rest_formed(subject: Subject<'_>) -> bool
     if usize::from(end) != subject.code.bytes.len() {
         return false;
     }
-    are_formed(subject.code, subject.rec.handlers.as_slice())
-}
-
-/// Whether handlers are well formed.
-fn are_formed(code: View<'_>, handlers: &[Handler]) -> bool
-    requires { length code.bytes.now ≤ 32767 }
-    ensures { IsTrue result → All (IsHandlerOf code.entry.bytes.now) handlers.now }
-{
-    'handlers: for handler in handlers {
-        if !is_formed(code, *handler) {
+    'handlers: for handler in subject.rec.handlers.as_slice() {
+        if !is_formed(subject.code, *handler) {
             return false;
         }
     }

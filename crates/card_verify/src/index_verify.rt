@@ -1,8 +1,6 @@
-ghost use Rattle.std.specs.Prelude.{◌≡◌, ℕ, ◌+◌, ◌*◌, ◌<◌, ◌≤◌, ◌^◌, length, slice_get, All, Contains, IsErr, IsSomeAnd, IfErr, OnOk, OnErr};
-ghost use Rattle.jc_base.specs.Index.{IsAscending};
+ghost use Rattle.std.specs.Prelude.{◌≡◌, ℕ, ◌+◌, ◌*◌, ◌<◌, ◌≤◌, ◌^◌, length, slice_get, Contains, IsSomeAnd, IfErr, OnOk, OnErr};
 ghost use Rattle.jc_control.specs.Method.{IsMethodOf, method_in};
-ghost use Rattle.jc_control.specs.WellFormed.{IsPlace, IsWellFormed};
-ghost use Rattle.jc_decode.specs.Listing.{listing};
+ghost use Rattle.jc_control.specs.WellFormed.{IsWellFormed};
 ghost use Rattle.jc_rules.specs.Demand.{Frame};
 ghost use Rattle.jc_rules.specs.Apply.{frame_of};
 ghost use Rattle.card_typing.specs.Typing.{IsLeastCardTyping};
@@ -12,7 +10,7 @@ ghost use Rattle.card_verify.specs.Bound.{AreCounted, AreCountedBy, entries_read
 ghost use Rattle.card_verify.specs.Indexed.{subject, world_in, listed};
 ghost use Rattle.card_verify.specs.IndexTyping.{IsIndex, HasIndexTyping};
 ghost use Rattle.card_verify.specs.Lacking.{IsPlaceNumber, IsNotIndexed};
-ghost use Rattle.card_verify.specs.Refusal.{IsFirstBadEntry, IsFirstLacking, LeadsToListed, IsFormKind, IsRefusedOver};
+ghost use Rattle.card_verify.specs.Refusal.{IsFormKind, IsRefusedOver};
 
 use crate::Verifier;
 use crate::form::is_rest_formed;
@@ -128,87 +126,19 @@ impl Indexed<'_, '_> {
             → length (listed self.now) < 2 ^ b
             → steps.new ≤ steps.old + (length (listed self.now) + target_count (subject self.now) * b) }
     {
-        match bad_entry(self.verifier.subject.code, self.index, steps) {
-            Some(entry) => self.refuse_entry(entry),
-            None => self.check_targets(steps),
-        }
-    }
-
-    /// The same, where the entries of the index are places in ascending order.
-    fn check_targets<L: Ledger>(&self, steps: &mut Steps<L>) -> Result<(), CardFault>
-        requires ascending { IsAscending (listed self.now) }
-        requires places { All (IsPlace (subject self.now).code) (listed self.now) }
-        ensures formed { OnOk result (IsWellFormed (subject self.now)) }
-        ensures index { OnOk result (IsIndex (subject self.now) (listed self.now)) }
-        ensures refused { IfErr result
-            (λ fault.
-            (kept : Frame) → IsRefusedOver (world_in self.now) (subject self.now) (listed self.now) fault kept) }
-        ensures form { IfErr result (λ fault. IsFormKind fault.kind) }
-        ensures all_read { IfErr result
-            (λ fault. entries_read (length (listed self.now)) fault.kind ≤ length (listed self.now)) }
-        ensures forward { steps.old ≤ steps.new }
-        ensures cost { (b : ℕ)
-            → length (listed self.now) < 2 ^ b
-            → steps.new ≤ steps.old + target_count (subject self.now) * b }
-    {
-        match first_lacking(self.verifier.subject.code, self.index, steps) {
-            Some(lacks) => self.refuse_target(lacks),
-            None => self.check_rest(),
-        }
-    }
-
-    /// The refusal of an index with a bad entry; but a flaw of the method comes first.
-    fn refuse_entry(&self, entry: u32) -> Result<(), CardFault>
-        requires bad { IsFirstBadEntry (subject self.now).code (listed self.now) entry }
-        ensures err { IsErr result }
-        ensures refused { IfErr result
-            (λ fault.
-            (kept : Frame) → IsRefusedOver (world_in self.now) (subject self.now) (listed self.now) fault kept) }
-        ensures form { IfErr result (λ fault. IsFormKind fault.kind) }
-        ensures read_to { IfErr result (λ fault. entries_read (length (listed self.now)) fault.kind ≤ entry + 1) }
-    {
-        match self.verifier.check_form() {
-            Ok(()) => Err(CardFault {
+        instructions_are_listed();
+        if let Some(entry) = bad_entry(self.verifier.subject.code, self.index, steps) {
+            self.verifier.check_form()?;
+            return Err(CardFault {
                 place: 0,
                 depth: 0,
                 kind: CardKind::BadIndex(entry),
-            }),
-            Err(fault) => Err(fault),
+            });
         }
-    }
-
-    /// The refusal of an index of places that lacks a target; but a flaw of the method comes first.
-    fn refuse_target(&self, lacks: Lacking) -> Result<(), CardFault>
-        requires ascending { IsAscending (listed self.now) }
-        requires places { All (IsPlace (subject self.now).code) (listed self.now) }
-        requires lacks { IsFirstLacking (subject self.now).code (listed self.now) lacks.place lacks.target }
-        ensures err { IsErr result }
-        ensures refused { IfErr result
-            (λ fault.
-            (kept : Frame) → IsRefusedOver (world_in self.now) (subject self.now) (listed self.now) fault kept) }
-        ensures form { IfErr result (λ fault. IsFormKind fault.kind) }
-        ensures all_read { IfErr result
-            (λ fault. entries_read (length (listed self.now)) fault.kind ≤ length (listed self.now)) }
-    {
-        instructions_are_listed();
-        match self.verifier.check_form() {
-            Ok(()) => Err(not_indexed(lacks)),
-            Err(fault) => Err(fault),
+        if let Some(lacks) = first_lacking(self.verifier.subject.code, self.index, steps) {
+            self.verifier.check_form()?;
+            return Err(not_indexed(lacks));
         }
-    }
-
-    /// Whether the method is well formed, where the index lists places alone and every target.
-    fn check_rest(&self) -> Result<(), CardFault>
-        requires places { All (IsPlace (subject self.now).code) (listed self.now) }
-        requires leads { All (LeadsToListed (subject self.now).code (listed self.now)) (listing (subject self.now).code) }
-        ensures formed { OnOk result (IsWellFormed (subject self.now)) }
-        ensures refused { IfErr result
-            (λ fault.
-            (kept : Frame) → IsRefusedOver (world_in self.now) (subject self.now) (listed self.now) fault kept) }
-        ensures form { IfErr result (λ fault. IsFormKind fault.kind) }
-        ensures all_read { IfErr result
-            (λ fault. entries_read (length (listed self.now)) fault.kind ≤ length (listed self.now)) }
-    {
         if is_rest_formed(self.verifier.subject) {
             return Ok(());
         }

@@ -61,17 +61,7 @@ pub(crate) fn is_listed<L: Ledger>(
     ensures forward { steps.old ≤ steps.new }
     ensures cost { (b : ℕ) → length index.now < 2 ^ b → steps.new ≤ steps.old + b }
 {
-    is_place(next_listed(index, place, steps), place)
-}
-
-/// Whether this is the place that was found.
-fn is_place(found: Option<u32>, place: u32) -> bool
-    ensures { MatchBool result (found ≡ Some place) (¬ (found ≡ Some place)) }
-{
-    match found {
-        Some(q) => q == place,
-        None => false,
-    }
+    next_listed(index, place, steps) == Some(place)
 }
 
 /// An entry of an index.

@@ -7,9 +7,9 @@ ghost use Rattle.jc_rules.specs.Apply.{frame_of};
 ghost use Rattle.card_typing.specs.Place.{IsEntry, IsFallenInto};
 ghost use Rattle.card_typing.specs.Met.{IsOpenTo};
 ghost use Rattle.card_verify.specs.Verifier.{method, world_of};
-ghost use Rattle.card_verify.specs.Ahead.{IsClear, IsKnownAhead, IsMarkKnown};
+ghost use Rattle.card_verify.specs.Ahead.{IsKnownAhead, IsMarkKnown};
 ghost use Rattle.card_verify.specs.Counted.{instruction_count};
-ghost use Rattle.card_verify.specs.Walk.{IsVerifier, HasSlices, IsComing, IsLanded, IsMislanded, IsFailing, IsStepped, IsVisited, IsStopped, CanPass, CanBeginPass, IsPassedOver, HasLessLeft, IsSettled, IsRefusedInPass, IsLeftWell, IsLeftWrong, IsPut, IsBlocked, IsShared, left};
+ghost use Rattle.card_verify.specs.Walk.{IsVerifier, HasSlices, IsComing, IsLanded, IsMislanded, IsFailing, IsStepped, IsVisited, IsStopped, CanPass, CanBeginPass, IsPassedOver, HasLessLeft, IsSettled, IsRefusedInPass, IsLeftWell, IsLeftWrong, IsPut, left};
 
 use crate::ahead::{Ahead, is_marked};
 use crate::counted::apply_counted;
@@ -80,7 +80,7 @@ impl Verifier<'_> {
                 Ok(outcome) => outcome,
                 Err(fault) => return Err(fault),
             };
-            rose = either(rose, outcome.rose);
+            rose |= outcome.rose;
             arrival = Arrival {
                 may_fall: placed.insn.falls(),
                 depth: outcome.depth,
@@ -150,10 +150,10 @@ impl Verifier<'_> {
         ensures forward { steps.old ≤ steps.new }
         ensures cost { (most : ℕ) → M.takes marks.now most → steps.new ≤ steps.old + most }
     {
-        if ahead.is_entry(*self) {
+        if ahead.entry == Some(u32::from(ahead.from)) {
             return self.enter(marks, ahead.from, arrival, stack, steps);
         }
-        if is_blocked(marks, ahead, arrival) {
+        if arrival.left() > 0 && ahead.clear <= u32::from(ahead.from) {
             return Err(CardFault {
                 place: ahead.from,
                 depth: arrival.left(),
@@ -189,7 +189,7 @@ impl Verifier<'_> {
         ensures cost { (most : ℕ) → M.takes marks.now most → steps.new ≤ steps.old + most }
     {
         let depth = put_alone(stack, Ty::Class(self.caught(place)));
-        if is_shared(marks, place, arrival, steps) {
+        if arrival.may_fall || is_marked(marks, place, steps) {
             return Err(CardFault {
                 place,
                 depth,
@@ -279,42 +279,6 @@ impl Verifier<'_> {
         }
         None
     }
-}
-
-/// Whether a marked place is fallen into with cells on the stack.
-fn is_blocked<M: Marks>(marks: &M, ahead: Ahead, arrival: Arrival) -> bool
-    requires clear { IsClear (M.marks marks.now) ahead.from ahead.clear }
-    requires told { IsMarkKnown (M.marks marks.now) ahead (left arrival) }
-    ensures { MatchBool result
-        (IsBlocked (M.marks marks.now) ahead.from arrival)
-        (¬ (IsBlocked (M.marks marks.now) ahead.from arrival)) }
-{
-    let _marks = marks;
-    arrival.left() > 0 && ahead.clear <= u32::from(ahead.from)
-}
-
-/// Whether control comes to a handler's entry in another way too.
-fn is_shared<M: Marks, L: Ledger>(
-    marks: &M,
-    place: u16,
-    arrival: Arrival,
-    steps: &mut Steps<L>,
-) -> bool
-    ensures shared { MatchBool result
-        (IsShared (M.marks marks.now) place arrival)
-        (¬ (IsShared (M.marks marks.now) place arrival)) }
-    ensures still { arrival.may_fall ≡ true → steps.new ≡ steps.old }
-    ensures forward { steps.old ≤ steps.new }
-    ensures cost { (most : ℕ) → M.takes marks.now most → steps.new ≤ steps.old + most }
-{
-    arrival.may_fall || is_marked(marks, place, steps)
-}
-
-/// Whether one holds, or the other.
-fn either(one: bool, other: bool) -> bool
-    ensures { result ≡ (one || other) }
-{
-    one || other
 }
 
 /// Puts a cell alone on a stack, where it has room for one, and tells how many cells it then has.

@@ -32,8 +32,5 @@ fn declared(rec: &MethodRec, x: usize) -> Ty
 fn argument(args: &[Ty], n: usize) -> Ty
     ensures { result ≡ slice_index_or args.now n Bottom }
 {
-    match args.get(n) {
-        Some(ty) => *ty,
-        None => Ty::Bottom,
-    }
+    args.get(n).copied().unwrap_or(Ty::Bottom)
 }

@@ -96,22 +96,9 @@ impl Verifier<'_> {
     {
         card_laws(self.subject.world);
         match self.check_form() {
-            Ok(()) => self.verify_types(regs, stack),
+            Ok(()) => self.verify_uncounted::<Brand>(regs, stack, Blank::new(1)),
             Err(fault) => Err(fault),
         }
-    }
-
-    /// Verifies the types of a well-formed method, over its own targets.
-    fn verify_types(&self, regs: &mut [Ty], stack: &mut [Ty]) -> Result<(), CardFault>
-        requires formed { IsWellFormed (method self.now) }
-        requires slices { HasSlices self.now regs.old stack.old }
-        ensures typing { OnOk result (IsLeastCardTyping (world_of self.now) (method self.now) regs.new) }
-        ensures refused { IfErr result
-            (λ fault.
-            IsRefused (world_of self.now) (method self.now) fault
-            (frame_of regs.new stack.new fault.depth)) }
-    {
-        self.verify_uncounted::<Brand>(regs, stack, Blank::new(1))
     }
 
     /// The same, where nobody asks for the number of steps.

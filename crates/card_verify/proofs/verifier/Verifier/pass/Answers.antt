@@ -114,12 +114,10 @@ walk-preserved g c =
       ahead = c.visit.ensures.ahead;
       low = omega (arith, c.visit.ensures.here, next);
       progress =
-          subst (λ (a : Bool). IsProgress v marked c.args.regs.now a c.visit.new.regs c.falls.result (cells c.visit.new.stack o.depth)
-          (c.walk.yielded ++ i ∷ [])) (sym c.either-rose.ensures)
-          (subst (λ (b : Bool). IsProgress v marked c.args.regs.now (c.walk.rose || o.rose) c.visit.new.regs b (cells c.visit.new.stack o.depth)
+          subst (λ (b : Bool). IsProgress v marked c.args.regs.now (c.walk.rose || o.rose) c.visit.new.regs b (cells c.visit.new.stack o.depth)
           (c.walk.yielded ++ i ∷ [])) (sym c.falls.ensures)
           (progress-next v marked c.requires.verifier c.args.regs.now c.walk.rose i c.walk.yielded c.walk.arrival c.walk.regs c.walk.stack c.visit.new.regs
-          c.visit.new.stack o c.walk.invariant.progress c.in-Ok.ensures.passed));
+          c.visit.new.stack o c.walk.invariant.progress c.in-Ok.ensures.passed);
       counted = omega (arith, c.walk.invariant.counted, c.in-Ok.ensures.counted, one-more c.walk.yielded i);
       cost = λ most takes. omega (arith, c.walk.invariant.cost most takes, c.visit.ensures.cost most takes, one-more-cost c.walk.yielded i (most + 1));
     }

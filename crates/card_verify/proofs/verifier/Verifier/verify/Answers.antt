@@ -6,22 +6,22 @@ use Rattle.card_verify.proofs.verifier.Verifier.verify.Goals as goal
 
 pub returns-in-Ok-clause-flow : goal.returns-in-Ok-clause-flow
 returns-in-Ok-clause-flow c =
-    flow-of c.args.self.now c.verify_types.result c.verify_types.new.regs c.card_laws.ensures.flow c.args.self.now.subject.there c.verify_types.ensures.typing
+    flow-of c.args.self.now c.verify_uncounted.result c.verify_uncounted.new.regs c.card_laws.ensures.flow c.args.self.now.subject.there c.verify_uncounted.ensures.typing
 
 pub returns-in-Ok-clause-none : goal.returns-in-Ok-clause-none
 returns-in-Ok-clause-none c =
-    none-of c.args.self.now c.verify_types.new.regs c.verify_types.new.stack c.args.self.now.subject.there c.verify_types.result c.card_laws.ensures.refused
-    c.verify_types.ensures.refused
+    none-of c.args.self.now c.verify_uncounted.new.regs c.verify_uncounted.new.stack c.args.self.now.subject.there c.verify_uncounted.result c.card_laws.ensures.refused
+    c.verify_uncounted.ensures.refused
 
 pub returns-in-Ok-clause-flawed : goal.returns-in-Ok-clause-flawed
 returns-in-Ok-clause-flawed c =
-    told-of c.args.self.now c.verify_types.new.regs c.verify_types.new.stack c.args.self.now.subject.there c.verify_types.result c.card_laws.ensures.told
-    c.verify_types.ensures.refused
+    told-of c.args.self.now c.verify_uncounted.new.regs c.verify_uncounted.new.stack c.args.self.now.subject.there c.verify_uncounted.result c.card_laws.ensures.told
+    c.verify_uncounted.ensures.refused
 
 pub returns-in-Ok-clause-as_before : goal.returns-in-Ok-clause-as_before
 returns-in-Ok-clause-as_before c =
-    kept-of c.args.self.now c.verify_types.new.regs c.verify_types.new.stack c.args.self.now.subject.there c.verify_types.result _ c.card_laws.ensures.told
-    c.in-Ok.ensures.formed c.verify_types.ensures.refused
+    kept-of c.args.self.now c.verify_uncounted.new.regs c.verify_uncounted.new.stack c.args.self.now.subject.there c.verify_uncounted.result _ c.card_laws.ensures.told
+    c.in-Ok.ensures.formed c.verify_uncounted.ensures.refused
 
 pub returns-in-Err-clause-none : goal.returns-in-Err-clause-none
 returns-in-Err-clause-none c =

@@ -1,6 +1,0 @@
-use Rattle.std.proofs.Common.{take, All}
-use Rattle.jc_control.specs.WellFormed.{IsHandlerOf}
-use Rattle.card_verify.proofs.form.are_formed.Given as goal
-
-abbrev pub invariant-handlers : goal.invariant-handlers
-invariant-handlers l = All (IsHandlerOf l.code.bytes.now) (take l.handler-index l.handlers)
