@@ -1,8 +1,7 @@
 ghost use Rattle.std.specs.Prelude.{◌≡◌, ◌≤◌, ◌<◌, ◌↔◌, All, IsTrue, IfOk, Some, length, slice_get};
-ghost use Rattle.jc_base.specs.Class.{IsClass};
 ghost use Rattle.jc_base.specs.Dispatch.{IsConcrete};
 ghost use Rattle.jc_base.specs.Linked.{AreLinkedClasses};
-ghost use Rattle.jc_base.specs.ByClass.{AllHaveBodies, AreConcrete, AreFilledBelow, IsIndexOf};
+ghost use Rattle.jc_base.specs.ByClass.{AreFilledBelow, IsIndexOf};
 
 use crate::class::Classes;
 use crate::concrete::public_have_bodies;

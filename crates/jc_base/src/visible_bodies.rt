@@ -1,6 +1,5 @@
-ghost use Rattle.std.specs.Prelude.{◌≡◌, ◌≤◌, ◌<◌, ◌↔◌, All, IsTrue, IfOk, IfSome, None, length, replicate};
+ghost use Rattle.std.specs.Prelude.{◌≡◌, ◌≤◌, ◌<◌, ◌↔◌, IsTrue, IfOk, IfSome, None, length};
 ghost use Rattle.jc_base.specs.Class.{IsClass, parent_of};
-ghost use Rattle.jc_base.specs.Dispatch.{HasBody, visible_of};
 ghost use Rattle.jc_base.specs.Linked.{AreLinkedClasses};
 ghost use Rattle.jc_base.specs.ByClass.{OthersHaveBodies, AreKnown, AreFilledBelow, IsFilled, IsFilledOnce, IsClimb, known_at};
 
