@@ -5,7 +5,6 @@ use Rattle.std.proofs.lemmas.List.{length-map}
 use Rattle.cap_package.specs.PackageRecord.{PackageRecord}
 use Rattle.jc_resolve.specs.declared.fault.LinkEnd.{LinkEnd}
 use Rattle.jc_resolve.specs.Conditions.{conditions}
-use Rattle.first_fault.specs.Least.{◌>>=◌}
 use Rattle.first_fault.specs.First.{AllEmpty}
 use Rattle.jc_resolve.specs.Named.{IsAgreed, IsSized, AreNamed, infos_of}
 use Rattle.jc_resolve.specs.NamedClasses.{named_classes}

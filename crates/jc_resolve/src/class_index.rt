@@ -5,7 +5,7 @@ ghost use Rattle.cap_pool.specs.Export.{exported_class_seen};
 ghost use Rattle.jc_resolve.specs.Counts.{class_total, method_total};
 ghost use Rattle.jc_resolve.specs.Numbering.{numbered_classes, numbered_methods, class_at, method_at, is_interface_number};
 ghost use Rattle.jc_resolve.specs.Numbers.{spot_of_class, with_all, none_numbered, class_spots, interface_flags};
-ghost use Rattle.jc_resolve.specs.References.{met_by, place_referred, class_referred, class_named, exported_class, exported_offset, exported_field, exported_method};
+ghost use Rattle.jc_resolve.specs.References.{met_by, place_referred, class_referred, class_named, exported_class, exported_field, exported_method};
 
 use crate::counts::class_total;
 use crate::exports::{Exports, exported_classes, exported_in};
@@ -155,14 +155,6 @@ impl<'n, 'p, 'a> Index<'n, 'p, 'a> {
         exported_in(&self.exports, package, token)
     }
 
-    /// The offset of the class that a package exports with a token.
-    fn exported_offset(&self, package: u16, token: u8) -> Option<u16>
-        ensures { result ≡ exported_offset self.now «package» token }
-    {
-        let exported = self.exported_class(package, token)?;
-        Some(exported.class.class_offset)
-    }
-
     /// The offset of the static field that a package exports, by its class's token and its own.
     #[tactic(auto, using(crate::proofs::ExportLaws::field_there))]
     pub(crate) fn exported_field(&self, package: u16, class: u8, token: u8) -> Option<u16>
@@ -200,10 +192,10 @@ impl<'n, 'p, 'a> Index<'n, 'p, 'a> {
                 class,
             } => {
                 let home = self.import_met(package, import)?;
-                let offset = self.exported_offset(home, class)?;
+                let exported = self.exported_class(home, class)?;
                 Some(RecordPlace {
                     package: home,
-                    offset,
+                    offset: exported.class.class_offset,
                 })
             }
         }

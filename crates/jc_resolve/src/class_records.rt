@@ -7,10 +7,10 @@ ghost use Rattle.first_fault.specs.Least.{least_from};
 ghost use Rattle.jc_resolve.specs.Conditions.{super_references, references_of_class, references_of_classes, no_class_fault, named_in};
 ghost use Rattle.jc_resolve.specs.Described.{IsDescribedOnce};
 ghost use Rattle.jc_resolve.specs.Fault.{link_place};
-ghost use Rattle.jc_resolve.specs.Homes.{object_at, description_at, records_at, least_at, resolved_at, named_class_at, classes_at};
+ghost use Rattle.jc_resolve.specs.Homes.{object_at, records_at, least_at, resolved_at, named_class_at, classes_at};
 ghost use Rattle.jc_resolve.specs.LookedUp.{references_for_classes};
 ghost use Rattle.jc_resolve.specs.Named.{IsByteTable, IsSized};
-ghost use Rattle.jc_resolve.specs.NamedClasses.{instance_fields, cells_of_fields, dispatch_entry, dispatch_table, no_table, parent_named, implemented_interfaces, interface_with, named_proper, named_class};
+ghost use Rattle.jc_resolve.specs.NamedClasses.{cells_of_fields, dispatch_entry, dispatch_table, no_table, parent_named, implemented_interfaces, interface_with, named_proper, named_class};
 ghost use Rattle.jc_resolve.specs.Numbering.{numbered_class, numbered_classes};
 ghost use Rattle.jc_resolve.specs.OwnFields.{cells_of_own, own_with_token, cells_over, tokens_end};
 ghost use Rattle.jc_resolve.specs.TypedFields.{fields_after};
@@ -112,9 +112,8 @@ fn push_cells(cells: &mut Vec<Ty>, field: OwnField) -> Result<(), AllocError>
     ensures { OnOk result (cells.new.items ≡ cells.old.items ++ cells_of_own field) }
 {
     cells.push(field.ty)?;
-    match field.kind {
-        Kind::Int => cells.push(Ty::IntLow)?,
-        _ => {}
+    if let Kind::Int = field.kind {
+        cells.push(Ty::IntLow)?;
     }
     Ok(())
 }
@@ -156,26 +155,6 @@ fn cells_of_fields(alloc: Global, fields: &[OwnField]) -> Result<Vec<Ty>, AllocE
     'tokens: for token in 0..tokens_end(fields) {
         push_token(&mut cells, fields, token)?;
     }
-    Ok(cells)
-}
-
-/// The types of the cells of the fields that a class has of its own.
-fn own_cells(
-    alloc: Global,
-    home: Home<'_, '_, '_, '_>,
-    fields: &PackageFields,
-    class: ClassInfo<'_>,
-) -> Result<Vec<Ty>, AllocError>
-    requires fields { fields.now ≡ resolved_at home }
-    requires once { IsDescribedOnce (records_at home) (class_seen class) }
-    ensures { IfOk result
-        (λ v.
-        v.items
-        ≡ cells_of_fields home.entry.index.now (object_at home.entry) home.entry.number
-        (description_at home.entry)
-        (instance_fields (records_at home.entry) (class_seen class.entry).offset)) }
-{
-    let cells = cells_of_fields(alloc, fields.own_at(class.offset()))?;
     Ok(cells)
 }
 
@@ -229,7 +208,7 @@ fn named_proper(
     let _descriptor = home.of_package.descriptor();
     let public = table_of(alloc, home, class.public_base(), class.publics())?;
     let visible = table_of(alloc, home, class.package_base(), class.package_table())?;
-    let own = own_cells(alloc, home, fields, class)?;
+    let own = cells_of_fields(alloc, fields.own_at(class.offset()))?;
     Ok(NamedClass {
         package: home.number,
         interface: false,

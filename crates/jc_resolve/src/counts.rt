@@ -10,8 +10,6 @@ use cap_package::Packages;
 
 /// The packages of a world.
 const PACKAGES: usize = 16;
-/// The number that a fault can tell.
-const MOST: usize = 4_294_967_295;
 /// The classes of a world.
 const CLASSES: u32 = 4_096;
 /// The methods of a world.
@@ -24,8 +22,7 @@ pub(crate) fn packages_few(packages: &Packages<'_, '_>) -> Result<(), LinkFault>
 {
     let count = packages.len();
     if count == 0 || count > PACKAGES {
-        let told = if count < MOST { count as u32 } else { u32::MAX };
-        return Err(LinkFault::TooManyPackages(told));
+        return Err(LinkFault::TooManyPackages(u32::try_from(count).unwrap_or(u32::MAX)));
     }
     Ok(())
 }

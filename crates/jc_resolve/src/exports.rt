@@ -1,35 +1,28 @@
 ghost use Rattle.std.specs.Prelude.{◌≡◌, map, option_and_then, slice_get, IfOk};
-ghost use Rattle.cap_pool.specs.Export.{exported_class_seen, exported_left};
+ghost use Rattle.cap_pool.specs.Export.{exported_class_seen};
 ghost use Rattle.cap_package.specs.Agreement.{or_none};
 ghost use Rattle.jc_resolve.specs.Numbers.{exported_classes};
 
 use cap_package::{Package, Packages};
-use cap_pool::{ExportedClass, ExportedClasses};
+use cap_pool::ExportedClass;
 use jc_base::Items;
 use std::alloc::{AllocError, Global};
 
 /// What a package exports, by the tokens of the classes.
 pub(crate) type Exports<'a> = Items<ExportedClass<'a>>;
 
-/// Classes that are exported, in a list.
-fn listed<'a>(alloc: Global, exported: ExportedClasses<'a>) -> Result<Exports<'a>, AllocError>
-    ensures { IfOk result (λ classes. map exported_class_seen classes ≡ exported_left exported.entry) }
-{
-    let mut classes = Vec::new(alloc);
-    'classes: for class in exported {
-        classes.push(class)?;
-    }
-    Ok(Items::of(classes))
-}
-
 /// The classes that one package exports, by their tokens.
 fn exports_of<'a>(alloc: Global, package: &Package<'_, 'a>) -> Result<Exports<'a>, AllocError>
     ensures { IfOk result (λ classes. map exported_class_seen classes ≡ or_none «package».now.export) }
 {
-    match package.export() {
-        Some(export) => listed(alloc, export.iter()),
-        None => Ok(Items::of(Vec::new(alloc))),
+    let mut classes = Vec::new(alloc);
+    let Some(export) = package.export() else {
+        return Ok(Items::of(classes));
+    };
+    'classes: for class in export.iter() {
+        classes.push(class)?;
     }
+    Ok(Items::of(classes))
 }
 
 /// The classes that packages export, by package and token.

@@ -32,10 +32,7 @@ fn first_meeting(packages: PackagesIter<'_, '_, '_>, asked: PackageInfo<'_>) -> 
     ensures is { result ≡ first_meeting (packages_left packages.entry) (package_seen asked.entry) }
     ensures below { IfSome result (λ n. n < length (packages_left packages.entry)) }
 {
-    match place_meeting(packages, asked) {
-        Some(n) => Some(n as u16),
-        None => None,
-    }
+    Some(place_meeting(packages, asked)? as u16)
 }
 
 /// The package that meets the import with a token: the first of the earlier ones that does.
@@ -89,13 +86,6 @@ pub(crate) fn imports_met(
 pub(crate) fn met_among(met: &Items<Met>, package: u16, token: u8) -> Option<u16>
     ensures { result ≡ met_among met.now «package» token }
 {
-    match met
-        .as_slice()
-        .get(package as usize)?
-        .as_slice()
-        .get(token as usize)
-    {
-        Some(met) => *met,
-        None => None,
-    }
+    let of_package = met.as_slice().get(package as usize)?;
+    *of_package.as_slice().get(token as usize)?
 }

@@ -1,4 +1,4 @@
-ghost use Rattle.std.specs.Prelude.{◌≡◌, ◌+◌, ◌≤◌, ◌<◌, [], ◌∷◌, ◌++◌, length, map, take, drop, All, IfOk, IfSome, OnOk, flat_map};
+ghost use Rattle.std.specs.Prelude.{◌≡◌, ◌+◌, ◌≤◌, [], ◌∷◌, ◌++◌, length, map, take, drop, All, IfOk, OnOk, flat_map};
 ghost use Rattle.offset_set.specs.Bits.{holds};
 ghost use Rattle.cap_desc.specs.ClassRecords.{described_class_seen};
 ghost use Rattle.cap_desc.specs.MemberRecords.{method_seen};
@@ -7,12 +7,12 @@ ghost use Rattle.cap_package.specs.PackageRecord.{names_interface};
 ghost use Rattle.first_fault.specs.Least.{least_from};
 ghost use Rattle.jc_resolve.specs.Conditions.{references_of_method, no_class_fault, named_in};
 ghost use Rattle.jc_resolve.specs.Fault.{link_place};
-ghost use Rattle.jc_resolve.specs.Homes.{throwable_at, description_at, records_at, class_named_at, least_at};
+ghost use Rattle.jc_resolve.specs.Homes.{throwable_at, description_at, records_at, least_at};
 ghost use Rattle.jc_resolve.specs.Homes.{handler_at, described_at, headers_at, methods_at, methods_from};
-ghost use Rattle.jc_resolve.specs.LookedUp.{references_with_methods, references_for_methods};
+ghost use Rattle.jc_resolve.specs.LookedUp.{references_for_methods};
 ghost use Rattle.jc_resolve.specs.Named.{IsAgreed};
-ghost use Rattle.jc_resolve.specs.NamedMethods.{HasFewHandlers, class_or_none, caught_class, offset_in_info, no_body, body_after, body_of, is_init, named_method};
-ghost use Rattle.jc_resolve.specs.Numbering.{numbered_method, numbered_classes, numbered_methods};
+ghost use Rattle.jc_resolve.specs.NamedMethods.{HasFewHandlers, caught_class, offset_in_info, no_body, body_after, body_of, is_init, named_method};
+ghost use Rattle.jc_resolve.specs.Numbering.{numbered_method, numbered_methods};
 
 use crate::class_index::Index;
 use crate::fault::LinkFault;
@@ -28,18 +28,6 @@ use jc_base::{Handler, Items, MethodRec, Sig};
 use offset_set::Offsets;
 use std::alloc::{AllocError, Global};
 
-/// The class that a Classref names; 0 where none is named.
-fn class_or_none(home: Home<'_, '_, '_, '_>, reference: PoolReference) -> u16
-    ensures { result ≡ class_or_none home.entry.index.now home.entry.number reference }
-{
-    match reference {
-        PoolReference::Class(class) => {
-            home.index.class_referred(home.number, class).unwrap_or(0)
-        }
-        _ => 0,
-    }
-}
-
 /// The class that a handler catches, by its catch_type_index.
 fn caught(home: Home<'_, '_, '_, '_>, catch_type: u16) -> u16
     ensures { result
@@ -48,10 +36,14 @@ fn caught(home: Home<'_, '_, '_, '_>, catch_type: u16) -> u16
     if catch_type == 0 {
         return home.roles[1] as u16;
     }
-    let pool = home.of_package.pool();
-    match pool.at(catch_type) {
-        Some(entry) => class_or_none(home, entry.reference()),
-        None => 0,
+    let Some(entry) = home.of_package.pool().at(catch_type) else {
+        return 0;
+    };
+    match entry.reference() {
+        PoolReference::Class(class) => {
+            home.index.class_referred(home.number, class).unwrap_or(0)
+        }
+        _ => 0,
     }
 }
 
@@ -145,11 +137,7 @@ fn no_body(alloc: Global, flags: AccessFlags, sig: &Sig) -> Body
     let receiver = if flags.is_static() { 0 } else { 1 };
     Body {
         is_abstract: true,
-        nargs: if words < 255 {
-            (words + receiver) as u8
-        } else {
-            255
-        },
+        nargs: words.saturating_add(receiver).min(255) as u8,
         max_locals: 0,
         max_stack: 0,
         code_at: 0,
@@ -221,30 +209,8 @@ struct OfClass<'a> {
     has_headers: bool,
 }
 
-/// Whether the methods of a record of the Descriptor have headers, by the class that it names.
-#[tactic(auto, unfolding(crate::specs::NamedMethods::have_headers))]
-fn have_headers(
-    home: Home<'_, '_, '_, '_>,
-    interfaces: &Offsets,
-    class: DescClass<'_>,
-    named: Option<u16>,
-) -> bool
-    requires interfaces { holds interfaces.now ≡ names_interface home.of_package.now.classes }
-    requires named { named ≡ class_named_at home (described_class_seen class).class_ref }
-    requires below { IfSome named (λ c. c < length (numbered_classes home.index.now)) }
-    ensures { result ≡ headers_at home.entry (described_class_seen class.entry) }
-{
-    if interfaces.has(class.class_ref()) {
-        return false;
-    }
-    match named {
-        Some(class) => !home.index.is_interface(class),
-        None => false,
-    }
-}
-
 /// A record of the Descriptor with the class that it names.
-#[tactic(auto, unfolding(crate::specs::NamedMethods::class_described))]
+#[tactic(auto, unfolding(crate::specs::NamedMethods::class_described, crate::specs::NamedMethods::have_headers))]
 fn of_class<'a>(
     home: Home<'_, '_, '_, '_>,
     interfaces: &Offsets,
@@ -260,19 +226,16 @@ fn of_class<'a>(
     ensures least { least.new ≡ least_at home.entry least.old ((described_class_seen record.entry).class_ref ∷ []) }
 {
     let named = class_or_fault(home, record.class_ref(), least);
+    let is_class = match named {
+        Some(class) => !home.index.is_interface(class),
+        None => false,
+    };
     OfClass {
         class_no,
         record,
         class: named.unwrap_or(0),
-        has_headers: have_headers(home, interfaces, record, named),
+        has_headers: is_class && !interfaces.has(record.class_ref()),
     }
-}
-
-/// Whether a method is a constructor.
-fn is_init(flags: AccessFlags) -> bool
-    ensures { result ≡ is_init flags.0 }
-{
-    flags.contains(AccessFlags::INIT)
 }
 
 /// A method with all that its records name.
@@ -307,7 +270,7 @@ fn method_record(
         class_no: of_class.class_no,
         method_no,
         is_static: method.flags.is_static(),
-        is_init: is_init(method.flags),
+        is_init: method.flags.contains(AccessFlags::INIT),
         is_abstract: body.is_abstract,
         sig,
         nargs: body.nargs,
@@ -351,30 +314,6 @@ fn push_methods(
     Ok(())
 }
 
-/// Appends the methods of a record of the Descriptor.
-fn push_class(
-    methods: &mut Vec<MethodRec>,
-    alloc: Global,
-    home: Home<'_, '_, '_, '_>,
-    interfaces: &Offsets,
-    class_no: u16,
-    class: DescClass<'_>,
-    least: &mut Option<LinkFault>,
-) -> Result<(), AllocError>
-    requires { holds interfaces.now ≡ names_interface home.of_package.now.classes }
-    ensures is { OnOk result
-        (methods.new.items
-        ≡ methods.old.items ++ methods_at home.entry class_no (described_class_seen class.entry) 0
-        (described_class_seen class.entry).methods) }
-    ensures least { OnOk result
-        (least.new
-        ≡ least_at home.entry least.old
-        (references_with_methods (description_at home.entry) (described_class_seen class.entry))) }
-{
-    let of_class = of_class(home, interfaces, class_no, class, least);
-    push_methods(methods, alloc, home, of_class, least)
-}
-
 /// Appends the methods of a package.
 #[tactic(auto, using(crate::proofs::Steps::classes_step, crate::proofs::NamedFaults::least_with_methods))]
 fn push_package(
@@ -400,7 +339,8 @@ fn push_package(
     let _count = descriptor.class_count();
     let mut class_no: u16 = 0;
     'classes: for class in descriptor.classes() {
-        push_class(methods, alloc, home, &interfaces, class_no, class, least)?;
+        let of_class = of_class(home, &interfaces, class_no, class, least);
+        push_methods(methods, alloc, home, of_class, least)?;
         class_no += 1;
     }
     Ok(())

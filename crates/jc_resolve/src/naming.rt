@@ -1,15 +1,14 @@
-ghost use Rattle.std.specs.Prelude.{◌≡◌, ◌≤◌, All, IfOk, OnOk, length, slice_index};
+ghost use Rattle.std.specs.Prelude.{◌≡◌, ◌≤◌, All, IfOk, length, slice_index};
 ghost use Rattle.jc_resolve.specs.Named.{AreNamed, IsAgreed, IsSized, infos_of};
 ghost use Rattle.jc_resolve.specs.NamedMethods.{HasFewHandlers};
 ghost use Rattle.jc_resolve.specs.OwnPlaces.{HaveOwnPlaces};
-ghost use Rattle.jc_resolve.specs.Counts.{class_total, method_total};
 ghost use Rattle.jc_resolve.specs.Due.{IsDue};
 ghost use Rattle.jc_resolve.specs.Names.{HaveRecords, IsIndexed, TellsNames, TellsReferences, indexable, names_of};
 
 use crate::class_index::{Index, index_packages};
 use crate::class_records::class_records;
 use crate::counts::{classes_few, methods_few, packages_few};
-use crate::fault::{LinkEnd, LinkFault};
+use crate::fault::LinkEnd;
 use crate::import_checks::check_imports;
 use crate::method_records::methods_after;
 use crate::named::NamedClass;
@@ -21,28 +20,19 @@ use first_fault::refuse;
 use jc_base::{Items, MethodRec};
 use std::alloc::Global;
 
-/// Packages can be numbered: there are not too many, nor too many classes or methods, and each import is met.
+/// The packages with their classes and methods numbered, where they can be: there are not too many, nor too many classes or
+/// methods, and each import is met.
 #[tactic(auto, unfolding(crate::specs::Names::indexable))]
-fn check_indexable(packages: &Packages<'_, '_>) -> Result<(), LinkFault>
-    ensures value { result ≡ indexable packages.now }
-    ensures few { OnOk result (length packages.now ≤ 16) }
-    ensures few_classes { OnOk result (class_total packages.now ≤ 4096) }
-    ensures few_methods { OnOk result (method_total packages.now ≤ 32768) }
-{
-    packages_few(packages)?;
-    classes_few(packages)?;
-    methods_few(packages)?;
-    check_imports(packages)
-}
-
-/// The packages with their classes and methods numbered, where they can be.
 fn indexed<'n, 'p, 'a>(
     alloc: Global,
     packages: &'n Packages<'p, 'a>,
 ) -> Result<Index<'n, 'p, 'a>, LinkEnd>
     ensures { IsIndexed packages.now result }
 {
-    check_indexable(packages)?;
+    packages_few(packages)?;
+    classes_few(packages)?;
+    methods_few(packages)?;
+    check_imports(packages)?;
     Ok(index_packages(alloc, packages)?)
 }
 

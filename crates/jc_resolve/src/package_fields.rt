@@ -1,6 +1,5 @@
-ghost use Rattle.std.specs.Prelude.{◌≡◌, slice_get};
+ghost use Rattle.std.specs.Prelude.{◌≡◌};
 ghost use Rattle.cap_class.specs.ClassPart.{class_seen};
-ghost use Rattle.cap_package.specs.Agreement.{or_none};
 ghost use Rattle.jc_resolve.specs.TypedFields.{own_found, types_kept, own_kept};
 
 use crate::numbers::Numbers;
@@ -20,16 +19,6 @@ pub(crate) struct PackageFields {
     pub(crate) numbers: Numbers,
 }
 
-/// The instance fields of a record.
-fn fields_at(records: &Items<Items<OwnField>>, n: u16) -> &[OwnField]
-    ensures { result.now ≡ or_none (slice_get records.now n) }
-{
-    match records.as_slice().get(n as usize) {
-        Some(fields) => fields.as_slice(),
-        None => &[],
-    }
-}
-
 impl PackageFields {
     /// The instance fields of the first record of the class at an offset.
     #[tactic(auto, unfolding(crate::specs::TypedFields::own_found))]
@@ -39,8 +28,11 @@ impl PackageFields {
         if offset >= 0x8000 {
             return &[];
         }
-        match self.numbers.at(RecordPlace::of_own(offset)) {
-            Some(n) => fields_at(&self.records, n),
+        let Some(n) = self.numbers.at(RecordPlace::of_own(offset)) else {
+            return &[];
+        };
+        match self.records.as_slice().get(n as usize) {
+            Some(fields) => fields.as_slice(),
             None => &[],
         }
     }

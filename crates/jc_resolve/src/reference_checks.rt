@@ -7,7 +7,6 @@ ghost use Rattle.jc_resolve.specs.Homes.{class_named_at};
 ghost use Rattle.jc_resolve.specs.LookedUp.{least_named, references_without_methods, references_besides};
 ghost use Rattle.jc_resolve.specs.Fault.{link_place};
 ghost use Rattle.first_fault.specs.Least.{lesser, least_from};
-ghost use Rattle.jc_resolve.specs.NamedMethods.{reference_in};
 ghost use Rattle.jc_resolve.specs.Numbering.{numbered_classes};
 
 use crate::class_index::Index;
@@ -50,13 +49,6 @@ pub(crate) fn class_or_fault(
     }
 }
 
-/// The class reference in the first two of three bytes.
-fn reference_in(bytes: [u8; 3]) -> u16
-    ensures { result ≡ reference_in bytes }
-{
-    BigEndian::read_u16(&bytes)
-}
-
 /// The least fault so far, when a table of references was looked at.
 #[tactic(auto, using(first_fault::proofs::LeastFound::least_first))]
 fn table_named(
@@ -86,10 +78,8 @@ fn fields_named(
     let mut least = least;
     'fields: for field in fields {
         if !field.flags.is_static() {
-            least = lesser(
-                least,
-                reference_fault(index, package, reference_in(field.bytes)),
-            );
+            let reference = BigEndian::read_u16(&field.bytes);
+            least = lesser(least, reference_fault(index, package, reference));
         }
     }
     least

@@ -1,9 +1,8 @@
-ghost use Rattle.std.specs.Prelude.{◌≡◌, ◌<◌, ◌∷◌, [], ◌++◌, IfOk, IfSome, OnOk, flat_map, length};
+ghost use Rattle.std.specs.Prelude.{◌≡◌, ◌∷◌, [], ◌++◌, IfOk, OnOk, flat_map};
 ghost use Rattle.cap_desc.specs.TypeLists.{types_left};
 ghost use Rattle.jc_resolve.specs.Conditions.{reference_of_type, references_of_types_at};
 ghost use Rattle.jc_resolve.specs.Homes.{object_at, description_at, least_at, type_class_at, type_at};
-ghost use Rattle.jc_resolve.specs.Numbering.{numbered_classes};
-ghost use Rattle.jc_resolve.specs.WorldTypes.{class_or_object, cells_with, kind_of, signature_in, declared_signature};
+ghost use Rattle.jc_resolve.specs.WorldTypes.{cells_with, kind_of, signature_in, declared_signature};
 
 use crate::fault::LinkFault;
 use crate::home::Home;
@@ -12,31 +11,16 @@ use cap_desc::{TypeItem, Types};
 use jc_base::{Items, Kind, Sig, Ty};
 use std::alloc::{AllocError, Global};
 
-/// The class as which a type knows what was named: object where that is an interface, or no class.
-fn class_or_object(home: Home<'_, '_, '_, '_>, named: Option<u16>) -> u16
-    requires { IfSome named (λ c. c < length (numbered_classes home.index.now)) }
-    ensures { result ≡ class_or_object home.entry.index.now (object_at home.entry) named }
-{
-    let object = home.roles[0] as u16;
-    match named {
-        Some(class) => {
-            if home.index.is_interface(class) {
-                object
-            } else {
-                class
-            }
-        }
-        None => object,
-    }
-}
-
-/// The class as which a type knows what a reference names; one that names no class is counted in the least fault so far.
+/// The class as which a type knows what a reference names: object where that is an interface, or no class. One that names
+/// no class is counted in the least fault so far.
 fn type_class(home: Home<'_, '_, '_, '_>, reference: u16, least: &mut Option<LinkFault>) -> u16
     ensures is { result ≡ type_class_at home.entry reference }
     ensures least { least.new ≡ least_at home.entry least.old (reference ∷ []) }
 {
-    let named = class_or_fault(home, reference, least);
-    class_or_object(home, named)
+    match class_or_fault(home, reference, least) {
+        Some(class) if !home.index.is_interface(class) => class,
+        _ => home.roles[0] as u16,
+    }
 }
 
 /// The type of a value; void has none. A reference in it that names no class is counted in the least fault so far.
