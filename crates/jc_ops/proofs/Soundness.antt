@@ -8,7 +8,7 @@ use Rattle.jc_base.specs.declared.ty.Ty.{Ty}
 use Rattle.jc_base.specs.declared.ty.Ty.TheVariants.{IntLow, Class, ArrBool, ArrByte, ArrShort, ArrInt, ArrRef}
 use Rattle.jc_base.specs.declared.ty.Kind.{Kind}
 use Rattle.jc_base.specs.declared.record.Member.{Member}
-use Rattle.jc_base.specs.declared.record.Member.TheVariants.{Field, Static, Virtual, Super, StaticCall}
+use Rattle.jc_base.specs.declared.record.Member.TheVariants.{Field, Super, StaticCall}
 use Rattle.jc_base.specs.declared.record.MethodRec.{MethodRec}
 use Rattle.jc_base.specs.Class.{IsClass, is_interface, object, parent_of}
 use Rattle.jc_base.specs.Order.{joined, same, subclass, IsArray, of_booleans, of_bytes, of_shorts, of_ints, of_references}
@@ -23,14 +23,12 @@ use Rattle.jc_ops.specs.declared.fault.RuleFault.{RuleFault}
 use Rattle.jc_ops.specs.declared.want.Want.{Want}
 use Rattle.jc_ops.specs.declared.want.Want.TheVariants.{Value, Receiver}
 use Rattle.jc_ops.specs.declared.operation.Sort.{Sort}
-use Rattle.jc_ops.specs.declared.operation.Sort.TheVariants as sorts
 use Rattle.jc_ops.specs.declared.operation.Move.TheVariants as moves
 use Rattle.jc_ops.specs.declared.operation.Choice.{Choice}
 use Rattle.jc_ops.specs.declared.operation.Choice.TheVariants as choices
 use Rattle.jc_ops.specs.declared.operation.Operation.{Operation}
 use Rattle.jc_ops.specs.declared.operation.Operation.TheVariants as ops
 use Rattle.jc_ops.specs.declared.row.Invocation.{Invocation}
-use Rattle.jc_ops.specs.declared.row.Invocation.TheVariants as invocations
 use Rattle.jc_ops.specs.declared.row.Row.{Row}
 use Rattle.jc_ops.specs.declared.row.Row.TheVariants as rows
 use Rattle.jc_ops.specs.Row.{table, row_at, unused, by_sort, by_width, by_kind, first_four, by_register, literals, binaries, orders_all, branching}

@@ -40,8 +40,8 @@ pub(crate) enum Row {
     Return(Option<Sort>),
 }
 
-/// By opcode (JCVM 2.2, section 7.5). What is no instruction does nothing, as `nop`: none is decoded.
-static ROWS: [Row; 256] = [
+/// By opcode (JCVM 2.2, section 7.5), up to the last instruction's.
+static ROWS: [Row; 185] = [
     // nop, aconst_null
     Row::Plain(Operation::Constant(Constant::Nothing)),
     Row::Plain(Operation::Constant(Constant::Null)),
@@ -288,86 +288,18 @@ static ROWS: [Row; 256] = [
     Row::FieldWrite(Kind::Byte, Holder::This),
     Row::FieldWrite(Kind::Short, Holder::This),
     Row::FieldWrite(Kind::Int, Holder::This),
-    // no instruction of the standard, and its two reserved opcodes
-    Row::Plain(Operation::Constant(Constant::Nothing)),
-    Row::Plain(Operation::Constant(Constant::Nothing)),
-    Row::Plain(Operation::Constant(Constant::Nothing)),
-    Row::Plain(Operation::Constant(Constant::Nothing)),
-    Row::Plain(Operation::Constant(Constant::Nothing)),
-    Row::Plain(Operation::Constant(Constant::Nothing)),
-    Row::Plain(Operation::Constant(Constant::Nothing)),
-    Row::Plain(Operation::Constant(Constant::Nothing)),
-    Row::Plain(Operation::Constant(Constant::Nothing)),
-    Row::Plain(Operation::Constant(Constant::Nothing)),
-    Row::Plain(Operation::Constant(Constant::Nothing)),
-    Row::Plain(Operation::Constant(Constant::Nothing)),
-    Row::Plain(Operation::Constant(Constant::Nothing)),
-    Row::Plain(Operation::Constant(Constant::Nothing)),
-    Row::Plain(Operation::Constant(Constant::Nothing)),
-    Row::Plain(Operation::Constant(Constant::Nothing)),
-    Row::Plain(Operation::Constant(Constant::Nothing)),
-    Row::Plain(Operation::Constant(Constant::Nothing)),
-    Row::Plain(Operation::Constant(Constant::Nothing)),
-    Row::Plain(Operation::Constant(Constant::Nothing)),
-    Row::Plain(Operation::Constant(Constant::Nothing)),
-    Row::Plain(Operation::Constant(Constant::Nothing)),
-    Row::Plain(Operation::Constant(Constant::Nothing)),
-    Row::Plain(Operation::Constant(Constant::Nothing)),
-    Row::Plain(Operation::Constant(Constant::Nothing)),
-    Row::Plain(Operation::Constant(Constant::Nothing)),
-    Row::Plain(Operation::Constant(Constant::Nothing)),
-    Row::Plain(Operation::Constant(Constant::Nothing)),
-    Row::Plain(Operation::Constant(Constant::Nothing)),
-    Row::Plain(Operation::Constant(Constant::Nothing)),
-    Row::Plain(Operation::Constant(Constant::Nothing)),
-    Row::Plain(Operation::Constant(Constant::Nothing)),
-    Row::Plain(Operation::Constant(Constant::Nothing)),
-    Row::Plain(Operation::Constant(Constant::Nothing)),
-    Row::Plain(Operation::Constant(Constant::Nothing)),
-    Row::Plain(Operation::Constant(Constant::Nothing)),
-    Row::Plain(Operation::Constant(Constant::Nothing)),
-    Row::Plain(Operation::Constant(Constant::Nothing)),
-    Row::Plain(Operation::Constant(Constant::Nothing)),
-    Row::Plain(Operation::Constant(Constant::Nothing)),
-    Row::Plain(Operation::Constant(Constant::Nothing)),
-    Row::Plain(Operation::Constant(Constant::Nothing)),
-    Row::Plain(Operation::Constant(Constant::Nothing)),
-    Row::Plain(Operation::Constant(Constant::Nothing)),
-    Row::Plain(Operation::Constant(Constant::Nothing)),
-    Row::Plain(Operation::Constant(Constant::Nothing)),
-    Row::Plain(Operation::Constant(Constant::Nothing)),
-    Row::Plain(Operation::Constant(Constant::Nothing)),
-    Row::Plain(Operation::Constant(Constant::Nothing)),
-    Row::Plain(Operation::Constant(Constant::Nothing)),
-    Row::Plain(Operation::Constant(Constant::Nothing)),
-    Row::Plain(Operation::Constant(Constant::Nothing)),
-    Row::Plain(Operation::Constant(Constant::Nothing)),
-    Row::Plain(Operation::Constant(Constant::Nothing)),
-    Row::Plain(Operation::Constant(Constant::Nothing)),
-    Row::Plain(Operation::Constant(Constant::Nothing)),
-    Row::Plain(Operation::Constant(Constant::Nothing)),
-    Row::Plain(Operation::Constant(Constant::Nothing)),
-    Row::Plain(Operation::Constant(Constant::Nothing)),
-    Row::Plain(Operation::Constant(Constant::Nothing)),
-    Row::Plain(Operation::Constant(Constant::Nothing)),
-    Row::Plain(Operation::Constant(Constant::Nothing)),
-    Row::Plain(Operation::Constant(Constant::Nothing)),
-    Row::Plain(Operation::Constant(Constant::Nothing)),
-    Row::Plain(Operation::Constant(Constant::Nothing)),
-    Row::Plain(Operation::Constant(Constant::Nothing)),
-    Row::Plain(Operation::Constant(Constant::Nothing)),
-    Row::Plain(Operation::Constant(Constant::Nothing)),
-    Row::Plain(Operation::Constant(Constant::Nothing)),
-    Row::Plain(Operation::Constant(Constant::Nothing)),
-    Row::Plain(Operation::Constant(Constant::Nothing)),
 ];
 
 impl Row {
-    /// The row of an opcode.
+    /// The row of an opcode. What is no instruction does nothing, as `nop`: none is decoded.
     #[inline(always)]
     pub(crate) fn of(op: u8) -> Row
         ensures { result ≡ row_at op }
     {
-        ROWS[op as usize]
+        if op < 185 {
+            ROWS[op as usize]
+        } else {
+            Row::Plain(Operation::Constant(Constant::Nothing))
+        }
     }
 }
