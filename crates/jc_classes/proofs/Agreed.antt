@@ -90,4 +90,9 @@ told_short t classes methods e = none_long (told_empty t classes methods e)
     none_long : AllEmpty (conditions t classes methods) → long_instances t classes ≡ []
     none_long (holes, (overrides, (unserved, (long, done)))) = long
 
+-- what is asked one after the other is granted where each is
+pub all_granted : (a b c d : Result (Unit {0}) LinkFault) → a ≡ Ok (tt {0}) → b ≡ Ok (tt {0}) → c ≡ Ok (tt {0}) → d ≡ Ok (tt {0})
+    → Ok (tt {0}) ≡ (a >>= λ _. (b >>= λ _. (c >>= λ _. d)))
+all_granted a b c d ea eb ec ed = rw (ea, eb, ec, ed) refl
+
 pub ruleset telling = (told_first, told_empty, told_short, layouts_count)

@@ -1,4 +1,4 @@
-ghost use Rattle.std.specs.Prelude.{◌≡◌, ◌<◌, ◌++◌, map, replicate, false, [], ◌∷◌, MatchOption, IfOk, OnOk, All, slice_index_or};
+ghost use Rattle.std.specs.Prelude.{◌≡◌, ◌++◌, map, replicate, false, [], ◌∷◌, MatchOption, IfOk, OnOk, All, slice_index_or};
 ghost use Rattle.jc_classes.specs.KnownClasses.{HasKnownLine};
 ghost use Rattle.jc_classes.specs.Ancestor.{above, is_above};
 ghost use Rattle.jc_classes.specs.Marks.{mark, mark_all};

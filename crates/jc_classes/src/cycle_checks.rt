@@ -51,14 +51,10 @@ fn cycle_fault(
     requires rests { IsTrue rests → is_above classes.now class.now.interface c c ≡ false }
     ensures { IfOk result (λ fault. fault ≡ cycle_fault classes.now (c, class.now)) }
 {
-    if rests {
+    if rests || !is_above(alloc, classes, class.interface, c, c)? {
         return Ok(None);
     }
-    if is_above(alloc, classes, class.interface, c, c)? {
-        Ok(Some(LinkFault::Cycle(c)))
-    } else {
-        Ok(None)
-    }
+    Ok(Some(LinkFault::Cycle(c)))
 }
 
 /// The least class that is an ancestor of itself, or interface that is a superinterface of itself. In the
@@ -75,10 +71,7 @@ pub(crate) fn least_cycle(
     let mut settled = Vec::with_capacity(alloc, classes.len())?;
     'classes: for (c, class) in classes.as_slice().iter().enumerate() {
         let rests = rests_on(settled.as_slice(), class);
-        match cycle_fault(alloc, classes, rests, c as u16, class) {
-            Ok(fault) => least = lesser(least, fault),
-            Err(error) => return Err(error),
-        }
+        least = lesser(least, cycle_fault(alloc, classes, rests, c as u16, class)?);
         settled.push(rests)?;
     }
     Ok(least)

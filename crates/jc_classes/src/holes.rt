@@ -7,13 +7,13 @@ ghost use Rattle.jc_classes.specs.KnownLines.{HaveSuperclasses};
 ghost use Rattle.jc_classes.specs.Layout.{layouts};
 ghost use Rattle.jc_classes.specs.Slots.{HasShortLists};
 ghost use Rattle.jc_classes.specs.Growth.{is_own, AddsOwn, GrowsLists};
-ghost use Rattle.jc_classes.specs.TableConditions.{may_stand, entries_from, entries_in, hole_fault, class_numbers};
+ghost use Rattle.jc_classes.specs.TableConditions.{entries_from, entries_in, hole_fault, class_numbers};
 
 use crate::Lineage;
 use crate::layout::ClassLayout;
 use crate::made_list::{MadeList, public_list, visible_list};
 use crate::overlay::reach;
-use crate::signatures::{is_same_entry, method_in};
+use crate::signatures::method_in;
 use jc_base::{MethodRec, Methods};
 use jc_resolve::{LinkFault, NamedClasses, lesser, refuse};
 
@@ -24,19 +24,6 @@ struct Line<'a> {
     class: u16,
     marks: &'a [bool],
     ghost marked: { marks.now ≡ map (λ d. is_on_chain lineage.now d class) (range_with_len 0 (length lineage.now.lines)) },
-}
-
-/// Takes all marks away.
-#[tactic(auto, using(crate::proofs::Marks::clearing))]
-fn clear(marks: &mut [bool])
-    ensures len { length marks.new ≡ length marks.old }
-    ensures none { (k : ℕ) → k < length marks.new → slice_index_or marks.new k false ≡ false }
-{
-    let mut i = 0;
-    'marks: while i < marks.len() {
-        marks[i] = false;
-        i += 1;
-    }
 }
 
 /// Marks a class and its superclasses, where nothing is marked.
@@ -81,15 +68,6 @@ impl<'a> Line<'a> {
         self.marks[d as usize]
     }
 
-    /// Whether a method can stand in a dispatch list of the class.
-    #[inline(always)]
-    fn may_hold(self, method: &MethodRec) -> bool
-        requires { method.now.class < length self.lineage.now.lines }
-        ensures { result ≡ may_stand self.entry.lineage.now self.entry.class (Some method.now) }
-    {
-        self.has(method.class) && (!method.is_static && !method.is_init)
-    }
-
     /// What is wrong with an entry of a dispatch list of the class.
     #[tactic(auto, using(crate::proofs::Folds::class_known), unfolding(crate::specs::TableConditions::hole_fault))]
     #[inline(always)]
@@ -100,7 +78,7 @@ impl<'a> Line<'a> {
             (record { class = self.entry.class; token = token; method = entry }) }
     {
         let stands = match method_in(methods, entry) {
-            Some(method) => self.may_hold(method),
+            Some(method) => self.has(method.class) && (!method.is_static && !method.is_init),
             None => false,
         };
         if stands {
@@ -192,7 +170,7 @@ fn adds_own(methods: &Methods, c: u16, lists: MadeList<'_>) -> bool
     let end = reach(lists.table).min(list.len());
     'tokens: for token in first..end {
         let entry = list[token];
-        let is_inherited = token < inherited.len() && is_same_entry(entry, inherited[token]);
+        let is_inherited = token < inherited.len() && entry == inherited[token];
         if !is_inherited && !is_own(methods, c, entry) {
             return false;
         }
@@ -204,10 +182,7 @@ fn adds_own(methods: &Methods, c: u16, lists: MadeList<'_>) -> bool
 fn comes_after(above: Option<u16>, c: u16) -> bool
     ensures { IsTrue result → IfSome above (λ p. p < c) }
 {
-    match above {
-        Some(p) => p < c,
-        None => true,
-    }
+    above.is_none_or(|p| p < c)
 }
 
 /// Whether a class adds methods of its own alone to both of its lists.
@@ -282,7 +257,7 @@ pub(crate) fn no_holes(
         (hole_fault lineage.now methods.now)
         (flat_map (entries_in lineage.now classes.now) (class_numbers classes.now))) }
 {
-    clear(marks);
+    marks.fill(false);
     let mut least = None;
     'classes: for c in 0..classes.len() {
         least = holes_after(lineage, classes, methods, all, c as u16, marks, least);

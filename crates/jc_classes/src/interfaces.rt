@@ -1,4 +1,4 @@
-ghost use Rattle.std.specs.Prelude.{◌≡◌, ◌<◌, ◌+◌, All, Some, length, map, flat_map};
+ghost use Rattle.std.specs.Prelude.{◌≡◌, ◌<◌, All, Some, length, map, flat_map};
 ghost use Rattle.std.specs.List.{list_all};
 ghost use Rattle.jc_base.specs.declared.record.Iface.{Iface};
 ghost use Rattle.jc_resolve.specs.Fault.{link_place};
@@ -65,32 +65,8 @@ fn interface_fault(
     }
 }
 
-/// The least fault so far, when the interfaces that a class implements were seen.
+/// The least fault so far, when the interfaces that a class implements were seen; an interface implements none.
 #[tactic(auto, using(crate::proofs::Implementing::implementation_folds))]
-fn unserved_in(
-    methods: &Methods,
-    groups: &[Group<'_>],
-    c: u16,
-    public: &[Option<u16>],
-    interfaces: &[Iface],
-    least: Option<LinkFault>,
-) -> Option<LinkFault>
-    requires grouped { AreGroups (length groups.now) methods.now groups.now }
-    requires known { All (λ (i : Iface). i.class < length groups.now) interfaces.now }
-    ensures { result
-        ≡ least_from link_place least (interface_type_fault methods.now)
-        (map
-        (λ (i : Iface). record { class = c; public = public.now; iface = i })
-        interfaces.now) }
-{
-    let mut least = least;
-    'interfaces: for iface in interfaces {
-        least = lesser(least, interface_fault(methods, groups, c, public, iface));
-    }
-    least
-}
-
-/// The least fault so far, when a class or an interface was seen.
 fn unserved_by(
     methods: &Methods,
     groups: &[Group<'_>],
@@ -108,17 +84,13 @@ fn unserved_by(
         (implemented_by (Some class.now))) }
 {
     if class.interface {
-        least
-    } else {
-        unserved_in(
-            methods,
-            groups,
-            c,
-            public,
-            class.interfaces.as_slice(),
-            least,
-        )
+        return least;
     }
+    let mut least = least;
+    'interfaces: for iface in class.interfaces.as_slice() {
+        least = lesser(least, interface_fault(methods, groups, c, public, iface));
+    }
+    least
 }
 
 /// Each method of an implemented interface has a public token, with its signature.

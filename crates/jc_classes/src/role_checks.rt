@@ -44,10 +44,10 @@ pub(crate) fn least_role(
 {
     let mut least = None;
     'roles: for (k, c) in roles.iter().enumerate() {
-        match role_fault(alloc, classes, first, throwable, k as u8, *c as u16) {
-            Ok(fault) => least = lesser(least, fault),
-            Err(error) => return Err(error),
-        }
+        least = lesser(
+            least,
+            role_fault(alloc, classes, first, throwable, k as u8, *c as u16)?,
+        );
     }
     Ok(least)
 }

@@ -62,20 +62,7 @@ pub(crate) fn same_signature(methods: &Methods, a: Option<u16>, b: Option<u16>) 
     ensures exact { IsTrue result ↔ entry_signature methods.now a ≡ entry_signature methods.now b }
 {
     // Most entries are inherited as they are.
-    is_same_entry(a, b) || are_alike(method_in(methods, a), method_in(methods, b))
-}
-
-#[inline(always)]
-pub(crate) fn is_same_entry(a: Option<u16>, b: Option<u16>) -> bool
-    ensures { IsTrue result → a ≡ b }
-{
-    match a {
-        Some(m) => match b {
-            Some(n) => m == n,
-            None => false,
-        },
-        None => b.is_none(),
-    }
+    a == b || are_alike(method_in(methods, a), method_in(methods, b))
 }
 
 fn are_alike(a: Option<&MethodRec>, b: Option<&MethodRec>) -> bool

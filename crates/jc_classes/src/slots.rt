@@ -86,15 +86,6 @@ pub(crate) fn visible_above<'a>(up: Option<&'a ClassLayout>, home: bool) -> &'a 
     }
 }
 
-fn cells_above(up: Option<&ClassLayout>) -> u32
-    ensures { result ≡ (above_or_nothing (option_map (λ l. l.now) up.entry)).cells }
-{
-    match up {
-        Some(up) => up.cells,
-        None => 0,
-    }
-}
-
 /// What a class makes of the lists of its superclass.
 #[tactic(auto, unfolding(crate::specs::Layout::class_layout_from))]
 fn layout_from(
@@ -110,7 +101,7 @@ fn layout_from(
     Ok(ClassLayout {
         public: overlay(alloc, &class.public, public_above(up))?,
         visible: overlay(alloc, &class.visible, visible_above(up, home))?,
-        cells: class.own.len() as u32 + cells_above(up),
+        cells: class.own.len() as u32 + up.map_or(0, |up| up.cells),
     })
 }
 
@@ -121,10 +112,7 @@ fn slot_above<'a>(
 ) -> Option<&'a ClassLayout>
     ensures { option_map (λ l. l.now) result ≡ option_and_then (slot_at slots.now.items) above }
 {
-    match above {
-        Some(p) => slot_at(slots, p),
-        None => None,
-    }
+    slot_at(slots, above?)
 }
 
 /// Makes the lists of a class from those of the class above it.

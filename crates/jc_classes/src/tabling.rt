@@ -5,7 +5,6 @@ ghost use Rattle.jc_classes.specs.Lines.{HaveLines};
 ghost use Rattle.jc_classes.specs.KnownLines.{AreInRange, HaveSuperclasses};
 ghost use Rattle.jc_classes.specs.Layout.{layouts};
 ghost use Rattle.jc_classes.specs.Signatures.{TellsSame};
-ghost use Rattle.jc_classes.specs.Groups.{AreGroups};
 ghost use Rattle.jc_classes.specs.TableConditions.{long_instances};
 ghost use Rattle.jc_classes.specs.Tables.{class_tables, classes_agree, tables_of, Links, TellsTableEnd};
 
@@ -21,30 +20,6 @@ use crate::slots::layouts;
 use jc_base::{Classes, Items, Methods};
 use jc_resolve::{LinkEnd, LinkFault, NamedClasses};
 use std::alloc::{AllocError, Global};
-
-/// Asks the conditions on classes in the order of their numbers. `marks` is room for a mark a class.
-#[tactic(auto, unfolding(crate::specs::Tables::classes_agree))]
-fn agree(
-    lineage: &Lineage,
-    classes: &NamedClasses,
-    methods: &Methods,
-    all: &[ClassLayout],
-    groups: &[Group<'_>],
-    marks: &mut [bool],
-) -> Result<(), LinkFault>
-    requires known { HaveSuperclasses lineage.now classes.now }
-    requires layouts { all.now ≡ layouts lineage.now classes.now }
-    requires methods { All (λ m. m.class < length lineage.now.lines) methods.now }
-    requires grouped { AreGroups (length classes.now) methods.now groups.now }
-    requires interfaces { AreInRange classes.now }
-    requires room { length marks.now ≡ length lineage.now.lines }
-    ensures { result ≡ classes_agree lineage.now classes.now methods.now }
-{
-    no_holes(lineage, classes, methods, all, marks)?;
-    overrides_agree(lineage, classes, methods, all)?;
-    interfaces_served(lineage, classes, methods, all, groups)?;
-    instances_fit(lineage, classes, all)
-}
 
 /// The table of classes whose lists are made.
 #[tactic(auto, using(crate::proofs::Agreed::building))]
@@ -67,16 +42,8 @@ fn build(
     Ok(Classes::of(Items::of(records), lineage.roles()))
 }
 
-/// Room for a mark a class, without marks.
-fn no_marks(alloc: Global, count: usize) -> Result<Vec<bool>, AllocError>
-    ensures { IfOk result (λ marks. length marks.items ≡ count) }
-{
-    let marks = vec![in alloc; false; count]?;
-    Ok(marks)
-}
-
-/// The table of classes of which nothing is at fault.
-#[tactic(auto, using(crate::proofs::Agreed::telling), unfolding(crate::specs::Tables::tables_of))]
+/// The table of classes of which nothing is at fault; the conditions are asked in the order of their numbers.
+#[tactic(auto, using(crate::proofs::Agreed::telling), unfolding(crate::specs::Tables::tables_of, crate::specs::Tables::classes_agree))]
 fn tables_or_fault(
     alloc: Global,
     lineage: &Lineage,
@@ -91,16 +58,13 @@ fn tables_or_fault(
 {
     let all = layouts(alloc, lineage, classes)?;
     let groups = groups(alloc, methods, classes.len())?;
-    let mut marks = no_marks(alloc, classes.len())?;
-    agree(
-        lineage,
-        classes,
-        methods,
-        all.as_slice(),
-        groups.as_slice(),
-        marks.as_mut_slice(),
-    )?;
-    Ok(build(alloc, lineage, classes, all.as_slice())?)
+    let mut marks = vec![in alloc; false; classes.len()]?;
+    let all = all.as_slice();
+    no_holes(lineage, classes, methods, all, marks.as_mut_slice())?;
+    overrides_agree(lineage, classes, methods, all)?;
+    interfaces_served(lineage, classes, methods, all, groups.as_slice())?;
+    instances_fit(lineage, classes, all)?;
+    Ok(build(alloc, lineage, classes, all)?)
 }
 
 /// The dispatch lists, the cells and the interfaces of classes whose superclasses are known: their class
