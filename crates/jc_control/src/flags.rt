@@ -39,10 +39,7 @@ impl Flags {
     pub fn has(&self, place: u32) -> bool
         ensures { result ≡ flag self.now place }
     {
-        match self.items.get(place as usize) {
-            Some(flag) => *flag,
-            None => false,
-        }
+        self.items.get(place as usize).copied().unwrap_or(false)
     }
 
     /// Sets the flag of a place.

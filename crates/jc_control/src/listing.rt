@@ -65,9 +65,6 @@ impl Listing {
     fn held(&self, place: u16) -> Option<Insn>
         ensures { result ≡ slice_index_or self.now.insns place None }
     {
-        match self.insns.get(usize::from(place)) {
-            Some(held) => *held,
-            None => None,
-        }
+        *self.insns.get(usize::from(place))?
     }
 }

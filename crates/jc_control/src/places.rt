@@ -24,7 +24,14 @@ impl Places<'_> {
     {
         match self {
             Places::Listed(listing) => listing.has(place),
-            Places::Sought => is_place(code, place),
+            Places::Sought => {
+                'walk: for placed in Instructions::of(code) {
+                    if u32::from(placed.place) == place {
+                        return true;
+                    }
+                }
+                false
+            }
         }
     }
 
@@ -51,17 +58,4 @@ impl Places<'_> {
             Places::Sought => decode(code, place),
         }
     }
-}
-
-/// Whether an instruction of the code begins at the place, by a walk along the code.
-fn is_place(code: View<'_>, place: u32) -> bool
-    requires { length code.bytes.now ≤ 32767 }
-    ensures { IsTrue result ↔ IsPlace code.entry.bytes.now place }
-{
-    'walk: for placed in Instructions::of(code) {
-        if u32::from(placed.place) == place {
-            return true;
-        }
-    }
-    false
 }

@@ -40,9 +40,7 @@ impl Traversal {
         let mut traversal = Traversal::new(alloc, subject.code.bytes.len() + 1)?;
         traversal.reach(0)?;
         'work: while let Some(place) = traversal.take() {
-            if let Err(error) = traversal.visit(subject, listing, place) {
-                return Err(error);
-            }
+            traversal.visit(subject, listing, place)?;
         }
         Ok(traversal)
     }
@@ -118,9 +116,7 @@ impl Traversal {
         ensures led { OnOk result (All (IsLedTo self.new) (targets subject.entry.code.bytes.now placed)) }
     {
         'targets: for target in Targets::of(subject.code, placed) {
-            if let Err(error) = self.follow(subject, placed, target) {
-                return Err(error);
-            }
+            self.follow(subject, placed, target)?;
         }
         Ok(())
     }
@@ -154,9 +150,7 @@ impl Traversal {
         ensures caught { OnOk result (All (IsCaught self.new place) subject.entry.rec.now.handlers) }
     {
         'handlers: for handler in subject.rec.handlers.as_slice() {
-            if let Err(error) = self.enter(subject, *handler, place) {
-                return Err(error);
-            }
+            self.enter(subject, *handler, place)?;
         }
         Ok(())
     }

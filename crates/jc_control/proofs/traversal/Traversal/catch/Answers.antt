@@ -21,13 +21,13 @@ handlers-preserved c =
     let n = c.handlers.handler-index in
     let new = c.enter.new.self in
     let inside : n < length hs = omega (arith, ap length same, c.handlers-test.true) in
-    let here = subst (λ (xs : List Handler). IsCaught new c.args.place (get_or xs n _)) same c.in_default.ensures.caught in
+    let here = subst (λ (xs : List Handler). IsCaught new c.args.place (get_or xs n _)) same c.in_ok-enter.ensures.caught in
     record {
-      sound = c.in_default.ensures.sound;
-      grows = grows-on c.args.self.now c.handlers.self new c.handlers.invariant.grows c.in_default.ensures.grows;
+      sound = c.in_ok-enter.ensures.sound;
+      grows = grows-on c.args.self.now c.handlers.self new c.handlers.invariant.grows c.in_ok-enter.ensures.grows;
       caught =
           All-more (IsCaught new c.args.place) hs n _ inside
-          (all-caught-stay c.handlers.self new c.args.place (take n hs) c.in_default.ensures.grows c.handlers.invariant.caught) here;
+          (all-caught-stay c.handlers.self new c.args.place (take n hs) c.in_ok-enter.ensures.grows c.handlers.invariant.caught) here;
     }
 
 pub returns-clause-caught : goal.returns-clause-caught

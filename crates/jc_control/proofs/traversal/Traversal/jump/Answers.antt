@@ -36,7 +36,7 @@ targets-preserved c =
     let fits : FitsSigned w32 t = search rules in
     let whole = at-next c.targets.yielded (rest_of c.targets.target-iterator) t (rest_of c.next.new.self) all c.targets.invariant.whole
     c.in-Some.ensures.steps in
-    let done = c.in_default.ensures in
+    let done = c.in_ok-follow.ensures in
     record {
       sound = done.sound;
       grows = grows-on c.args.self.now c.targets.self c.follow.new.self c.targets.invariant.grows done.grows;

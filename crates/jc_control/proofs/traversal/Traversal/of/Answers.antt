@@ -33,7 +33,7 @@ work-preserved c =
     let t = c.take.new.self in
     let u = c.visit.new.self in
     let takes = c.in-Some.ensures.some in
-    let done = c.in_default-visit.ensures in
+    let done = c.in_ok-visit.ensures in
     record {
       sound = done.sound;
       closed = visited-closed m c.in-Some.place s t takes u done.grows done.closed c.work.invariant.closed;
