@@ -1,7 +1,7 @@
-ghost use Rattle.std.specs.Prelude.{◌≡◌, ◌≤◌, ◌++◌, is_some, length, count_by, IfOk, OnOk};
+ghost use Rattle.std.specs.Prelude.{◌≡◌, ◌++◌, is_some, count_by, IfOk, OnOk};
 ghost use Rattle.std.specs.List.{flat_map};
 ghost use Rattle.byteorder.specs.Endian.{big_bytes};
-ghost use Rattle.cap_index.specs.TargetIndex.{AreShortCodes, HasEntries, IsIndexOf, IsListed, IsListedIf, IsShortIf, vec_seen};
+ghost use Rattle.cap_index.specs.TargetIndex.{AreShortCodes, HasEntries, IsIndexOf, IsListedIf, IsShortIf, vec_seen};
 
 use crate::exact::exact_index;
 use cap_bytes::View;
@@ -41,7 +41,7 @@ fn entries(alloc: Global, laid: &[Option<Laid>]) -> Result<Vec<u16>, AllocError>
     Ok(entries)
 }
 
-/// Appends those of a method, where it has code.
+/// Appends the number of the places of a method's exact index, and these places, where it has code.
 fn put_method(
     alloc: Global,
     method: &Option<Laid>,
@@ -50,17 +50,9 @@ fn put_method(
     requires { IsShortIf method.now }
     ensures { OnOk result (IsListedIf method.now entries.old.items entries.new.items) }
 {
-    match method {
-        Some(laid) => put_index(alloc, laid, entries),
-        None => Ok(()),
-    }
-}
-
-/// Appends the number of the places of a method's exact index, and these places.
-fn put_index(alloc: Global, laid: &Laid, entries: &mut Vec<u16>) -> Result<(), AllocError>
-    requires { length laid.now.code ≤ 32767 }
-    ensures { OnOk result (IsListed laid.now.code entries.old.items entries.new.items) }
-{
+    let Some(laid) = method else {
+        return Ok(());
+    };
     let index = exact_index(alloc, View::of(laid.code.as_slice()))?;
     entries.push(index.len() as u16)?;
     entries.extend_from_slice(&index)

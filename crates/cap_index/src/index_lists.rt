@@ -14,15 +14,11 @@ fn index_in<'a>(package: &Package<'_, 'a>) -> Option<View<'a>>
     ensures is { option_map info_bytes result ≡ index_in «package».now }
     ensures few { IfSome result (λ info. length info.bytes.now ≤ 65535) }
 {
-    match package.custom(INDEX) {
-        Some(custom) => {
-            if custom.aid == INDEX_AID.as_slice() {
-                Some(custom.info)
-            } else {
-                None
-            }
-        }
-        None => None,
+    let custom = package.custom(INDEX)?;
+    if custom.aid == INDEX_AID.as_slice() {
+        Some(custom.info)
+    } else {
+        None
     }
 }
 
