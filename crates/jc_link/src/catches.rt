@@ -5,7 +5,7 @@ ghost use Rattle.jc_base.specs.Class.{IsClass, throwable};
 ghost use Rattle.jc_resolve.specs.Numbering.{numbered_classes};
 ghost use Rattle.jc_resolve.specs.Fault.{link_place};
 ghost use Rattle.first_fault.specs.Least.{least_from, least_of, refused};
-ghost use Rattle.jc_link.specs.Catches.{class_caught, class_caught_by, thrown_by, catches_throwable, handlers_from, handler_places, catch_fault};
+ghost use Rattle.jc_link.specs.Catches.{class_caught_by, thrown_by, catches_throwable, handlers_from, handler_places, catch_fault};
 
 use cap_method::{HandlerEntries, HandlerInfo};
 use cap_pool::{Pool, PoolReference};
@@ -25,23 +25,15 @@ fn is_thrown(classes: &Classes, class: u16) -> bool
     below(classes, Ty::Class(class), Ty::Class(classes.role(1)))
 }
 
-/// The class or interface that a Classref names.
-fn class_caught(names: &Names<'_, '_, '_>, package: u16, reference: PoolReference) -> Option<u16>
-    ensures is { result ≡ class_caught names.now.packages «package» reference }
-    ensures below { IfSome result (λ c. c < length (numbered_classes names.now.packages)) }
-{
-    match reference {
-        PoolReference::Class(class) => names.class_referred(package, class),
-        _ => None,
-    }
-}
-
 /// The class or interface that an entry names, if it is a Classref.
 fn caught_by(names: &Names<'_, '_, '_>, package: u16, pool: &Pool<'_>, index: u16) -> Option<u16>
     ensures is { result ≡ class_caught_by names.now.packages «package» (slice_get (entries pool.now) index) }
     ensures below { IfSome result (λ c. c < length (numbered_classes names.now.packages)) }
 {
-    class_caught(names, package, pool.at(index)?.reference())
+    match pool.at(index)?.reference() {
+        PoolReference::Class(class) => names.class_referred(package, class),
+        _ => None,
+    }
 }
 
 /// Whether a handler of a package catches all, or a class below throwable.

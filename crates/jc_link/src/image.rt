@@ -21,12 +21,7 @@ fn byte_at(statics: &StaticPart<'_>, offset: u32) -> u8
         return 0;
     }
     let place = (offset - zeros) as usize;
-    let values = statics.values();
-    if place < values.len() {
-        values[place]
-    } else {
-        0
-    }
+    statics.values().get(place).copied().unwrap_or(0)
 }
 
 /// The word that two bytes of the image spell.

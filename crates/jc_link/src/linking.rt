@@ -77,20 +77,6 @@ fn take_lists<'a>(alloc: Global, names: &Names<'_, '_, 'a>) -> Result<Taken<'a>,
     })
 }
 
-/// The index of the classes of packages with their methods.
-fn class_index(
-    alloc: Global,
-    names: &Names<'_, '_, '_>,
-    classes: &Classes,
-) -> Result<ClassIndex, AllocError>
-    requires names { AreNamesOf names.now.packages names.now.roles names.now }
-    requires table { IsTableOf names.now.packages names.now.roles classes.now }
-    ensures { IfOk result (IsIndexOf classes.now names.now.methods) }
-{
-    names.facts();
-    ClassIndex::of(alloc, classes, names.methods())
-}
-
 /// The world of packages by number, of which nothing is at fault.
 fn made<'a>(
     alloc: Global,
@@ -105,7 +91,8 @@ fn made<'a>(
     ensures { LinkTells tabled.entry.names.packages tabled.entry.names.roles result }
 {
     let taken = take_lists(alloc, &tabled.names)?;
-    let by_class = class_index(alloc, &tabled.names, &tabled.classes)?;
+    tabled.names.facts();
+    let by_class = ClassIndex::of(alloc, &tabled.classes, tabled.names.methods())?;
     Ok(world_of(tabled, resolved, taken, by_class))
 }
 

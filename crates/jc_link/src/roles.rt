@@ -32,20 +32,6 @@ fn role_fault(classes: &Classes, methods: &Methods, role: u8) -> Option<LinkFaul
     }
 }
 
-/// The first of the roles from 2 on whose class is not concrete.
-fn least_abstract(classes: &Classes, methods: &Methods) -> Option<LinkFault>
-    requires known { (k : ℕ) → k < 8 → slice_index classes.now.roles k < length classes.now.records }
-    requires links { AreLinkedClasses 16 classes.now methods.now }
-    ensures { result ≡ least_of link_place (role_fault classes.now methods.now) thrown_roles }
-{
-    let least = lesser(None, role_fault(classes, methods, 2));
-    let least = lesser(least, role_fault(classes, methods, 3));
-    let least = lesser(least, role_fault(classes, methods, 4));
-    let least = lesser(least, role_fault(classes, methods, 5));
-    let least = lesser(least, role_fault(classes, methods, 6));
-    lesser(least, role_fault(classes, methods, 7))
-}
-
 /// The classes that the machine throws are concrete.
 pub fn roles_fit(classes: &Classes, methods: &Methods) -> Result<(), LinkFault>
     requires known { (k : ℕ) → k < 8 → slice_index classes.now.roles k < length classes.now.records }
@@ -55,5 +41,10 @@ pub fn roles_fit(classes: &Classes, methods: &Methods) -> Result<(), LinkFault>
     ensures tells { TellsRoles classes.now methods.now result }
 {
     concrete_decides();
-    refuse(least_abstract(classes, methods))
+    let least = lesser(None, role_fault(classes, methods, 2));
+    let least = lesser(least, role_fault(classes, methods, 3));
+    let least = lesser(least, role_fault(classes, methods, 4));
+    let least = lesser(least, role_fault(classes, methods, 5));
+    let least = lesser(least, role_fault(classes, methods, 6));
+    refuse(lesser(least, role_fault(classes, methods, 7)))
 }

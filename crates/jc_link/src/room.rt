@@ -7,12 +7,11 @@ ghost use Rattle.jc_link.specs.Arrays.{array_record, array_records, initial_cell
 ghost use Rattle.jc_link.specs.Statics.{cells_at, static_cells};
 ghost use Rattle.jc_link.specs.Room.{statics_fault, arrays_fault};
 
+use crate::words::BYTE;
 use cap_method::{ArrayInit, StaticPart};
 use cap_package::{Package, Packages};
 use jc_resolve::{LinkFault, kind_of};
 
-/// The type of elements that take one byte each, boolean being the other one.
-const BYTE: u8 = 3;
 /// The initial arrays of a world, and the cells of them and of the static fields.
 const MOST_ARRAYS: u32 = 4096;
 

@@ -1,10 +1,10 @@
 ghost use Rattle.std.specs.Prelude.{◌≡◌, [], OnOk, IfOk, map, is_some};
 ghost use Rattle.std.specs.Option.{option_flatten};
 ghost use Rattle.jc_link.specs.Sites.{kept_at, added_entry, all_entered};
-ghost use Rattle.jc_link.specs.Members.{static_site, static_sites};
+ghost use Rattle.jc_link.specs.Members.{static_sites};
 
 use indexmap::IndexMap;
-use jc_base::{Member, StaticRec, Statics};
+use jc_base::{Member, Statics};
 use std::alloc::{AllocError, Global};
 use std::hash::{Hash, Hasher};
 use std::marker::Model;
@@ -60,15 +60,6 @@ impl Sites {
         }
     }
 
-    /// No member, and room for so many spots.
-    fn with_room(alloc: Global, count: usize) -> Result<Sites, AllocError>
-        ensures { IfOk result (λ sites. sites ≡ []) }
-    {
-        Ok(Sites {
-            map: IndexMap::with_capacity(alloc, count)?,
-        })
-    }
-
     /// Keeps one more member.
     pub(crate) fn enter(&mut self, spot: Spot, member: Member) -> Result<(), AllocError>
         ensures { OnOk result (self.new ≡ added_entry self.old (record { spot = spot; member = member })) }
@@ -84,10 +75,7 @@ impl Sites {
     pub(crate) fn only(&self, spot: Spot) -> Option<Member>
         ensures { result ≡ option_flatten (kept_at self.now spot) }
     {
-        match self.map.get(&spot) {
-            Some(only) => *only,
-            None => None,
-        }
+        *self.map.get(&spot)?
     }
 
     /// Whether there is a member at a spot.
@@ -98,32 +86,24 @@ impl Sites {
     }
 }
 
-fn spot_of(field: &StaticRec) -> Spot
-    ensures { result ≡ (static_site field.now).spot }
-{
-    Spot {
-        owner: field.package,
-        number: field.offset,
-    }
-}
-
-fn static_member(field: &StaticRec) -> Member
-    ensures { result ≡ (static_site field.now).member }
-{
-    Member::Static {
-        slot: field.slot,
-        kind: field.kind,
-        ty: field.ty,
-    }
-}
-
 /// The static fields of all packages by their places.
 pub(crate) fn static_sites(alloc: Global, statics: &Statics) -> Result<Sites, AllocError>
     ensures { IfOk result (λ sites. sites ≡ all_entered [] (static_sites statics.now)) }
 {
-    let mut sites = Sites::with_room(alloc, statics.len())?;
+    let mut sites = Sites {
+        map: IndexMap::with_capacity(alloc, statics.len())?,
+    };
     'fields: for field in statics.as_slice() {
-        sites.enter(spot_of(field), static_member(field))?;
+        let spot = Spot {
+            owner: field.package,
+            number: field.offset,
+        };
+        let member = Member::Static {
+            slot: field.slot,
+            kind: field.kind,
+            ty: field.ty,
+        };
+        sites.enter(spot, member)?;
     }
     Ok(sites)
 }

@@ -1,4 +1,4 @@
-ghost use Rattle.std.specs.Prelude.{◌≡◌, ◌+◌, ◌≤◌, ◌∷◌, ◌++◌, [], length, map, slice_get, slice_index, sum_by, All, IfOk, OnOk, Some};
+ghost use Rattle.std.specs.Prelude.{◌≡◌, ◌+◌, ◌≤◌, ◌++◌, length, map, slice_get, slice_index, sum_by, All, IfOk, Some};
 ghost use Rattle.jc_base.specs.Class.{ClassTable};
 ghost use Rattle.jc_base.specs.Cell.{IsDeclared, width};
 ghost use Rattle.jc_base.specs.Linked.{AreSlots, IsStatic};
@@ -46,25 +46,6 @@ fn static_record(
     })
 }
 
-/// Appends the static field at a place, whose first cell is the slot.
-fn push_static(
-    alloc: Global,
-    records: &mut Vec<StaticRec>,
-    home: NumberedPackage,
-    slot: u16,
-    statics: &StaticPart<'_>,
-    place: StaticPlace,
-    ty: Ty,
-) -> Result<(), AllocError>
-    ensures { OnOk result
-        (records.new.items
-        ≡ records.old.items ++ static_record slot (site home.«package» home.first (statics_seen statics.now) (place_seen place)) ty ∷ []) }
-{
-    let record = static_record(alloc, home, slot, statics, place, ty)?;
-    records.push(record)?;
-    Ok(())
-}
-
 /// Appends the static fields of a package, whose cells begin at a slot, and gives the slot after them.
 fn push_statics(
     alloc: Global,
@@ -90,7 +71,7 @@ fn push_statics(
     'places: for place in package.static_places() {
         // There are as many types as places.
         if let Some((ty, others)) = types.split_first() {
-            push_static(alloc, records, home, slot as u16, &statics, place, *ty)?;
+            records.push(static_record(alloc, home, slot as u16, &statics, place, *ty)?)?;
             slot += u32::from(kind_of(place.ty).width());
             types = others;
         }

@@ -6,7 +6,7 @@ use byteorder::{BigEndian, ByteOrder};
 use std::alloc::{AllocError, Global};
 
 /// The type of elements that take one byte each, boolean being the other one.
-const BYTE: u8 = 3;
+pub(crate) const BYTE: u8 = 3;
 
 /// A byte as a word, its sign in the upper half.
 pub(crate) fn signed(byte: u8) -> u16
