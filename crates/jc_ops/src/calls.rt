@@ -2,8 +2,7 @@ ghost use Rattle.std.specs.Prelude.{◌≡◌, ◌<◌, length, IfSome, Some};
 ghost use Rattle.jc_base.specs.declared.record.Member.TheVariants.{Super, StaticCall};
 ghost use Rattle.jc_base.specs.Linked.{lacks_code};
 ghost use Rattle.jc_base.specs.World.{member_at};
-ghost use Rattle.jc_ops.specs.Resolve.{virtual_callee, entry_callee, special_callee, static_callee, interface_callee, described_callee, is_described, only, described, callee, own_receiver};
-ghost use Rattle.jc_ops.specs.Sound.{TakesReceiver};
+ghost use Rattle.jc_ops.specs.Resolve.{virtual_callee, special_callee, static_callee, interface_callee, is_described, only, described, callee, own_receiver};
 
 use crate::fault::RuleFault;
 use crate::named::{byte_of, member, short_of};
@@ -13,34 +12,15 @@ use crate::want::Want;
 use jc_base::{Member, MethodRec, Ty, World};
 use jc_decode::Insn;
 
+/// The method of a dispatch list's entry. An array may be the receiver of a method of object.
 fn virtual_callee(world: &World<'_>, package: u16, pool: u16) -> Result<Callee, RuleFault>
     requires { «package» < length world.now.infos }
     ensures { result ≡ virtual_callee world.now pool (member_at world.now «package» pool) }
 {
-    match member(world, package, pool) {
-        Some(Member::Virtual { class, token }) => entry_callee(
-            world,
-            pool,
-            class,
-            token,
-            world.classes().entry_at(class, token),
-        ),
-        _ => Err(RuleFault::BadMember(pool)),
-    }
-}
-
-/// The method of a dispatch list's entry. An array may be the receiver of a method of object.
-fn entry_callee(
-    world: &World<'_>,
-    pool: u16,
-    class: u16,
-    token: u8,
-    entry: Option<u16>,
-) -> Result<Callee, RuleFault>
-    requires { IfSome entry (TakesReceiver world.now.methods) }
-    ensures { result ≡ entry_callee world.now pool class token entry }
-{
-    let Some(method) = entry else {
+    let Some(Member::Virtual { class, token }) = member(world, package, pool) else {
+        return Err(RuleFault::BadMember(pool));
+    };
+    let Some(method) = world.classes().entry_at(class, token) else {
         return Err(RuleFault::BadMember(pool));
     };
     if class == world.role(0) && world.method(method).is_abstract {
@@ -61,20 +41,6 @@ fn lacks_code(world: &World<'_>, method: &MethodRec) -> bool
     method.is_abstract || world.classes().is_interface(method.class)
 }
 
-fn super_callee(world: &World<'_>, pool: u16, class: u16, method: u16) -> Result<Callee, RuleFault>
-    requires { TakesReceiver world.now.methods method }
-    ensures { result ≡ special_callee world.now pool (Some (Super class method)) }
-{
-    if lacks_code(world, world.method(method)) {
-        return Err(RuleFault::BadMember(pool));
-    }
-    Ok(Callee {
-        method,
-        receiver: Some(Want::Value(Ty::Class(class))),
-        choice: Choice::Special,
-    })
-}
-
 /// What receives a method that is called without dispatch.
 fn own_receiver(method: &MethodRec) -> Want
     ensures { result ≡ own_receiver method.now }
@@ -86,29 +52,30 @@ fn own_receiver(method: &MethodRec) -> Want
     }
 }
 
-/// A private method or a constructor.
-fn own_callee(world: &World<'_>, pool: u16, number: u16) -> Result<Callee, RuleFault>
-    requires { number < length world.now.methods }
-    ensures { result ≡ special_callee world.now pool (Some (StaticCall number)) }
-{
-    let method = world.method(number);
-    if method.is_static || lacks_code(world, method) {
-        return Err(RuleFault::BadMember(pool));
-    }
-    Ok(Callee {
-        method: number,
-        receiver: Some(own_receiver(method)),
-        choice: Choice::Special,
-    })
-}
-
+/// The method of a superclass, or a private method or a constructor.
 fn special_callee(world: &World<'_>, package: u16, pool: u16) -> Result<Callee, RuleFault>
     requires { «package» < length world.now.infos }
     ensures { result ≡ special_callee world.now pool (member_at world.now «package» pool) }
 {
     match member(world, package, pool) {
-        Some(Member::Super { class, method }) => super_callee(world, pool, class, method),
-        Some(Member::StaticCall { method }) => own_callee(world, pool, method),
+        Some(Member::Super { class, method }) if !lacks_code(world, world.method(method)) => {
+            Ok(Callee {
+                method,
+                receiver: Some(Want::Value(Ty::Class(class))),
+                choice: Choice::Special,
+            })
+        }
+        Some(Member::StaticCall { method: number }) => {
+            let method = world.method(number);
+            if method.is_static || lacks_code(world, method) {
+                return Err(RuleFault::BadMember(pool));
+            }
+            Ok(Callee {
+                method: number,
+                receiver: Some(own_receiver(method)),
+                choice: Choice::Special,
+            })
+        }
         _ => Err(RuleFault::BadMember(pool)),
     }
 }
@@ -158,18 +125,23 @@ fn only_described(world: &World<'_>, interface: u16, token: u8) -> Option<u16>
 }
 
 /// The method that an interface describes; its argument words and the receiver are `words`.
-fn described_callee(
+fn interface_callee(
     world: &World<'_>,
+    package: u16,
     pool: u16,
     words: u8,
-    class: u16,
     token: u8,
-    described: Option<u16>,
 ) -> Result<Callee, RuleFault>
-    requires { IfSome described (λ n. n < length world.now.methods) }
-    ensures { result ≡ described_callee world.now pool words class token described }
+    requires { «package» < length world.now.infos }
+    ensures { result ≡ interface_callee world.now pool words token (member_at world.now «package» pool) }
 {
-    let Some(method) = described else {
+    let Some(Member::ClassOf { class }) = member(world, package, pool) else {
+        return Err(RuleFault::BadMember(pool));
+    };
+    if !world.classes().is_interface(class) {
+        return Err(RuleFault::BadMember(pool));
+    }
+    let Some(method) = only_described(world, class, token) else {
         return Err(RuleFault::BadMember(pool));
     };
     if world.method(method).sig.args.len() + 1 != words as usize {
@@ -184,29 +156,6 @@ fn described_callee(
             words,
         },
     })
-}
-
-fn interface_callee(
-    world: &World<'_>,
-    package: u16,
-    pool: u16,
-    words: u8,
-    token: u8,
-) -> Result<Callee, RuleFault>
-    requires { «package» < length world.now.infos }
-    ensures { result ≡ interface_callee world.now pool words token (member_at world.now «package» pool) }
-{
-    match member(world, package, pool) {
-        Some(Member::ClassOf { class }) if world.classes().is_interface(class) => described_callee(
-            world,
-            pool,
-            words,
-            class,
-            token,
-            only_described(world, class, token),
-        ),
-        _ => Err(RuleFault::BadMember(pool)),
-    }
 }
 
 /// The method that is called.

@@ -117,17 +117,6 @@ pub(crate) fn array_type(world: &World<'_>, package: u16, pool: u16) -> Result<T
     }
 }
 
-/// The class or interface that a pool entry names.
-fn class_type(world: &World<'_>, package: u16, pool: u16) -> Result<Ty, RuleFault>
-    requires { «package» < length world.now.infos }
-    ensures { result ≡ class_type Class pool (member_at world.now «package» pool) }
-{
-    match member(world, package, pool) {
-        Some(Member::ClassOf { class }) => Ok(Ty::Class(class)),
-        _ => Err(RuleFault::BadMember(pool)),
-    }
-}
-
 /// The array of primitives of a number: 10 boolean, 11 byte, 12 short, 13 int.
 pub(crate) fn array_of(atype: u8) -> Ty
     ensures { result ≡ array_of atype }
@@ -151,7 +140,10 @@ pub(crate) fn tested_type(
     ensures { result ≡ tested_type atype pool (member_at world.now «package» pool) }
 {
     match atype {
-        0 => class_type(world, package, pool),
+        0 => match member(world, package, pool) {
+            Some(Member::ClassOf { class }) => Ok(Ty::Class(class)),
+            _ => Err(RuleFault::BadMember(pool)),
+        },
         14 => array_type(world, package, pool),
         _ => Ok(array_of(atype)),
     }
