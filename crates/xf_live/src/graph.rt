@@ -1,5 +1,5 @@
-ghost use Rattle.std.specs.Prelude.{◌≤◌, ◌^◌, length, IfOk, OnOk};
-ghost use Rattle.xf_live.specs.Flow.{AreLiveIn, AreNodesOf, AreUnlinked, GetsEdge};
+ghost use Rattle.std.specs.Prelude.{◌≤◌, ◌^◌, length, IfOk};
+ghost use Rattle.xf_live.specs.Flow.{AreLiveIn, AreNodesOf, AreUnlinked};
 
 use crate::live::{Node, live_sets};
 use crate::set::RegisterSet;
@@ -38,9 +38,11 @@ fn nodes_of(alloc: Global, uses: &[Uses], edges: &[Edge]) -> Result<Vec<Node>, A
 {
     let mut nodes = unlinked(alloc, uses)?;
     'edges: for edge in edges {
-        if let Err(error) = link(&mut nodes, *edge) {
-            return Err(error);
+        let to = edge.to as usize;
+        if to >= nodes.len() {
+            continue;
         }
+        nodes[to].from.push(edge.from)?;
     }
     Ok(nodes)
 }
@@ -59,16 +61,4 @@ fn unlinked(alloc: Global, uses: &[Uses]) -> Result<Vec<Node>, AllocError>
         })?;
     }
     Ok(nodes)
-}
-
-// One edge more.
-fn link(nodes: &mut Vec<Node>, edge: Edge) -> Result<(), AllocError>
-    ensures { OnOk result (GetsEdge edge nodes.old.items nodes.new.items) }
-{
-    let to = edge.to as usize;
-    if to >= nodes.len() {
-        return Ok(());
-    }
-    nodes[to].from.push(edge.from)?;
-    Ok(())
 }

@@ -1,5 +1,5 @@
 ghost use Rattle.std.specs.Prelude.{◌≡◌, ◌≤◌, ◌^◌, length, IfOk, MatchBool};
-ghost use Rattle.xf_live.specs.Interference.{AreAfter, AreInterfering, PutsTo, Tells, WritesAt};
+ghost use Rattle.xf_live.specs.Interference.{AreInterfering, PutsTo, Tells, WritesAt};
 
 use crate::graph::{Edge, Uses, live_before};
 use crate::live::set_of;
@@ -26,7 +26,11 @@ pub fn find_interference(
     ensures { IfOk result (AreInterfering uses.now edges.now) }
 {
     let sets = live_before(alloc, uses, edges)?;
-    let after = live_after(alloc, uses, edges, sets.as_slice())?;
+    let mut after = vec![in alloc; RegisterSet::new(); 256]?;
+    'edges: for edge in edges {
+        let live = set_of(sets.as_slice(), edge.to);
+        put(&mut after, written_at(uses, edge.from), live);
+    }
     let first = set_of(sets.as_slice(), 0);
     Ok(Interference { first, after })
 }
@@ -44,24 +48,6 @@ impl Interference {
         }
         self.first.has(register) && self.first.has(other)
     }
-}
-
-// For each register those that are live where control may come from a node that writes it, by the sets that are live
-// before the nodes.
-fn live_after(
-    alloc: Global,
-    uses: &[Uses],
-    edges: &[Edge],
-    sets: &[RegisterSet],
-) -> Result<Vec<RegisterSet>, AllocError>
-    ensures { IfOk result (λ after. AreAfter uses.now sets.now edges.now after.items) }
-{
-    let mut after = vec![in alloc; RegisterSet::new(); 256]?;
-    'edges: for edge in edges {
-        let written = written_at(uses, edge.from);
-        put(&mut after, written, set_of(sets, edge.to));
-    }
-    Ok(after)
 }
 
 // The registers that a node writes.

@@ -1,6 +1,6 @@
 ghost use Rattle.std.specs.Prelude.{◌≡◌, ◌<◌, ◌≤◌, ◌^◌, length, slice_get, IfOk, IfSome, IfNone, IsSomeAnd, OnOk};
 ghost use Rattle.xf_live.specs.Live.{AreLive, set_at};
-ghost use Rattle.xf_live.specs.Liveness.{Begins, Raises, Carries, CarriesAll, TakesUp, IsDone};
+ghost use Rattle.xf_live.specs.Liveness.{Begins, Raises, CarriesAll, TakesUp, IsDone};
 
 use crate::set::RegisterSet;
 use std::alloc::{AllocError, Global};
@@ -31,9 +31,7 @@ pub fn live_sets(alloc: Global, nodes: &[Node]) -> Result<Vec<RegisterSet>, Allo
 {
     let mut liveness = Liveness::of(alloc, nodes)?;
     'work: while let Some(number) = liveness.take() {
-        if let Err(error) = liveness.visit(nodes, number) {
-            return Err(error);
-        }
+        liveness.visit(nodes, number)?;
     }
     Ok(liveness.sets)
 }
@@ -50,9 +48,7 @@ impl Liveness {
             pending: Vec::new(alloc),
         };
         'nodes: for (number, node) in nodes.iter().enumerate() {
-            if let Err(error) = liveness.raise(number as u16, node.reads) {
-                return Err(error);
-            }
+            liveness.raise(number as u16, node.reads)?;
         }
         Ok(liveness)
     }
@@ -76,7 +72,7 @@ impl Liveness {
         }
     }
 
-    // To these.
+    // To these: what is live after each, and not written there.
     fn carry_all(&mut self, nodes: &[Node], number: u16, from: &[u16]) -> Result<(), AllocError>
         requires sized { length self.old.sets.items ≡ length nodes.now }
         requires there { IsSomeAnd (slice_get nodes.now number) (λ node. node.from.items ≡ from.now) }
@@ -84,9 +80,10 @@ impl Liveness {
     {
         let live = self.at(number);
         'from: for before in from {
-            if let Err(error) = self.carry(nodes, *before, live) {
-                return Err(error);
-            }
+            let Some(node) = nodes.get(*before as usize) else {
+                continue;
+            };
+            self.raise(*before, live.minus(node.writes))?;
         }
         Ok(())
     }
@@ -96,17 +93,6 @@ impl Liveness {
         ensures { result ≡ set_at self.now.sets.items number }
     {
         set_of(self.sets.as_slice(), number)
-    }
-
-    // To one of them: what is live after it, and not written there.
-    fn carry(&mut self, nodes: &[Node], number: u16, live: RegisterSet) -> Result<(), AllocError>
-        requires sized { length self.old.sets.items ≡ length nodes.now }
-        ensures { OnOk result (Carries nodes.now number live self.old self.new) }
-    {
-        match nodes.get(number as usize) {
-            Some(node) => self.raise(number, live.minus(node.writes)),
-            None => Ok(()),
-        }
     }
 
     // These too are live at a node.

@@ -11,12 +11,12 @@ visit-requires c = record { sized = ap length c.in-Some.ensures.some.sets ∙ c.
 pub work-smaller : goal.work-smaller
 work-smaller c =
     less-work c.in-Some.number c.work.liveness c.take.new.self c.visit.new.self c.in-Some.ensures.some c.work.invariant.begins.small
-    c.in_default-visit.ensures.grows
+    c.in_ok-visit.ensures.grows
 
 pub work-preserved : goal.work-preserved
 work-preserved c = record {
   begins = visited c.args.nodes.now c.in-Some.number c.work.liveness c.take.new.self c.in-Some.ensures.some c.visit.new.self c.work.invariant.begins
-      c.in_default-visit.ensures;
+      c.in_ok-visit.ensures;
 }
 
 pub returns : goal.returns

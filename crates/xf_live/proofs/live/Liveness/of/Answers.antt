@@ -24,7 +24,7 @@ nodes-preserved c =
     record {
       begun = begun-more nodes c.nodes.number c.index-nodes-number.result c.nodes.liveness c.raise.new.self
           (slice_get_read nodes (length nodes) c.nodes.number c.index-nodes-number.result refl c.nodes-test.true c.index-nodes-number.is)
-          c.nodes.invariant.begun c.in_default.ensures;
+          c.nodes.invariant.begun c.in_ok-raise.ensures;
     }
 
 pub returns : goal.returns
