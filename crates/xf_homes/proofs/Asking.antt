@@ -1,9 +1,9 @@
 -- A handler need be asked only where it first covers a place: from there on the values at its entry are kept.
 use Rattle.std.proofs.Common.{◌≡◌, ℕ, zero, suc, ◌+◌, ◌<◌, ◌≤◌, ◌⊎◌, inl, inr, Bool, true, false, not, ◌&&◌, ◌||◌}
 use Rattle.std.proofs.Common.{if◌then◌else◌, List, [], ◌∷◌, ◌++◌, All, Option, Some, None, refl, sym, ◌∙◌, ap, subst, arith}
-use Rattle.std.specs.Prelude.{fold}
+use Rattle.std.specs.Prelude.{◌==◌, fold, is_some, length}
 use Rattle.std.specs.List.{list_any}
-use Rattle.std.proofs.lemmas.Bool.{false≢true}
+use Rattle.std.proofs.lemmas.Bool.{eqb-true, false≢true}
 use Rattle.std.proofs.lemmas.List.Elements.{All-head, All-tail}
 use Rattle.std.proofs.lemmas.List.Folds.{list_any-append}
 use Rattle.std.proofs.lemmas.List.Sums.{fold-append}
@@ -128,6 +128,10 @@ nat-cases (suc x) (suc y) le = next (nat-cases x y (omega arith))
     next : (x ≡ y) ⊎ (suc x ≤ y) → (suc x ≡ suc y) ⊎ (suc (suc x) ≤ suc y)
     next (inl e) = inl (ap suc e)
     next (inr l) = inr (omega arith)
+
+pub no-handlers : (hs : List Handler) (b : Bool) → b ≡ (length hs == 0) → b ≡ true → hs ≡ []
+no-handlers [] b is e = refl
+no-handlers (h ∷ hs) b is e = let same = eqb-true (length (h ∷ hs)) 0 (sym is ∙ e) in absurd (omega (arith, same))
 
 -- of the locals themselves
 
@@ -331,8 +335,9 @@ module _ (same : SameTypeDecides) (w : Linked) (m : Method) (frames : ℕ → Op
 pub kept_as_known : (homes : List Home) (x : ℕ) (v u : Option Ty) → v ≡ u → knows homes x u ≡ true → homes ≡ with_home_of_value homes x v
 kept_as_known homes x v u is known = sym (value-kept homes x v (subst (λ o. knows homes x o ≡ true) (sym is) known))
 
-pub kept_none : (homes : List Home) (x : ℕ) (v : Option Ty) → v ≡ None → homes ≡ with_home_of_value homes x v
-kept_none homes x v is = ap (λ o. with_home_of_value homes x o) (sym is)
+pub kept_none : (homes : List Home) (x : ℕ) (v : Option Ty) → is_some v ≡ false → homes ≡ with_home_of_value homes x v
+kept_none homes x None none = refl
+kept_none homes x (Some ty) some = absurd (cc)
 
 pub known_after : (homes : List Home) (x : ℕ) (v : Option Ty) → knows (with_home_of_value homes x v) x v ≡ true
 known_after homes x v = value-known same_type-decides homes x v

@@ -1,10 +1,10 @@
 -- Homes as keys of tables: where each begins, and that no argument stands twice.
 use Rattle.std.proofs.Common.{◌≡◌, ℕ, suc, ◌+◌, ◌<◌, ◌≤◌, ◌||◌, Bool, true, false, if◌then◌else◌, cond, not, List, []}
-use Rattle.std.proofs.Common.{◌∷◌, ◌++◌, length, fold, Some, None, slice_get, position, refl, sym, ◌∙◌, ap, arith, append_assoc, drop}
-use Rattle.std.specs.Prelude.{nat_lt, get_or}
+use Rattle.std.proofs.Common.{◌∷◌, ◌++◌, length, fold, Some, None, slice_get, position, refl, sym, ◌∙◌, ap, arith, append_assoc}
+use Rattle.std.specs.Prelude.{nat_lt}
 use Rattle.std.proofs.lemmas.Bool.Decides.{nat_tests}
 use Rattle.std.specs.List.{list_any, position_or_len}
-use Rattle.std.proofs.lemmas.List.{append-nil, drop_more, drop_all}
+use Rattle.std.proofs.lemmas.List.{append-nil}
 use Rattle.std.proofs.lemmas.Option.{slice_get_past}
 use Rattle.indexmap.specs.IndexSet.{insert_key, insert_all}
 use Rattle.jc_base.specs.declared.ty.Ty.{Ty}
@@ -14,7 +14,7 @@ use Rattle.xf_homes.specs.declared.home.Home.{Home}
 use Rattle.xf_homes.specs.Equal.{home-equal}
 use Rattle.xf_homes.specs.Value.{type_width}
 use Rattle.xf_homes.specs.Order.{begins_from}
-use Rattle.xf_homes.specs.Walk.{same_home, register_from, values_from, argument_homes}
+use Rattle.xf_homes.specs.Walk.{same_home, register_from, values_from, receiver_home, argument_homes}
 
 -- ---- where they begin
 
@@ -52,16 +52,6 @@ register-none hs h at = by (nat_lt (position_or_len (λ k. same_home k h) hs) (l
     by false past e =
         sym (begins-at 0 hs h ∙ slice_get_past (begins_from 0 hs) (position_or_len (λ k. same_home k h) hs)
         (grind (arith, nat_tests, past, begins-length 0 hs)))
-
--- ---- tables
-
-pub table_next : (ks hs : List Home) (n : ℕ) (d : Home) → n < length hs
-    → insert_all (λ (a b : Home). same_home b a) ks (drop n hs) ≡ insert_all (λ (a b : Home). same_home b a)
-    (insert_key (λ (a b : Home). same_home b a) ks (get_or hs n d)) (drop (n + 1) hs)
-table_next ks hs n d lt = ap (insert_all (λ (a b : Home). same_home b a) ks) (drop_more hs n d lt)
-
-pub table_end : (ks hs : List Home) (n : ℕ) → length hs ≤ n → insert_all (λ (a b : Home). same_home b a) ks (drop n hs) ≡ ks
-table_end ks hs n le = ap (insert_all (λ (a b : Home). same_home b a) ks) (drop_all n hs le)
 
 -- ---- arguments
 
@@ -107,16 +97,16 @@ all-kept n before (h ∷ hs) b (rise_next _ _ le rest) =
     ∙ append_assoc before (h ∷ []) hs
 
 -- each argument stands once
-pub arguments_once : (r : MethodRec) → insert_all (λ (a b : Home). same_home b a) [] (argument_homes r) ≡ argument_homes r
+pub arguments_once : (r : MethodRec)
+    → insert_all (λ (a b : Home). same_home b a) (receiver_home r) (values_from (length (receiver_home r)) r.sig.args) ≡ argument_homes r
 arguments_once r = by r.is_static
   where
     by : (b : Bool)
-        → insert_all (λ (x y : Home). same_home y x) []
-        ((if b then [] else record { slot = 0; ty = Class r.class } ∷ []) ++ values_from
-        (length {A = Home} (if b then [] else record { slot = 0; ty = Class r.class } ∷ [])) r.sig.args)
+        → insert_all (λ (x y : Home). same_home y x) (if b then [] else record { slot = 0; ty = Class r.class } ∷ [])
+        (values_from (length {A = Home} (if b then [] else record { slot = 0; ty = Class r.class } ∷ [])) r.sig.args)
         ≡ (if b then [] else record { slot = 0; ty = Class r.class } ∷ []) ++ values_from
         (length {A = Home} (if b then [] else record { slot = 0; ty = Class r.class } ∷ [])) r.sig.args
     by true = all-kept 0 [] (values_from 0 r.sig.args) below_end (values-rise 0 r.sig.args)
     by false =
-        all-kept 0 [] (record { slot = 0; ty = Class r.class } ∷ values_from 1 r.sig.args) below_end
-        (rise_next _ _ (omega arith) (values-rise 1 r.sig.args))
+        all-kept 1 (record { slot = 0; ty = Class r.class } ∷ []) (values_from 1 r.sig.args) (below_next _ [] (omega arith) below_end)
+        (values-rise 1 r.sig.args)

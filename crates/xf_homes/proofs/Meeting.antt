@@ -14,9 +14,7 @@ use Rattle.jc_base.specs.World.{Linked}
 use Rattle.jc_decode.specs.declared.insn.Placed.{Placed}
 use Rattle.jc_decode.specs.Listing.{listing}
 use Rattle.jc_ops.specs.declared.fault.RuleFault.{RuleFault}
-use Rattle.jc_ops.specs.declared.operation.Branch.TheVariants as branches
 use Rattle.jc_ops.specs.declared.operation.Operation.{Operation}
-use Rattle.jc_ops.specs.declared.operation.Operation.TheVariants as ops
 use Rattle.jc_ops.specs.Row.{row_at}
 use Rattle.jc_ops.specs.Resolve.{resolved}
 use Rattle.jc_control.specs.Flags.{flag, Marks}

@@ -1,6 +1,6 @@
 -- Steps along the events of a walk.
-use Rattle.std.proofs.Common.{◌≡◌, ℕ, zero, suc, ◌+◌, ◌-◌, ◌<◌, ◌≤◌, Bool, true, false, List, [], ◌∷◌, length, drop, flat_map}
-use Rattle.std.proofs.Common.{Option, MatchBool, refl, sym, ap, arith, drop-cons}
+use Rattle.std.proofs.Common.{◌∙◌, ◌≡◌, ℕ, zero, suc, ◌+◌, ◌-◌, ◌<◌, ◌≤◌, Bool, true, false, List, [], ◌∷◌, length, drop, flat_map}
+use Rattle.std.proofs.Common.{◌∙◌, Option, MatchBool, refl, sym, ap, arith, drop-cons}
 use Rattle.std.specs.Prelude.{fold, get_or}
 use Rattle.std.proofs.lemmas.List.Sums.{fold-append}
 use Rattle.std.proofs.lemmas.List.Concat.{flat_map-cons}
@@ -11,7 +11,7 @@ use Rattle.jc_control.specs.Control.{Covers}
 use Rattle.jc_rules.specs.Demand.{Frame}
 use Rattle.xf_homes.specs.declared.home.Home.{Home}
 use Rattle.xf_homes.specs.Value.{value_in_cells}
-use Rattle.xf_homes.specs.Walk.{Event, is_covered, caught_of, caught_events, local_events, locals_events, cells_events, with_home_of_value, with_event}
+use Rattle.xf_homes.specs.Walk.{Event, is_covered, local_of, caught_of, caught_events, local_events, locals_events, cells_events, with_home_of_value, with_event}
 use Rattle.xf_homes.specs.Walk.{with_events}
 use Rattle.xf_homes.proofs.Meeting.{covered, covers}
 
@@ -67,3 +67,9 @@ pub locals-end : (homes : List Home) (frames : ℕ → Option Frame) (handlers :
     → homes ≡ with_events homes (locals_events frames handlers p x (len - x))
 unfolding with_events
 locals-end homes frames handlers p x len le = grind (arith)
+
+pub local-step : (homes own after : List Home) (frames : ℕ → Option Frame) (handlers : List Handler) (p x : ℕ)
+    → own ≡ with_home_of_value homes x (local_of (frames p) x) → after ≡ with_events own (caught_events frames p x 0 handlers)
+    → after ≡ with_events homes (local_events frames handlers p x)
+unfolding with_events local_events
+local-step homes own after frames handlers p x is next = next ∙ ap (λ acc. fold with_event acc (caught_events frames p x 0 handlers)) is

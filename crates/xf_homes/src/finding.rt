@@ -1,10 +1,10 @@
-ghost use Rattle.std.specs.Prelude.{◌≡◌, ◌<◌, min, IfOk, IfErr, IsSomeAnd, slice_get};
+ghost use Rattle.std.specs.Prelude.{◌≡◌, ◌<◌, IfOk, IfErr, IsSomeAnd, slice_get};
 ghost use Rattle.jc_control.specs.Method.{method_in};
 ghost use Rattle.jc_rules.specs.Typing.{state_at};
-ghost use Rattle.xf_homes.specs.Order.{AreHomes, register_sum};
+ghost use Rattle.xf_homes.specs.Order.{AreHomes};
 ghost use Rattle.xf_homes.specs.Answer.{IsTypingOf, IsCounted, TellsHomes};
 
-use crate::arguments::argument_set;
+use crate::arguments::argument_homes;
 use crate::found::Homes;
 use crate::home::Home;
 use crate::walk::HomeWalk;
@@ -64,20 +64,9 @@ pub fn homes(
         typing,
         control: &control,
     };
-    let mut homes = argument_set(alloc, subject.rec)?;
+    let mut homes = argument_homes(alloc, subject.rec)?;
     walk.find(&mut homes)?;
     counted(alloc, homes)
-}
-
-/// The number of registers that the homes take.
-fn register_sum(homes: &[Home]) -> u32
-    ensures { result ≡ min (register_sum homes.now) 4294967295 }
-{
-    let mut sum: u32 = 0;
-    'homes: for home in homes {
-        sum = sum.saturating_add(u32::from(home.width()));
-    }
-    sum
 }
 
 /// The homes, where there are registers for all.
@@ -85,12 +74,12 @@ fn counted(alloc: Global, homes: IndexSet<Home>) -> Result<Homes, HomeEnd>
     ensures homes { IfOk result (λ found. found ≡ homes.keys) }
     ensures end { IfErr result (IsCounted homes.keys) }
 {
-    let sum = register_sum(homes.as_slice());
+    let mut sum: u32 = 0;
+    'homes: for home in homes.as_slice() {
+        sum = sum.saturating_add(u32::from(home.width()));
+    }
     if sum > 255 {
         return Err(HomeEnd::Registers(sum));
     }
-    match Homes::of(alloc, homes, sum as u8) {
-        Ok(homes) => Ok(homes),
-        Err(_) => Err(HomeEnd::Memory),
-    }
+    Ok(Homes::of(alloc, homes, sum as u8)?)
 }

@@ -37,9 +37,7 @@ fn begins(alloc: Global, homes: &[Home]) -> Result<Vec<u8>, AllocError>
     let mut registers = Vec::with_capacity(alloc, homes.len())?;
     let mut register = 0;
     'homes: for home in homes {
-        if let Err(error) = registers.push(register) {
-            return Err(error.into());
-        }
+        registers.push(register)?;
         register += home.width();
     }
     Ok(registers)

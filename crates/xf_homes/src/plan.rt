@@ -1,7 +1,7 @@
-ghost use Rattle.std.specs.Prelude.{◌≡◌, ◌≤◌, ◌+◌, ◌++◌, [], length, IfOk, OnOk, OnErr};
+ghost use Rattle.std.specs.Prelude.{◌≡◌, ◌≤◌, ◌+◌, [], length, IfOk, OnOk, OnErr};
 ghost use Rattle.jc_control.specs.Method.{IsMethodOf};
 ghost use Rattle.xf_homes.specs.Subject.{walked};
-ghost use Rattle.xf_homes.specs.Plan.{register, home_of, with_home_of, local, needed, cells_from, stack_homes, depth, is_leader, operation};
+ghost use Rattle.xf_homes.specs.Plan.{register, home_of, local, needed, cells_from, stack_homes, depth, is_leader, operation};
 ghost use Rattle.xf_homes.specs.PlannedMethod.{source};
 
 use crate::{Home, HomeWalk, Homes, value_at};
@@ -22,19 +22,7 @@ pub struct Plan<'a> {
 pub fn home_of(slot: u16, value: Option<Ty>) -> Option<Home>
     ensures { result ≡ home_of slot value }
 {
-    match value {
-        Some(ty) => Some(Home { slot, ty }),
-        None => None,
-    }
-}
-
-fn add(homes: &mut Vec<Home>, home: Option<Home>) -> Result<(), AllocError>
-    ensures { OnOk result (homes.new.items ≡ homes.old.items ++ with_home_of home []) }
-{
-    match home {
-        Some(home) => Ok(homes.push(home)?),
-        None => Ok(()),
-    }
+    value.map(|ty| Home { slot, ty })
 }
 
 /// The homes of the values that begin with the cells of a stack, the bottom first, at slots from a slot on.
@@ -44,9 +32,10 @@ fn cells_from(alloc: Global, slot: u16, cells: &[Ty]) -> Result<Vec<Home>, Alloc
 {
     let mut homes = Vec::new(alloc);
     'cells: for n in 0..cells.len() as u16 {
-        if let Err(error) = add(&mut homes, home_of(slot + n, value_at(cells, n))) {
-            return Err(error);
-        }
+        let Some(home) = home_of(slot + n, value_at(cells, n)) else {
+            continue;
+        };
+        homes.push(home)?;
     }
     Ok(homes)
 }
@@ -56,10 +45,7 @@ impl Plan<'_> {
     pub fn register(&self, home: Home) -> u8
         ensures { result ≡ register (source self.now) home }
     {
-        match self.homes.register(home.slot, home.ty) {
-            Some(register) => register,
-            None => 0,
-        }
+        self.homes.register(home.slot, home.ty).unwrap_or(0)
     }
 
     /// The home in which a local stands at a place that control reaches, where it has a type.

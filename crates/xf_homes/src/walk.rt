@@ -1,9 +1,9 @@
-ghost use Rattle.std.specs.Prelude.{◌≡◌, ◌↔◌, ◌+◌, ◌≤◌, ⊤, true, [], length, IsTrue, MatchBool, OnOk, OnErr, IfOk, Ok, Some};
+ghost use Rattle.std.specs.Prelude.{◌≡◌, ◌↔◌, ◌+◌, ◌≤◌, true, [], length, IsTrue, OnOk, OnErr, Ok, Some};
 ghost use Rattle.jc_control.specs.Method.{IsMethodOf};
 ghost use Rattle.jc_rules.specs.Typing.{HaveSameRegisters};
 ghost use Rattle.xf_homes.specs.Home.{register_count};
-ghost use Rattle.xf_homes.specs.Walk.{local_of, is_covered, caught_events, caught_of, local_events, locals_events, cells_events, operands_of, operands_at, keeps_stack, place_events, code_events, has, with_home, with_home_of_value, with_events};
-ghost use Rattle.xf_homes.specs.Asked.{HandlersAreAsked, LocalsAreKnown, AreLastKnown, NoneIsNew, AreStill, is_new, knows, last_after, last_local};
+ghost use Rattle.xf_homes.specs.Walk.{local_of, is_covered, caught_events, caught_of, local_events, locals_events, cells_events, operands_of, operands_at, keeps_stack, place_events, code_events, has, with_home_of_value, with_events};
+ghost use Rattle.xf_homes.specs.Asked.{HandlersAreAsked, LocalsAreKnown, NoneIsNew, AreStill, is_new, knows, last_after, last_local};
 ghost use Rattle.xf_homes.specs.Subject.{walked, frames_of};
 
 use crate::home::Home;
@@ -36,47 +36,15 @@ pub fn has(homes: &IndexSet<Home>, home: Home) -> bool
     homes.contains(&home)
 }
 
-/// Keeps a pair that is not kept yet.
+/// Keeps the value of a slot, if it has one that is not kept yet.
 #[tactic(auto, unfolding(crate::specs::Walk::has))]
-fn keep(homes: &mut IndexSet<Home>, home: Home) -> Result<(), AllocError>
-    ensures { OnOk result (homes.new.keys ≡ with_home homes.old.keys home) }
-{
-    homes.insert(home)?;
-    Ok(())
-}
-
-/// Keeps the value of a slot, if it has one.
 fn keep_value(homes: &mut IndexSet<Home>, slot: u16, value: Option<Ty>) -> Result<(), AllocError>
     ensures { OnOk result (homes.new.keys ≡ with_home_of_value homes.old.keys slot value) }
 {
-    match value {
-        Some(ty) => keep(homes, Home { slot, ty }),
-        None => Ok(()),
+    if let Some(ty) = value {
+        homes.insert(Home { slot, ty })?;
     }
-}
-
-/// Keeps the value of a slot, where it is not one that is known to be kept, and tells which is known now.
-#[tactic(auto, using(crate::proofs::Asking::kept_as_known, crate::proofs::Asking::known_after, crate::proofs::Asking::kept_none))]
-fn keep_other(
-    homes: &mut IndexSet<Home>,
-    slot: u16,
-    value: Option<Ty>,
-    known: Option<Ty>,
-) -> Result<Option<Ty>, AllocError>
-    requires { knows homes.old.keys slot known ≡ true }
-    ensures kept { OnOk result (homes.new.keys ≡ with_home_of_value homes.old.keys slot value) }
-    ensures known { IfOk result (λ now. knows homes.new.keys slot now ≡ true) }
-{
-    if value.is_none() {
-        return Ok(known);
-    }
-    if same_value(value, known) {
-        return Ok(known);
-    }
-    match keep_value(homes, slot, value) {
-        Ok(()) => Ok(value),
-        Err(error) => Err(error),
-    }
+    Ok(())
 }
 
 fn is_covered(handler: Handler, place: u16) -> bool
@@ -89,12 +57,10 @@ fn is_covered(handler: Handler, place: u16) -> bool
 pub fn same_value(a: Option<Ty>, b: Option<Ty>) -> bool
     ensures { IsTrue result → a ≡ b }
 {
-    match a {
-        Some(ty) => match b {
-            Some(other) => same_type(ty, other),
-            None => false,
-        },
-        None => b.is_none(),
+    match (a, b) {
+        (Some(ty), Some(other)) => same_type(ty, other),
+        (None, None) => true,
+        _ => false,
     }
 }
 
@@ -110,28 +76,17 @@ pub fn is_new(handler: Handler, place: u16, last: Option<u16>) -> bool
     is_covered(handler, place) && !covered_last
 }
 
-/// Whether a handler covers a place and not the last one.
-#[tactic(auto, unfolding(crate::specs::Asked::NoneIsNew))]
-fn is_any_new(handlers: &[Handler], place: u16, last: Option<u16>) -> bool
-    ensures { MatchBool result ⊤ (NoneIsNew handlers.now place last) }
-{
-    'handlers: for handler in handlers {
-        if is_new(*handler, place, last) {
-            return true;
-        }
-    }
-    false
-}
-
 /// The handlers that are asked at a place: all, where one is new there, and else none.
+#[tactic(auto, unfolding(crate::specs::Asked::NoneIsNew))]
 fn asked(handlers: &[Handler], place: u16, last: Option<u16>) -> &[Handler]
     ensures { HandlersAreAsked handlers.entry.now place last result.now }
 {
-    if is_any_new(handlers, place, last) {
-        handlers
-    } else {
-        &handlers[..0]
+    'handlers: for handler in handlers {
+        if is_new(*handler, place, last) {
+            return handlers;
+        }
     }
+    &handlers[..0]
 }
 
 /// How many operands a conditional branch or a switch takes; another operation is neither.
@@ -161,9 +116,7 @@ fn keep_cells(
         (homes.new.keys ≡ with_events homes.old.keys (cells_events place slot cells.now 0 (length cells.now))) }
 {
     'values: for n in 0..cells.len() as u16 {
-        if let Err(error) = keep_value(homes, slot + n, value_at(cells, n)) {
-            return Err(error);
-        }
+        keep_value(homes, slot + n, value_at(cells, n))?;
     }
     Ok(())
 }
@@ -233,16 +186,19 @@ impl HomeWalk<'_> {
     {
         let mut known = None;
         'handlers: for handler in handlers {
-            match keep_other(homes, x, self.caught(place, x, *handler), known) {
-                Ok(now) => known = now,
-                Err(error) => return Err(error),
+            let value = self.caught(place, x, *handler);
+            if value.is_none() || same_value(value, known) {
+                continue;
             }
+            keep_value(homes, x, value)?;
+            known = value;
         }
         Ok(())
     }
 
     /// Keeps what is needed for a local at a place: its type there, then those at the handlers that cover it, in the order of
     /// the table. What is kept already stays as it is. Where there is no memory the list is empty.
+    #[tactic(auto, unfolding(crate::specs::Walk::with_events, crate::specs::Walk::local_events))]
     pub fn keep_local(
         &self,
         homes: &mut IndexSet<Home>,
@@ -254,41 +210,14 @@ impl HomeWalk<'_> {
             ≡ with_events homes.old.keys (local_events (frames_of self.now) self.now.rec.now.handlers place x)) }
         ensures empty { OnErr result (homes.new.keys ≡ []) }
     {
-        let kept = self.keep_typed(homes, place, x);
-        if kept.is_err() {
-            homes.clear();
+        let handlers = self.rec.handlers.as_slice();
+        if keep_value(homes, x, self.local(place, x)).is_ok()
+            && self.keep_caught(homes, place, x, handlers).is_ok()
+        {
+            return Ok(());
         }
-        kept
-    }
-
-    /// The same, which leaves some of them where there is no memory.
-    #[tactic(auto, unfolding(crate::specs::Walk::with_events, crate::specs::Walk::local_events))]
-    fn keep_typed(&self, homes: &mut IndexSet<Home>, place: u16, x: u16) -> Result<(), AllocError>
-        ensures { OnOk result
-            (homes.new.keys
-            ≡ with_events homes.old.keys (local_events (frames_of self.now) self.now.rec.now.handlers place x)) }
-    {
-        keep_value(homes, x, self.local(place, x))?;
-        self.keep_caught(homes, place, x, self.rec.handlers.as_slice())
-    }
-
-    /// Keeps what is needed for a local at a place, where these handlers are asked.
-    #[tactic(auto, unfolding(crate::specs::Walk::with_events, crate::specs::Walk::local_events))]
-    fn keep_asked(
-        &self,
-        homes: &mut IndexSet<Home>,
-        place: u16,
-        x: u16,
-        handlers: &[Handler],
-        last: Option<u16>,
-    ) -> Result<(), AllocError>
-        requires { knows homes.old.keys x (last_local (frames_of self.now) last x) ≡ true }
-        ensures { OnOk result
-            (homes.new.keys
-            ≡ with_events homes.old.keys (local_events (frames_of self.now) handlers.now place x)) }
-    {
-        self.keep_own(homes, place, x, last)?;
-        self.keep_caught(homes, place, x, handlers)
+        homes.clear();
+        Err(AllocError)
     }
 
     /// How many registers the method has.
@@ -297,27 +226,6 @@ impl HomeWalk<'_> {
         ensures few { result ≤ 510 }
     {
         u16::from(self.rec.nargs) + u16::from(self.rec.max_locals)
-    }
-
-    fn keep_locals(
-        &self,
-        homes: &mut IndexSet<Home>,
-        place: u16,
-        handlers: &[Handler],
-        last: Option<u16>,
-    ) -> Result<(), AllocError>
-        requires { AreLastKnown (frames_of self.now) (register_count self.now.rec.now) homes.old.keys last }
-        ensures { OnOk result
-            (homes.new.keys
-            ≡ with_events homes.old.keys
-            (locals_events (frames_of self.now) handlers.now place 0 (register_count self.now.rec.now))) }
-    {
-        'locals: for x in 0..self.registers() {
-            if let Err(error) = self.keep_asked(homes, place, x, handlers, last) {
-                return Err(error);
-            }
-        }
-        Ok(())
     }
 
     /// The operands of the instruction at a place, if it is a conditional branch or a switch.
@@ -367,13 +275,6 @@ impl HomeWalk<'_> {
         }
     }
 
-    /// Whether no handler is asked, and no local's value differs from that at the last place.
-    fn needs_none(&self, handlers: &[Handler], place: u16, last: Option<u16>) -> bool
-        ensures { IsTrue result → (handlers.now ≡ []) × AreStill (frames_of self.now) place last }
-    {
-        handlers.is_empty() && self.is_still(place, last)
-    }
-
     /// Keeps what is needed for locals at a place: of each handler where it first covers one.
     fn keep_needed(
         &self,
@@ -388,10 +289,14 @@ impl HomeWalk<'_> {
             (locals_events (frames_of self.now) self.now.rec.now.handlers place 0 (register_count self.now.rec.now))) }
     {
         let handlers = asked(self.rec.handlers.as_slice(), place, last);
-        if self.needs_none(handlers, place, last) {
+        if handlers.is_empty() && self.is_still(place, last) {
             return Ok(());
         }
-        self.keep_locals(homes, place, handlers, last)
+        'locals: for x in 0..self.registers() {
+            self.keep_own(homes, place, x, last)?;
+            self.keep_caught(homes, place, x, handlers)?;
+        }
+        Ok(())
     }
 
     /// Keeps what is met at an instruction, if control reaches it.
@@ -444,9 +349,7 @@ impl HomeWalk<'_> {
         types_are_ordered(self.world.classes());
         let mut last = None;
         'walk: for placed in Instructions::of(self.code) {
-            if let Err(error) = self.keep_place(homes, placed, last) {
-                return Err(error);
-            }
+            self.keep_place(homes, placed, last)?;
             last = self.last_after(placed.place, last);
         }
         Ok(())

@@ -17,7 +17,7 @@ homes-preserved c =
     _ c.width-register.result c.homes-test.true c.width-register.ensures in
     record {
       so_far =
-          ap (λ xs. xs ++ left) c.in_default.ensures.items
+          ap (λ xs. xs ++ left) c.in_ok-push.ensures.items
           ∙ append_assoc c.homes.registers.items (c.homes.register ∷ []) left
           ∙ ap (λ xs. c.homes.registers.items ++ xs) (sym next)
           ∙ c.homes.invariant.so_far;

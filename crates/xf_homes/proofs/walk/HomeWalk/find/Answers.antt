@@ -26,7 +26,7 @@ walk-preserved c =
     let events = place_events s.world.now (walked s) (frames_of s) s.control.now.leaders in
     record {
       same =
-          ap (λ xs. with_events xs (flat_map events (rest_of c.next.new.self))) c.in_default.ensures
+          ap (λ xs. with_events xs (flat_map events (rest_of c.next.new.self))) c.in_ok-keep_place.ensures
           ∙ sym (places-step c.walk.homes.keys events (rest_of c.walk.placed-iterator) c.in-Some.placed (rest_of c.next.new.self) c.in-Some.ensures.steps)
           ∙ c.walk.invariant.same;
       known =
@@ -34,7 +34,7 @@ walk-preserved c =
           (sym c.last_after-last.ensures)
           (known-after c.types_are_ordered.ensures.same s.world.now (walked s) (frames_of s) s.control.now.leaders c.walk.homes.keys
           c.keep_place.new.homes.keys c.in-Some.placed c.walk.last c.walk.invariant.known
-          c.in_default.ensures);
+          c.in_ok-keep_place.ensures);
     }
 
 pub returns : goal.returns

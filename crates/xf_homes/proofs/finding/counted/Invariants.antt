@@ -1,6 +1,6 @@
 use Rattle.std.proofs.Common.{◌≡◌, min, take}
 use Rattle.xf_homes.specs.Order.{register_sum}
-use Rattle.xf_homes.proofs.finding.register_sum.Given as goal
+use Rattle.xf_homes.proofs.finding.counted.Given as goal
 
 abbrev pub invariant-homes : goal.invariant-homes
-invariant-homes l = l.sum ≡ min (register_sum (take l.home-index l.homes)) 4294967295
+invariant-homes l = l.sum ≡ min (register_sum (take l.home-index l.home-items)) 4294967295

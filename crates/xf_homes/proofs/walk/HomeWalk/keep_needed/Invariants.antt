@@ -3,7 +3,7 @@ use Rattle.xf_homes.specs.Home.{register_count}
 use Rattle.xf_homes.specs.Asked.{AreLastKnown}
 use Rattle.xf_homes.specs.Subject.{frames_of}
 use Rattle.xf_homes.specs.Walk.{locals_events, with_events}
-use Rattle.xf_homes.proofs.walk.HomeWalk.keep_locals.Given as goal
+use Rattle.xf_homes.proofs.walk.HomeWalk.keep_needed.Given as goal
 
 abbrev pub invariant-locals : goal.invariant-locals
 invariant-locals l = record {
