@@ -5,18 +5,14 @@ use Rattle.std.specs.Prelude.{Contains, Option, Some, None}
 use Rattle.jc_base.specs.declared.ty.Ty.{Ty}
 use Rattle.jc_base.specs.declared.ty.Ty.TheVariants as types
 use Rattle.jc_base.specs.World.{Linked}
-use Rattle.jc_base.specs.declared.ty.Kind.TheVariants as kinds
 use Rattle.jc_base.specs.Each.{IsAmong}
 use Rattle.jc_base.proofs.Eaching.{Contains-from_IsAmong, IsAmong-from_Contains}
 use Rattle.jc_base.specs.declared.ty.Kind.{Kind}
 use Rattle.jc_ops.specs.declared.want.Want.{Want}
 use Rattle.jc_ops.specs.declared.want.Want.TheVariants.{Value}
 use Rattle.jc_ops.specs.declared.operation.Move.{Move}
-use Rattle.jc_ops.specs.declared.operation.Move.TheVariants as moves
 use Rattle.jc_ops.specs.declared.operation.Arithmetic.{Arithmetic}
-use Rattle.jc_ops.specs.declared.operation.Arithmetic.TheVariants as arithmetic
 use Rattle.jc_ops.specs.declared.operation.Branch.{Branch}
-use Rattle.jc_ops.specs.declared.operation.Branch.TheVariants as branches
 use Rattle.jc_ops.specs.declared.operation.Holder.TheVariants as holders
 use Rattle.jc_ops.specs.declared.operation.Operation.{Operation}
 use Rattle.jc_ops.specs.declared.operation.Operation.TheVariants as ops

@@ -364,3 +364,8 @@ pub fits-decided : (w : Linked) (m : Method) (k : Variable) (at : ℕ) (a : Allo
     → MatchBool (not b) (FitsBeside w m (variable_of k) at (allotted_of a)) (¬ (FitsBeside w m (variable_of k) at (allotted_of a)))
 fits-decided w m k at a true after before here width ty h = unfit w m k at a after before (λ _ _ _ apart. apart h)
 fits-decided w m k at a false after before here width ty h = fits_with here width ty h
+
+-- numbers are added
+pub numbers-more : (xs : List ℕ) (at width : ℕ) → 1 ≤ width → length xs < length (xs ++ numbers_from at width)
+numbers-more xs at zero some = absurd (omega (arith, some))
+numbers-more xs at (suc n) some = let long = length-append xs (numbers_from at (suc n)) in omega (arith, long)

@@ -1,12 +1,12 @@
 ghost use Rattle.std.specs.Prelude.{◌≡◌, ◌+◌, ◌≤◌, ◌++◌, drop, length, max, map, All, IfOk, MatchOption, OnOk};
 ghost use Rattle.jc_control.specs.Subject.{method, world_of};
 ghost use Rattle.law_share.specs.Sharing.{end_of};
-ghost use Rattle.xf_allot.specs.Allotting.{AreAllottedBy, Gives, IsAllottedTo, IsSized, LiesBefore, numbers_from};
+ghost use Rattle.xf_allot.specs.Allotting.{AreAllottedBy, IsAllottedTo, LiesBefore, numbers_from};
 ghost use Rattle.xf_allot.specs.Graph.{AreFound};
 ghost use Rattle.xf_allot.specs.Variable.{HasNone, allotted_of};
 
 use crate::fitting::least_fit;
-use crate::variable::{Allotted, Variable, variable_at};
+use crate::variable::{Allotted, variable_at};
 use jc_base::Ty;
 use jc_control::Subject;
 use std::alloc::{AllocError, Global};
@@ -39,13 +39,12 @@ pub(crate) fn allot(
 {
     let mut allotment = Allotment::of(alloc, subject, types)?;
     'variables: while allotment.numbers.len() < types.len() {
-        let variable = match variable_at(types, allotment.numbers.len() as u8) {
-            Some(variable) => variable,
-            None => return Ok(None),
+        let Some(variable) = variable_at(types, allotment.numbers.len() as u8) else {
+            return Ok(None);
         };
-        if let Err(error) = allotment.give(subject, found, variable) {
-            return Err(error);
-        }
+        let at = least_fit(subject, found, allotment.given.as_slice(), variable);
+        allotment.given.push(Allotted { variable, at })?;
+        number(&mut allotment.numbers, at, variable.width)?;
     }
     Ok(Some(allotment))
 }
@@ -65,24 +64,6 @@ impl Allotment {
             given: Vec::new(alloc),
             numbers,
         })
-    }
-
-    // Gives the next variable its registers.
-    fn give(
-        &mut self,
-        subject: &Subject<'_>,
-        found: &Interference,
-        variable: Variable,
-    ) -> Result<(), AllocError>
-        requires found { AreFound (world_of subject.now) (method subject.now) found.now }
-        requires variable { IsSized variable }
-        requires before { All (LiesBefore variable.register) self.old.given.items }
-        requires from { subject.now.rec.now.nargs ≤ variable.register }
-        ensures { OnOk result (Gives (world_of subject.now) (method subject.now) variable self.old self.new) }
-    {
-        let at = least_fit(subject, found, self.given.as_slice(), variable);
-        self.given.push(Allotted { variable, at })?;
-        number(&mut self.numbers, at, variable.width)
     }
 
     /// Where the registers that are given out end, those of the arguments among them.

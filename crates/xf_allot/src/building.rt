@@ -1,9 +1,8 @@
-ghost use Rattle.std.specs.Prelude.{◌<◌, suc, length, IfOk, OnOk};
+ghost use Rattle.std.specs.Prelude.{◌<◌, IfOk, OnOk};
 ghost use Rattle.jc_control.specs.Flags.{Marks};
 ghost use Rattle.jc_control.specs.Listing.{IsListingOf};
 ghost use Rattle.jc_control.specs.WellFormed.{HasInstruction};
 ghost use Rattle.jc_control.specs.Subject.{method, world_of};
-ghost use Rattle.law_share.specs.Live.{Operates};
 ghost use Rattle.xf_allot.specs.Building.{HasPlace, IsAwaited};
 ghost use Rattle.xf_allot.specs.Graph.{IsBound, IsGraphOf, IsGraphTo};
 ghost use Rattle.xf_allot.specs.Subject.{IsSubject};
@@ -12,7 +11,7 @@ use crate::edges::{catch, leave};
 use crate::uses::{no_uses, uses_of};
 use jc_control::{Flags, Listing, Subject};
 use jc_decode::Placed;
-use jc_ops::{Operation, Site, resolve};
+use jc_ops::{Site, resolve};
 use std::alloc::{AllocError, Global};
 use xf_live::{Edge, Uses};
 
@@ -34,9 +33,8 @@ impl Building {
         let bounds = bounds_of(alloc, subject)?;
         let mut graph = Building::blank(alloc, subject)?;
         'places: for place in 0..subject.code.bytes.len() {
-            if let Err(error) = graph.add_place(subject, &listing, &bounds, place as u16) {
-                return Err(error);
-            }
+            graph.add_instruction(subject, &listing, place as u16)?;
+            catch(&mut graph.edges, subject, &bounds, place as u16)?;
         }
         Ok(graph)
     }
@@ -52,26 +50,6 @@ impl Building {
             uses,
             edges: Vec::new(alloc),
         })
-    }
-
-    // What both nodes of a place have.
-    fn add_place(
-        &mut self,
-        subject: &Subject<'_>,
-        listing: &Listing,
-        bounds: &Flags,
-        place: u16,
-    ) -> Result<(), AllocError>
-        requires subject { IsSubject subject.now }
-        requires place { place < length subject.now.code.bytes.now }
-        requires listing { IsListingOf subject.now.code.bytes.now listing.now }
-        requires bounds { Marks (IsBound subject.now.rec.now.handlers) bounds.now }
-        requires graph { IsGraphTo (world_of subject.now) (method subject.now) place self.old.uses.items self.old.edges.items }
-        ensures { OnOk result
-            (IsGraphTo (world_of subject.now) (method subject.now) (suc place) self.new.uses.items self.new.edges.items) }
-    {
-        self.add_instruction(subject, listing, place)?;
-        catch(&mut self.edges, subject, bounds, place)
     }
 
     // What the node of an instruction has, where one begins at the place.
@@ -107,25 +85,12 @@ impl Building {
             place: placed.place,
         };
         match resolve(subject.world, site, placed.insn) {
-            Ok(operation) => self.add_operation(subject, placed, operation),
+            Ok(operation) => {
+                self.uses[usize::from(placed.place)] = uses_of(subject.world, operation);
+                leave(&mut self.edges, subject, placed)
+            }
             Err(_) => Ok(()),
         }
-    }
-
-    // What the node of an operation has.
-    fn add_operation(
-        &mut self,
-        subject: &Subject<'_>,
-        placed: Placed,
-        operation: Operation,
-    ) -> Result<(), AllocError>
-        requires subject { IsSubject subject.now }
-        requires operates { Operates (world_of subject.now) (method subject.now) placed operation }
-        requires awaited { IsAwaited placed.place self.old }
-        ensures { OnOk result (HasPlace (world_of subject.now) (method subject.now) placed.place self.old self.new) }
-    {
-        self.uses[usize::from(placed.place)] = uses_of(subject.world, operation);
-        leave(&mut self.edges, subject, placed)
     }
 }
 

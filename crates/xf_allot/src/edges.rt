@@ -1,13 +1,11 @@
 ghost use Rattle.std.specs.Prelude.{◌≡◌, ◌<◌, length, OnOk};
-ghost use Rattle.jc_base.specs.declared.record.Handler.{Handler};
 ghost use Rattle.jc_control.specs.Flags.{Marks};
 ghost use Rattle.jc_control.specs.WellFormed.{HasInstruction};
 ghost use Rattle.jc_control.specs.Subject.{method};
-ghost use Rattle.xf_allot.specs.Graph.{Adds, IsBound, IsCatch, IsEnter, IsEntryOf, IsFall, IsJump, IsOut, caught_at};
+ghost use Rattle.xf_allot.specs.Graph.{Adds, IsBound, IsCatch, IsFall, IsJump, IsOut, caught_at};
 ghost use Rattle.xf_allot.specs.Subject.{IsSubject};
 ghost use Rattle.xf_live.specs.declared.graph.Edge.{Edge};
 
-use jc_base::Handler;
 use jc_control::{Flags, Subject, Targets, covers, place_of};
 use jc_decode::Placed;
 use std::alloc::AllocError;
@@ -43,10 +41,16 @@ pub(crate) fn catch(
     ensures { OnOk result (Adds (IsCatch (method subject.now) place) edges.old.items edges.new.items) }
 {
     let node = catching(subject, place);
-    if bounds.has(u32::from(place)) {
-        return enter_all(edges, subject, place, node);
+    if !bounds.has(u32::from(place)) {
+        return lead(edges, node, node - 1);
     }
-    lead(edges, node, node - 1)
+    'handlers: for handler in subject.rec.handlers.as_slice() {
+        if !covers(*handler, place) {
+            continue;
+        }
+        lead(edges, node, handler.entry)?;
+    }
+    Ok(())
 }
 
 // The node of the handlers that cover a place.
@@ -86,37 +90,7 @@ fn jump(edges: &mut Vec<Edge>, subject: &Subject<'_>, placed: Placed) -> Result<
     ensures { OnOk result (Adds (IsJump (method subject.now) placed) edges.old.items edges.new.items) }
 {
     'targets: for target in Targets::of(subject.code, placed) {
-        if let Err(error) = lead(edges, placed.place, place_of(target)) {
-            return Err(error);
-        }
+        lead(edges, placed.place, place_of(target))?;
     }
     Ok(())
-}
-
-// To the entries of the handlers that cover a place.
-fn enter_all(
-    edges: &mut Vec<Edge>,
-    subject: &Subject<'_>,
-    place: u16,
-    node: u16,
-) -> Result<(), AllocError>
-    requires subject { IsSubject subject.now }
-    ensures { OnOk result (Adds (IsEntryOf subject.now.rec.now.handlers place node) edges.old.items edges.new.items) }
-{
-    'handlers: for handler in subject.rec.handlers.as_slice() {
-        if let Err(error) = enter(edges, *handler, place, node) {
-            return Err(error);
-        }
-    }
-    Ok(())
-}
-
-// To the entry of a handler, where it covers a place.
-fn enter(edges: &mut Vec<Edge>, handler: Handler, place: u16, node: u16) -> Result<(), AllocError>
-    ensures { OnOk result (Adds (IsEnter handler place node) edges.old.items edges.new.items) }
-{
-    if !covers(handler, place) {
-        return Ok(());
-    }
-    lead(edges, node, handler.entry)
 }

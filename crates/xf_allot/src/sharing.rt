@@ -3,7 +3,6 @@ ghost use Rattle.card_typing.specs.Typing.{IsLeastCardTyping};
 ghost use Rattle.jc_control.specs.Method.{method_in};
 ghost use Rattle.jc_control.specs.Subject.{method, world_of};
 ghost use Rattle.xf_allot.specs.Allotting.{AreAllottedBy};
-ghost use Rattle.xf_allot.specs.Graph.{AreFound};
 ghost use Rattle.xf_allot.specs.Sharing.{AnswersSharing, Shares};
 ghost use Rattle.xf_allot.specs.Subject.{IsSubject};
 
@@ -12,7 +11,7 @@ use crate::building::Building;
 use jc_base::{Ty, World};
 use jc_control::Subject;
 use std::alloc::{AllocError, Global};
-use xf_live::{Interference, find_interference};
+use xf_live::find_interference;
 
 /// The registers that the variables of a method share.
 #[derive(Drop)]
@@ -47,21 +46,12 @@ fn share(alloc: Global, subject: &Subject<'_>, types: &[Ty]) -> Result<Option<Sh
     ensures { IfOk result (AnswersSharing (world_of subject.now) (method subject.now)) }
 {
     let _classes = subject.world.classes();
-    let found = find_apart(alloc, subject)?;
-    match allot(alloc, subject, &found, types) {
-        Ok(Some(allotment)) => Ok(Some(shared(subject, types, allotment))),
-        Ok(None) => Ok(None),
-        Err(error) => Err(error),
-    }
-}
-
-// Which registers of a method may not become one.
-fn find_apart(alloc: Global, subject: &Subject<'_>) -> Result<Interference, AllocError>
-    requires { IsSubject subject.now }
-    ensures { IfOk result (AreFound (world_of subject.now) (method subject.now)) }
-{
     let graph = Building::of(alloc, subject)?;
-    find_interference(alloc, graph.uses.as_slice(), graph.edges.as_slice())
+    let found = find_interference(alloc, graph.uses.as_slice(), graph.edges.as_slice())?;
+    match allot(alloc, subject, &found, types)? {
+        Some(allotment) => Ok(Some(shared(subject, types, allotment))),
+        None => Ok(None),
+    }
 }
 
 // What the variables are given, as the new number of each register.

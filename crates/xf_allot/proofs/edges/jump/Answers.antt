@@ -51,7 +51,7 @@ targets-preserved c =
     c.in-Some.ensures.steps in
     record {
       adds = jumps-more c.targets.yielded t c.args.placed c.place_of.result c.args.edges.now.items c.targets.edges.items c.lead.new.edges.items
-          (c.place_of.ensures ∙ to_z-of_z w32 t fits) c.targets.invariant.adds c.in_default.ensures;
+          (c.place_of.ensures ∙ to_z-of_z w32 t fits) c.targets.invariant.adds c.in_ok-lead.ensures;
       whole = go-on c.targets.yielded t (rest_of c.next.new.self) all whole;
     }
 

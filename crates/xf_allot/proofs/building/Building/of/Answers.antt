@@ -1,17 +1,26 @@
-use Rattle.std.proofs.Common.{◌≡◌, ◌+◌, ℕ, suc, length, arith, subst}
-use Rattle.xf_allot.specs.Graph.{IsGraphTo}
+use Rattle.std.proofs.Common.{◌≡◌, ◌+◌, ℕ, suc, length, refl, arith, subst}
 use Rattle.jc_control.specs.Subject.{method, world_of}
+use Rattle.xf_allot.specs.declared.building.Building.{Building}
+use Rattle.xf_allot.specs.Graph.{IsGraphTo}
+use Rattle.xf_allot.proofs.Placing.{awaited-next, graph-more}
 use Rattle.xf_allot.proofs.building.Building.of.Goals as goal
+
+pub add_instruction-requires-clause-awaited : goal.add_instruction-requires-clause-awaited
+add_instruction-requires-clause-awaited c =
+    awaited-next (world_of c.args.subject.now) (method c.args.subject.now) c.places.place c.places.graph c.places-test.true c.places.invariant.graph
 
 pub places-preserved : goal.places-preserved
 places-preserved c =
     let w = world_of c.args.subject.now in
     let m = method c.args.subject.now in
-    let new = c.add_place.new.self in
+    let between = c.add_instruction.new.self in
+    let new : Building = record { uses = between.uses; edges = c.catch.new.edges } in
+    let lt = c.places-test.true in
     let next : suc c.places.place ≡ c.places.place + 1 = omega arith in
     record {
-      within = (let lt = c.places-test.true in omega (arith, lt));
-      graph = subst (λ (n : ℕ). IsGraphTo w m n new.uses.items new.edges.items) next c.in_default.ensures;
+      within = omega (arith, lt);
+      graph = subst (λ (n : ℕ). IsGraphTo w m n new.uses.items new.edges.items) next
+          (graph-more w m c.places.place c.places.graph between new lt c.places.invariant.graph c.in_ok-add_instruction.ensures refl c.in_ok-catch.ensures);
     }
 
 pub returns : goal.returns

@@ -1,6 +1,6 @@
 use Rattle.std.proofs.Common.{take}
 use Rattle.xf_allot.specs.Graph.{Adds, IsEntryOf}
-use Rattle.xf_allot.proofs.edges.enter_all.Given as goal
+use Rattle.xf_allot.proofs.edges.catch.Given as goal
 
 abbrev pub invariant-handlers : goal.invariant-handlers
 invariant-handlers l =
