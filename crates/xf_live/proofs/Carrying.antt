@@ -1,7 +1,8 @@
 -- How a search for live registers goes on.
 use Rattle.std.proofs.Common.{◌≡◌, ◌<◌, ◌≤◌, ◌⊎◌, inl, inr, ⊎_elim, ℕ, zero, suc, ◌+◌, List, [], ◌∷◌, ◌++◌, length}
 use Rattle.std.proofs.Common.{refl, sym, ap, ◌∙◌, subst, arith, Contains, All}
-use Rattle.std.specs.Prelude.{Option, Some, None, slice_get, slice_set, sum_by, IsSomeAnd}
+use Rattle.std.specs.Prelude.{Option, Some, None, get_or, slice_get, slice_set, sum_by, IsSomeAnd}
+use Rattle.std.proofs.lemmas.Option.{slice_get_read}
 use Rattle.std.proofs.lemmas.Bool.{cases_eq}
 use Rattle.std.proofs.lemmas.List.{length-append, length-set, get_or-set_same, get_or-set_other}
 use Rattle.std.proofs.lemmas.List.Sums.{sum_by-set, sum_by-cons}
@@ -120,6 +121,10 @@ module _ (nodes : List Node) where
       (live : RegisterSet) (ns : List ℕ) (old new : Liveness) → Grows old new → All (λ n. IsCarried nodes live n old) ns
       → All (λ n. IsCarried nodes live n new) ns
   all-carried-on live ns old new grows all = grind (arith, carried-on, all)
+
+  pub there-is : (q : ℕ) (from : List ℕ) (node : Node) → q < length nodes → node ≡ get_or nodes q node → from ≡ node.from.items
+      → IsSomeAnd (slice_get nodes q) (λ node. node.from.items ≡ from)
+  there-is q from node lt at is = subst (λ o. IsSomeAnd o (λ n. n.from.items ≡ from)) (sym (slice_get_read nodes (length nodes) q node refl lt at)) (sym is)
 
   -- the node whose set is carried, and those before it
   module _ (q : ℕ) (from : List ℕ) (live : RegisterSet) (start : Liveness)

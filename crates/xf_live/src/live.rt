@@ -1,4 +1,4 @@
-ghost use Rattle.std.specs.Prelude.{◌≡◌, ◌<◌, ◌≤◌, ◌^◌, length, slice_get, IfOk, IfSome, IfNone, IsSomeAnd, OnOk};
+ghost use Rattle.std.specs.Prelude.{◌≡◌, ◌<◌, ◌≤◌, ◌^◌, length, IfOk, IfSome, IfNone, OnOk};
 ghost use Rattle.xf_live.specs.Live.{AreLive, set_at};
 ghost use Rattle.xf_live.specs.Liveness.{Begins, Raises, CarriesAll, TakesUp, IsDone};
 
@@ -61,25 +61,16 @@ impl Liveness {
         self.pending.pop()
     }
 
-    // Carries what is live at a node to those from which control comes to it.
+    // Carries what is live at a node, and not written there, to those from which control comes to it.
     fn visit(&mut self, nodes: &[Node], number: u16) -> Result<(), AllocError>
         requires sized { length self.old.sets.items ≡ length nodes.now }
         ensures { OnOk result (CarriesAll nodes.now number self.old self.new) }
     {
-        match nodes.get(number as usize) {
-            Some(node) => self.carry_all(nodes, number, node.from.as_slice()),
-            None => Ok(()),
-        }
-    }
-
-    // To these: what is live after each, and not written there.
-    fn carry_all(&mut self, nodes: &[Node], number: u16, from: &[u16]) -> Result<(), AllocError>
-        requires sized { length self.old.sets.items ≡ length nodes.now }
-        requires there { IsSomeAnd (slice_get nodes.now number) (λ node. node.from.items ≡ from.now) }
-        ensures { OnOk result (CarriesAll nodes.now number self.old self.new) }
-    {
+        let Some(node) = nodes.get(number as usize) else {
+            return Ok(());
+        };
         let live = self.at(number);
-        'from: for before in from {
+        'from: for before in node.from.as_slice() {
             let Some(node) = nodes.get(*before as usize) else {
                 continue;
             };
