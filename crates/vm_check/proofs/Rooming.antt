@@ -1,24 +1,15 @@
 -- The room that an operation takes on the operand stack: two cells, or those that it copies.
-use Rattle.std.proofs.Common.{ℕ, ◌+◌, ◌≤◌, List, [], length, arith}
+use Rattle.std.proofs.Common.{ℕ, ◌+◌, ◌≤◌, List, length, arith}
 use Rattle.std.specs.Prelude.{max, Option}
 use Rattle.jc_base.specs.declared.ty.Ty.{Ty}
-use Rattle.jc_base.specs.declared.ty.Kind.TheVariants as kinds
 use Rattle.jc_base.specs.declared.record.MethodRec.{MethodRec}
 use Rattle.jc_base.specs.World.{Linked}
 use Rattle.jc_ops.specs.declared.want.Want.{Want}
-use Rattle.jc_ops.specs.declared.operation.Sort.TheVariants as sorts
-use Rattle.jc_ops.specs.declared.operation.Width.TheVariants as widths
-use Rattle.jc_ops.specs.declared.operation.Constant.TheVariants as constants
 use Rattle.jc_ops.specs.declared.operation.Move.TheVariants as moves
-use Rattle.jc_ops.specs.declared.operation.Arithmetic.TheVariants as arithmetic
-use Rattle.jc_ops.specs.declared.operation.Branch.TheVariants as branches
-use Rattle.jc_ops.specs.declared.operation.Holder.TheVariants as holders
-use Rattle.jc_ops.specs.declared.operation.TypeTest.TheVariants as tests
 use Rattle.jc_ops.specs.declared.operation.Operation.{Operation}
 use Rattle.jc_ops.specs.declared.operation.Operation.TheVariants as ops
 use Rattle.jc_ops.specs.Sound.{IsSound}
 use Rattle.jc_rules.specs.declared.effect.Cells.{Cells}
-use Rattle.jc_rules.specs.declared.effect.Cells.TheVariants as given
 use Rattle.jc_rules.specs.Demand.{Frame}
 use Rattle.jc_rules.specs.Effect.{in_stack_order}
 use Rattle.jc_rules.specs.Footprint.{footprint, cells_given}

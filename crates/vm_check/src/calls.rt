@@ -5,7 +5,7 @@ ghost use Rattle.jc_ops.specs.declared.operation.Operation.TheVariants as ops;
 ghost use Rattle.jc_ops.specs.Sound.{IsKnownWant, receiver_count};
 ghost use Rattle.jc_rules.specs.Demand.{satisfies};
 ghost use Rattle.jc_rules.specs.Known.{IsKnownCallee};
-ghost use Rattle.jc_rules.specs.Rule.{cells_wanted, receiver_wanted, call_demands, demands};
+ghost use Rattle.jc_rules.specs.Rule.{cells_wanted, call_demands, demands};
 ghost use Rattle.vm_step.specs.Tests.{types_of, unmet};
 ghost use Rattle.vm_check.specs.Shaped.{CanTest};
 
@@ -43,10 +43,12 @@ fn cells_hold<S: Store>(store: &S, world: &World<'_>, args: &[Ty], receiver: Opt
         (satisfies world.now.classes (types_of S.Cell.cells world.now (S.state store.now)))
         (call_demands args.now receiver) }
 {
-    if arguments_hold(store, world, args) {
-        receiver_holds(store, world, receiver, args.len())
-    } else {
-        false
+    if !arguments_hold(store, world, args) {
+        return false;
+    }
+    match receiver {
+        Some(want) => cell_meets(store, world, args.len(), want),
+        None => true,
     }
 }
 
@@ -76,20 +78,4 @@ fn arguments_hold<S: Store>(store: &S, world: &World<'_>, args: &[Ty]) -> bool
         }
     }
     true
-}
-
-/// Whether the cell of a receiver, by its number from the top, is as wanted.
-fn receiver_holds<S: Store>(store: &S, world: &World<'_>, receiver: Option<Want>, n: usize) -> bool
-    requires well { S.well store.now }
-    requires tested { CanTest S.Cell.cells world.now (S.state store.now) }
-    requires known { IfSome receiver (IsKnownWant world.now.classes) }
-    ensures { result
-        ≡ list_all
-        (satisfies world.now.classes (types_of S.Cell.cells world.now (S.state store.now)))
-        (receiver_wanted n receiver) }
-{
-    match receiver {
-        Some(want) => cell_meets(store, world, n, want),
-        None => true,
-    }
 }

@@ -62,8 +62,11 @@ fn unmet_by<S: Store>(store: &S, world: &World<'_>, operation: Operation) -> Opt
         Operation::Switch(width) => number_fault(store, world, width),
         Operation::StaticWrite(field) => value_fault(store, world, field.ty),
         Operation::FieldRead(field, holder) => field_read_fault(store, world, holder, field.class),
-        Operation::FieldWrite(field, holder) => {
-            field_write_fault(store, world, holder, field.class, field.ty)
+        Operation::FieldWrite(field, Holder::Stack) => {
+            object_write_fault(store, world, field.class, field.ty)
+        }
+        Operation::FieldWrite(field, Holder::This) => {
+            this_write_fault(store, world, field.class, field.ty)
         }
         Operation::Call(callee) => call_fault(store, world, callee),
         Operation::NewArray(_) => unmet(store, world, &[Demand::Cell(0, SHORT)]),
@@ -393,26 +396,6 @@ fn field_read_fault<S: Store>(
             world,
             &[Demand::Registers(0, 1), Demand::Held(0, object)],
         ),
-    }
-}
-
-/// A value, and an object of a class.
-fn field_write_fault<S: Store>(
-    store: &S,
-    world: &World<'_>,
-    holder: Holder,
-    class: u16,
-    ty: Ty,
-) -> Option<Fault>
-    requires well { S.well store.now }
-    requires tested { CanTest S.Cell.cells world.now (S.state store.now) }
-    requires class { IsClass world.now.classes class }
-    requires ty { IsKnown world.now.classes ty }
-    ensures { result ≡ unmet S.Cell.cells world.now (field_write_demands holder class ty) (S.state store.now) }
-{
-    match holder {
-        Holder::Stack => object_write_fault(store, world, class, ty),
-        Holder::This => this_write_fault(store, world, class, ty),
     }
 }
 

@@ -113,7 +113,11 @@ fn satisfies<S: Store>(store: &S, world: &World<'_>, demand: Demand) -> bool
         }
         Demand::Depth(n) => n as usize <= store.depth(),
         Demand::Cell(n, want) => cell_meets(store, world, n as usize, want),
-        Demand::Cut(n) => !splits(store, world, n),
+        Demand::Cut(n) => {
+            let above = type_on(store, world, n.saturating_sub(1) as usize);
+            let below = type_on(store, world, n as usize);
+            !(is_low(above) && is_high(below))
+        }
         Demand::Held(x, ty) => register_has(store, world, x, ty),
     }
 }
@@ -153,19 +157,6 @@ fn register_has<S: Store>(store: &S, world: &World<'_>, x: u8, ty: Ty) -> bool
     }
     let found = store.type_of(world.classes(), store.register(u16::from(x)));
     meets(world.classes(), Want::Value(ty), found)
-}
-
-/// Whether an int lies across the cut below the `n`-th cell.
-fn splits<S: Store>(store: &S, world: &World<'_>, n: u8) -> bool
-    requires well { S.well store.now }
-    requires tested { CanTest S.Cell.cells world.now (S.state store.now) }
-    ensures { result
-        ≡ (is_low (slice_get (types_of S.Cell.cells world.now (S.state store.now)).stack (n - 1))
-        && is_high (slice_get (types_of S.Cell.cells world.now (S.state store.now)).stack n)) }
-{
-    let above = type_on(store, world, n.saturating_sub(1) as usize);
-    let below = type_on(store, world, n as usize);
-    is_low(above) && is_high(below)
 }
 
 fn is_low(found: Option<Ty>) -> bool
