@@ -2,7 +2,7 @@
 ghost use Rattle.std.specs.Prelude.{◌≡◌, ◌+◌, ◌<◌, ◌≤ℤ◌, ◌<ℤ◌, pos, length, true, IfNone};
 ghost use Rattle.vm_store.specs.State.{IsRunning, top};
 ghost use Rattle.vm_step.specs.Methods.{code_at};
-ghost use Rattle.vm_step.specs.Settled.{is_over, is_past, is_target_place, fault_next, fault_target, place_number};
+ghost use Rattle.vm_step.specs.Settled.{is_over, is_target_place, fault_next, fault_target, place_number};
 ghost use Rattle.vm_run.specs.Known.{KnowPlaces, LandsAt};
 
 use crate::code::code;
@@ -23,16 +23,6 @@ fn is_over<S: Store>(store: &S, world: &World<'_>, depth: usize, more: usize) ->
     most < more || most - more < depth
 }
 
-/// Whether a place is after the code of the method on top.
-fn is_past<S: Store>(store: &S, world: &World<'_>, place: u32) -> bool
-    requires well { S.well store.now }
-    requires running { IsRunning (S.state store.now) }
-    requires method { (top (S.state store.now)).method < length world.now.methods }
-    ensures value { result ≡ is_past world.now (S.state store.now) place }
-{
-    code(world, store.method()).bytes.len() <= place as usize
-}
-
 /// What is wrong with a stack of so many cells and so many more before the instruction at a place.
 pub fn fault_next<S: Store>(
     store: &S,
@@ -50,7 +40,7 @@ pub fn fault_next<S: Store>(
         None
     } else if is_over(store, world, depth, more) {
         Some(Fault::StackFault)
-    } else if is_past(store, world, place) {
+    } else if code(world, store.method()).bytes.len() <= place as usize {
         Some(Fault::JumpFault)
     } else {
         None

@@ -33,10 +33,8 @@ impl MarkedPlaces {
     {
         let mut methods = Vec::with_capacity(alloc, world.method_count() as usize)?;
         'methods: for n in 0..world.method_count() {
-            match instruction_places(alloc, code(world, n)) {
-                Ok(flags) => methods.push_reserved(flags),
-                Err(error) => return Err(error),
-            }
+            let flags = instruction_places(alloc, code(world, n))?;
+            methods.push_reserved(flags);
         }
         Ok(MarkedPlaces { methods })
     }

@@ -1,9 +1,9 @@
 ghost use Rattle.std.specs.Prelude.{◌≡◌, ◌<◌, ◌≤◌, length};
-ghost use Rattle.vm_store.specs.State.{IsRunning, top, without_top};
+ghost use Rattle.vm_store.specs.State.{IsRunning, top};
 ghost use Rattle.vm_store.specs.Store.{IsOf};
-ghost use Rattle.vm_step.specs.Settled.{goes_to, given_to, settled};
-ghost use Rattle.vm_act.specs.Lead.{LeadStands, PutStands, told, with_put, value_cells, value_width};
-ghost use Rattle.vm_run.specs.Known.{KnowPlaces, CanResume};
+ghost use Rattle.vm_step.specs.Settled.{goes_to, settled};
+ghost use Rattle.vm_act.specs.Lead.{LeadStands, PutStands, told, with_put};
+ghost use Rattle.vm_run.specs.Known.{KnowPlaces};
 ghost use Rattle.vm_run.specs.Turn.{with_ending, AreMethods};
 ghost use Rattle.vm_run.specs.Leading.{LeadsOn, put_width};
 
@@ -61,35 +61,6 @@ fn put_and_go<S: Store>(store: &mut S, world: &World<'_>, next: u32, put: Put) -
     }
 }
 
-/// The method on top ends with a value, whose cells lie on its operand stack.
-fn give<S: Store>(
-    store: &mut S,
-    world: &World<'_>,
-    known: Known<'_>,
-    value: Value,
-) -> Option<Ending>
-    requires well { S.well store.old }
-    requires running { IsRunning (S.state store.old) }
-    requires cells { value_width value ≤ length (top (S.state store.old)).stack }
-    requires caller { IsRunning (without_top (S.state store.old))
-        → CanResume S.stack_room world.now known (value_width value) (without_top (S.state store.old)) }
-    ensures outcome { with_ending result (S.state store.new)
-        ≡ given_to
-        S.Cell.cells
-        world.now
-        value
-        (value_cells S.Cell.cells value (top (S.state store.old)).stack)
-        (without_top (S.state store.old)) }
-    ensures well { S.well store.new }
-    ensures fixed { S.fixed store.new ≡ S.fixed store.old }
-{
-    match value {
-        Value::Void => give_nothing(store, world, known),
-        Value::Int(_) => give_int(store, world, known, value),
-        _ => give_cell(store, world, known, value),
-    }
-}
-
 /// What a lead comes to, of the instruction before a place.
 pub fn settle<S: Store>(
     store: &mut S,
@@ -124,7 +95,9 @@ pub fn settle<S: Store>(
         Lead::MakesInstance { class, place } => make_instance(store, world, next, class, place),
         Lead::MakesArray { kind, count } => make_array(store, world, next, kind, count),
         Lead::Calls { method, count } => enter_call(store, world, method, count),
-        Lead::Gives(value) => give(store, world, known, value),
+        Lead::Gives(Value::Void) => give_nothing(store, world, known),
+        Lead::Gives(Value::Int(number)) => give_int(store, world, known, Value::Int(number)),
+        Lead::Gives(value) => give_cell(store, world, known, value),
         Lead::Raises(exception) => raise(store, world, exception),
         Lead::Throws(handle) => throw_object(store, world, handle),
         Lead::Lacks(class) => finish(store, Ending::Plain(Plain::InterfaceMissing(class))),

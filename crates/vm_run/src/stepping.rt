@@ -1,9 +1,9 @@
-ghost use Rattle.std.specs.Prelude.{◌≡◌, ◌+◌, ◌<◌, ◌≤◌, length, Some, Ok, IsSomeAnd, slice_get};
+ghost use Rattle.std.specs.Prelude.{◌≡◌, ◌+◌, ◌<◌, ◌≤◌, Some, Ok, IsSomeAnd, slice_get};
 ghost use Rattle.jc_ops.specs.Resolve.{Resolves};
 ghost use Rattle.jc_ops.specs.Sound.{IsSound};
 ghost use Rattle.vm_store.specs.State.{IsRunning, top};
 ghost use Rattle.vm_store.specs.Store.{IsOf};
-ghost use Rattle.vm_step.specs.Methods.{code_at, max_stack_of, instruction_at};
+ghost use Rattle.vm_step.specs.Methods.{code_at, instruction_at};
 ghost use Rattle.vm_step.specs.Step.{Steps, performed};
 ghost use Rattle.vm_run.specs.Known.{KnowPlaces};
 ghost use Rattle.vm_run.specs.Turn.{with_ending};
@@ -75,7 +75,7 @@ fn perform<M: Turning>(
 {
     M::steps_stand(world);
     M::tests_suffice(world);
-    stack_limit(store, world);
+    let _most = world.method(store.method()).max_stack;
     match fault_before(store, world, operation) {
         Some(fault) => finish(store, Ending::Faulted(fault)),
         None => {
@@ -89,15 +89,4 @@ fn perform<M: Turning>(
             )
         }
     }
-}
-
-/// A method's operand stack has at most 255 cells.
-fn stack_limit<S: Store>(store: &S, world: &World<'_>) -> u8
-    requires well { S.well store.now }
-    requires running { IsRunning (S.state store.now) }
-    requires method { (top (S.state store.now)).method < length world.now.methods }
-    ensures value { result ≡ max_stack_of world.now (top (S.state store.now)).method }
-    ensures most { max_stack_of world.now (top (S.state store.now)).method ≤ 255 }
-{
-    world.method(store.method()).max_stack
 }

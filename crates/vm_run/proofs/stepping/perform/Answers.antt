@@ -1,9 +1,10 @@
-use Rattle.std.proofs.Common.{◌+◌, ℕ, sym, ap, ◌∙◌}
+use Rattle.std.proofs.Common.{◌+◌, ◌<◌, ◌≤◌, ℕ, length, rules, sym, ap, ◌∙◌, subst}
 use Rattle.std.specs.Prelude.{Option, slice_get, Ok}
 use Rattle.jc_rules.proofs.Plans.{site-known}
 use Rattle.jc_ops.specs.Resolve.{Resolves}
 use Rattle.vm_store.specs.State.{State, top}
 use Rattle.vm_step.specs.declared.ending.Fault.{Fault}
+use Rattle.vm_step.specs.Methods.{max_stack_of}
 use Rattle.vm_step.specs.Settled.{unless_fault, settled}
 use Rattle.vm_act.specs.Lead.{told}
 use Rattle.vm_step.specs.Performed.{act}
@@ -11,10 +12,12 @@ use Rattle.jc_base.proofs.Lists.{IsSomeAnd-some}
 use Rattle.vm_run.proofs.Performing.{top-frame, can-test, methods-after, fetched, reaches-by, leads-on, same-outcome}
 use Rattle.vm_run.proofs.stepping.perform.Goals as goal
 
-pub stack_limit-requires-clause-method : goal.stack_limit-requires-clause-method
-stack_limit-requires-clause-method g c =
+pub method-requires-2 : goal.method-requires-2
+method-requires-2 g c =
+    let w = c.args.world.now in
     let s : State g.row.M-Cell.Denot = g.M.Store.state c.args.store.now in
-    (top-frame c.args.world.now s (c.tests_suffice.ensures.shape s c.requires.keeps) c.requires.running).known
+    subst (λ (n : ℕ). n < length w.methods) (sym c.method.ensures)
+    (top-frame w s (c.tests_suffice.ensures.shape s c.requires.keeps) c.requires.running).known
 
 pub fault_before-requires-clause-tested : goal.fault_before-requires-clause-tested
 fault_before-requires-clause-tested g c =
@@ -30,9 +33,10 @@ fault_before-requires-clause-known g c =
 pub act-lead-requires-clause-reaches : goal.act-lead-requires-clause-reaches
 act-lead-requires-clause-reaches g c =
     let s : State g.row.M-Cell.Denot = g.M.Store.state c.args.store.now in
+    let most : max_stack_of c.args.world.now (top s).method ≤ 255 = search rules in
     reaches-by c.args.world.now g.M.Cell.CellForm.cells g.M.Store.stack_room (g.M.Machine.keeps c.args.world.now) c.tests_suffice.ensures.reaches s
     c.args.placed c.args.operation
-    c.requires.keeps c.requires.running c.requires.instruction c.stack_limit.ensures.most c.requires.resolves (sym c.in-None.ensures)
+    c.requires.keeps c.requires.running c.requires.instruction most c.requires.resolves (sym c.in-None.ensures)
 
 pub settle-requires-clause-methods : goal.settle-requires-clause-methods
 settle-requires-clause-methods g c =

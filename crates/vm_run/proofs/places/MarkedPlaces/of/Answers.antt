@@ -13,12 +13,12 @@ methods-preserved c =
     let P : ℕ → List Bool → Type 0 = λ n flags. Marks (IsPlace (code_at w n)) flags in
     let items = c.methods.methods.items in
     let count : c.methods.n ≡ length items = sym c.methods.invariant.size in
-    let here : P c.methods.n c.in-Ok.flags = subst (λ (bs : List ℕ). Marks (IsPlace bs) c.in-Ok.flags) c.code.ensures.is c.in-Ok.ensures in
-    let last : P (length items) c.in-Ok.flags = subst (λ (n : ℕ). P n c.in-Ok.flags) count here in
+    let here : P c.methods.n c.in_ok-flags.flags = subst (λ (bs : List ℕ). Marks (IsPlace bs) c.in_ok-flags.flags) c.code.ensures.is c.in_ok-flags.ensures in
+    let last : P (length items) c.in_ok-flags.flags = subst (λ (n : ℕ). P n c.in_ok-flags.flags) count here in
     record {
-      size = ap length c.push_reserved.ensures.items ∙ (length-append items (c.in-Ok.flags ∷ []) ∙ omega (arith, c.methods.invariant.size));
+      size = ap length c.push_reserved.ensures.items ∙ (length-append items (c.in_ok-flags.flags ∷ []) ∙ omega (arith, c.methods.invariant.size));
       count = grind (arith, common_steps);
       room = grind (arith, common_steps);
       marks = λ n. subst (λ (xs : List (List Bool)). IfSome (slice_get xs n) (P n)) (sym c.push_reserved.ensures.items)
-          (flags-more P items c.in-Ok.flags c.methods.invariant.marks last n);
+          (flags-more P items c.in_ok-flags.flags c.methods.invariant.marks last n);
     }
