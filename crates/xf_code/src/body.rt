@@ -74,9 +74,7 @@ impl Emitter<'_> {
         ensures { OnOk result (items.new.items ≡ items.old.items ++ flat_map (copy (source self.now.plan) from) homes.now) }
     {
         'homes: for home in homes {
-            if let Err(error) = self.copy(from, *home, items) {
-                return Err(error);
-            }
+            self.copy(from, *home, items)?;
         }
         Ok(())
     }
@@ -115,16 +113,6 @@ impl Emitter<'_> {
         put(&mut out.items, goto(to))
     }
 
-    #[tactic(auto, unfolding(xf_emission::specs::Group::body))]
-    fn store_local(&self, placed: Placed, sort: Sort, x: u8, out: &mut Output) -> Emitted
-        requires { placed.place + placed.insn.len ≤ 65535 }
-        ensures { OnOk result (out.new.items.items ≡ out.old.items.items ++ body (source self.now.plan) placed (Operation.Store sort x)) }
-    {
-        self.plan
-            .needed(next_place(placed), u16::from(x), &mut out.needed)?;
-        self.stored(sort, out.needed.as_slice(), &mut out.items)
-    }
-
     /// Appends the instruction of an operation that is no conditional branch and no switch.
     #[tactic(auto, unfolding(xf_emission::specs::Group::body))]
     pub fn body(&self, placed: Placed, operation: Operation, out: &mut Output) -> Emitted
@@ -138,7 +126,11 @@ impl Emitter<'_> {
             Operation::Increment { register, .. } => {
                 self.increased(placed, register, &mut out.items)
             }
-            Operation::Store(sort, x) => self.store_local(placed, sort, x, out),
+            Operation::Store(sort, x) => {
+                self.plan
+                    .needed(next_place(placed), u16::from(x), &mut out.needed)?;
+                self.stored(sort, out.needed.as_slice(), &mut out.items)
+            }
             Operation::FieldRead(_, Holder::This) => self.field_read(placed, &mut out.items),
             Operation::FieldWrite(field, Holder::This) => {
                 self.field_written(placed, field.kind, &mut out.items)

@@ -91,9 +91,7 @@ impl Emitter<'_> {
             if has(there, *home) {
                 continue;
             }
-            if let Err(error) = self.copy(from, *home, items) {
-                return Err(error);
-            }
+            self.copy(from, *home, items)?;
         }
         Ok(())
     }
@@ -139,13 +137,7 @@ impl Emitter<'_> {
         ensures { IfSome result (IsQuiet (source self.now.plan) from to) }
     {
         match from {
-            Origin::After(place, _) => {
-                if self.is_any_asking(to, place) {
-                    None
-                } else {
-                    Some(place)
-                }
-            }
+            Origin::After(place, _) if !self.is_any_asking(to, place) => Some(place),
             _ => None,
         }
     }
@@ -185,9 +177,7 @@ impl Emitter<'_> {
             if self.is_still(from, quiet, to, x) {
                 continue;
             }
-            if let Err(error) = self.local_copies(from, to, x, out) {
-                return Err(error);
-            }
+            self.local_copies(from, to, x, out)?;
         }
         Ok(())
     }
@@ -201,9 +191,7 @@ impl Emitter<'_> {
             if from[n].is(to[n]) {
                 continue;
             }
-            if let Err(error) = self.copy(from[n], to[n], items) {
-                return Err(error);
-            }
+            self.copy(from[n], to[n], items)?;
         }
         Ok(())
     }

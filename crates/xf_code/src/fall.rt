@@ -1,6 +1,6 @@
 ghost use Rattle.std.specs.Prelude.{◌≡◌, ◌++◌, ◌≤◌, ◌+◌, Some, OnOk};
 ghost use Rattle.xf_homes.specs.PlannedMethod.{source};
-ghost use Rattle.xf_emission.specs.Group.{fall, fall_by, fall_over, fallen};
+ghost use Rattle.xf_emission.specs.Group.{fall, fall_over, fallen};
 
 use crate::body::next_place;
 use crate::emitter::{Emitted, Emitter, Output};
@@ -37,18 +37,6 @@ impl Emitter<'_> {
         self.loads(under.as_slice(), &mut out.items)
     }
 
-    /// Appends the way from a conditional or a switch.
-    fn fall_from(&self, fork: Fork, to: u16, out: &mut Output) -> Emitted
-        ensures { OnOk result
-            (out.new.items.items
-            ≡ out.old.items.items ++ fall_by (source self.now.plan) fork.placed.place fork.operation (Some fork.operands) to) }
-    {
-        if self.has_under(fork) {
-            return self.fall_over(fork, to, out);
-        }
-        self.fall(fork.placed.place, fork.operation, to, out)
-    }
-
     /// Appends what comes after an instruction where control may fall into the next place.
     #[tactic(auto, unfolding(xf_emission::specs::Group::fallen))]
     pub fn fallen(&self, placed: Placed, operation: Operation, out: &mut Output) -> Emitted
@@ -67,6 +55,9 @@ impl Emitter<'_> {
             operation,
             operands,
         };
-        self.fall_from(fork, to, out)
+        if self.has_under(fork) {
+            return self.fall_over(fork, to, out);
+        }
+        self.fall(placed.place, operation, to, out)
     }
 }

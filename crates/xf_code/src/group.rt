@@ -95,9 +95,7 @@ impl Emitter<'_> {
             ≡ stub_items.old.items.items ++ flat_map (stubs (source self.now.plan)) (listing self.now.plan.walk.code.bytes.now)) }
     {
         'walk: for placed in Instructions::of(self.plan.walk.code) {
-            if let Err(error) = self.group(placed, out, stub_items) {
-                return Err(error);
-            }
+            self.group(placed, out, stub_items)?;
         }
         Ok(())
     }

@@ -49,9 +49,7 @@ impl Emitter<'_> {
             if !self.is_live(*handler) {
                 continue;
             }
-            if let Err(error) = self.caught(n as u16, *handler, out) {
-                return Err(error);
-            }
+            self.caught(n as u16, *handler, out)?;
         }
         Ok(())
     }
@@ -78,9 +76,7 @@ impl Emitter<'_> {
             if !self.is_live(*handler) {
                 continue;
             }
-            if let Err(error) = ranges.push(self.range(n as u16, *handler)) {
-                return Err(error.into());
-            }
+            ranges.push(self.range(n as u16, *handler))?;
         }
         Ok(ranges)
     }

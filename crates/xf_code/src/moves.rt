@@ -71,9 +71,7 @@ impl Emitter<'_> {
         ensures { OnOk result (items.new.items ≡ items.old.items ++ loads (source self.now.plan) homes.now) }
     {
         'homes: for home in homes {
-            if let Err(error) = self.load(*home, items) {
-                return Err(error);
-            }
+            self.load(*home, items)?;
         }
         Ok(())
     }
@@ -86,9 +84,7 @@ impl Emitter<'_> {
         let mut left = homes.len();
         'homes: while left > 0 {
             left -= 1;
-            if let Err(error) = self.store(homes[left], items) {
-                return Err(error);
-            }
+            self.store(homes[left], items)?;
         }
         Ok(())
     }

@@ -3,7 +3,7 @@ ghost use Rattle.jc_control.specs.Method.{method_in};
 ghost use Rattle.jc_flow.specs.Infer.{AreDerived};
 ghost use Rattle.jc_rules.specs.Typing.{state_at};
 ghost use Rattle.xf_homes.specs.Answer.{IsTypingOf};
-ghost use Rattle.xf_homes.specs.Order.{AreHomes, register_sum};
+ghost use Rattle.xf_homes.specs.Order.{AreHomes};
 ghost use Rattle.xf_homes.specs.PlannedMethod.{source};
 ghost use Rattle.jc_decode.specs.Symbols.{IsItem, IsRange, plain_size};
 ghost use Rattle.xf_emission.specs.Emission.{IsPlainSize, AreSymbolsOf, items, ranges, rewritten};
@@ -104,13 +104,6 @@ fn is_a_byte(byte: u8)
     let _ = byte;
 }
 
-/// The homes take no more registers than a method may have: a fact for proofs, and no work.
-fn are_few(homes: &Homes)
-    ensures { register_sum homes.now ≤ 255 }
-{
-    let _count = homes.count();
-}
-
 /// The code of a method with homes in place of its locals, by the typing that `infer` gives for it and the homes that
 /// `homes` gives for that typing.
 pub fn rewrite<'a>(
@@ -158,7 +151,7 @@ pub fn rewrite<'a>(
     plain_size_fits(world);
     rewritten_is_typed(world);
     rewritten_matches(world);
-    are_few(homes);
+    let _count = homes.count();
     let rec = world.method(method);
     is_a_byte(rec.max_stack);
     if rec.max_stack == 255 {
@@ -182,8 +175,6 @@ pub fn rewrite<'a>(
         },
         homes,
     };
-    match rewritten(alloc, plan) {
-        Ok(symbols) => Ok(symbols),
-        Err(error) => Err(error.into()),
-    }
+    let symbols = rewritten(alloc, plan)?;
+    Ok(symbols)
 }

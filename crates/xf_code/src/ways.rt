@@ -55,9 +55,7 @@ impl Emitter<'_> {
     {
         let mut ways = IndexSet::new(self.alloc);
         'targets: for target in Targets::of(self.plan.walk.code, placed) {
-            if let Err(error) = ways.insert(target) {
-                return Err(error.into());
-            }
+            ways.insert(target)?;
         }
         Ok(ways)
     }
@@ -103,14 +101,8 @@ impl Emitter<'_> {
     {
         let mut labels = Vec::new(self.alloc);
         'ways: for (n, target) in ways.iter().enumerate() {
-            match self.put_way(fork, n as u16, target, stubs) {
-                Ok(label) => {
-                    if let Err(error) = labels.push(label) {
-                        return Err(error.into());
-                    }
-                }
-                Err(error) => return Err(error),
-            }
+            let label = self.put_way(fork, n as u16, target, stubs)?;
+            labels.push(label)?;
         }
         Ok(labels)
     }
@@ -131,9 +123,7 @@ impl Emitter<'_> {
     {
         let mut all = Vec::new(self.alloc);
         'targets: for target in Targets::of(self.plan.walk.code, fork.placed) {
-            if let Err(error) = push_label(&mut all, label_of(ways, labels, target)) {
-                return Err(error);
-            }
+            push_label(&mut all, label_of(ways, labels, target))?;
         }
         Ok(all)
     }

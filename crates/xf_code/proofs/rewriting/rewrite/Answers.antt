@@ -1,4 +1,4 @@
-use Rattle.std.proofs.Common.{◌≡◌, ◌<◌, All, Some, arith, option_map, slice_get, rules}
+use Rattle.std.proofs.Common.{◌≡◌, ◌<◌, ◌≤◌, All, Some, arith, option_map, slice_get, rules}
 use Rattle.jc_base.specs.World.{code_of}
 use Rattle.jc_control.specs.ControlFlow.{IsControlFlow}
 use Rattle.jc_control.specs.Method.{Method, IsMethodOf, method_in}
@@ -7,7 +7,7 @@ use Rattle.jc_flow.specs.Infer.{AreDerived}
 use Rattle.jc_rules.specs.Typing.{state_at}
 use Rattle.jc_flow.proofs.Answered.{number-below}
 use Rattle.xf_homes.specs.Answer.{IsTypingOf}
-use Rattle.xf_homes.specs.Order.{AreHomes}
+use Rattle.xf_homes.specs.Order.{AreHomes, register_sum}
 use Rattle.jc_control.proofs.OwnMethod.{of-method, to-method}
 use Rattle.xf_homes.proofs.Answered.{flaw-never}
 use Rattle.xf_emission.specs.Emission.{AreSymbolsOf, IsPlainSize}
@@ -42,8 +42,8 @@ rewritten-requires-clause-subject c =
     c.requires.typing in
     is-subject _ mo c.method-rec.ensures.links typed.least.typing.formed (c.instructions_are_listed.ensures code)
 
-pub returns-in-Ok-rewritten : goal.returns-in-Ok-rewritten
-returns-in-Ok-rewritten c =
+pub returns : goal.returns
+returns c =
     let w = c.args.world.now in
     let n = c.args.method in
     let rec = c.method-rec.result.now in
@@ -51,8 +51,8 @@ returns-in-Ok-rewritten c =
     let t = c.args.typing.now in
     let homes = c.args.homes.now in
     let control = c.in-Ok.control in
-    let symbols = c.in-Ok-rewritten.symbols in
-    let e = c.in-Ok-rewritten.ensures in
+    let symbols = c.in_ok-symbols.symbols in
+    let e = c.in_ok-symbols.ensures in
     let m : Method = record { number = n; rec = rec; code = code } in
     let bytes : option_map (code_of w.infos) (slice_get w.methods n) ≡ Some code = cc in
     let own = λ (P : Method → Type 0). of-method w n rec code c.method-rec.ensures.is bytes P in
@@ -66,7 +66,7 @@ returns-in-Ok-rewritten c =
     let listed = c.instructions_are_listed.ensures code in
     let links = c.method-rec.ensures.links in
     let ab = c.are_bytes.ensures in
-    let few = c.are_few.ensures in
+    let few : register_sum homes ≤ 255 = search rules in
     let is : AreSymbolsOf w m (state_at t) homes symbols = record { leaders = control.leaders; marked = flow.leaders; are = e } in
     record {
       symbols = whole (λ m. AreSymbolsOf w m (state_at t) homes symbols) is;

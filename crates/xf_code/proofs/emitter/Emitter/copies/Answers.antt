@@ -8,7 +8,7 @@ use Rattle.xf_code.proofs.emitter.Emitter.copies.Goals as goal
 pub locals-preserved : goal.locals-preserved
 locals-preserved c =
     let inside : c.locals.x < register_count c.args.self.now.plan.walk.rec.now = omega (arith, c.locals-test.true, c.registers-x-end.ensures.is) in
-    locals_on (source c.args.self.now.plan) c.args.from c.args.to c.locals.x _ c.locals.out.items.items _ _ inside c.in_default.ensures c.locals.invariant
+    locals_on (source c.args.self.now.plan) c.args.from c.args.to c.locals.x _ c.locals.out.items.items _ _ inside c.in_ok-local_copies.ensures c.locals.invariant
 
 pub locals-preserved-then-is_still : goal.locals-preserved-then-is_still
 locals-preserved-then-is_still c =

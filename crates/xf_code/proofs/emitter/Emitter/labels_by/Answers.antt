@@ -46,7 +46,7 @@ targets-preserved c =
     ∙ (ap (λ ls. slice_get ls (position_or_len (int_eq t) c.args.ways.now.keys)) c.requires.labels
     ∙ (ap (λ ws. slice_get (way_labels s p op n 0 ws) (position_or_len (int_eq t) ws)) c.requires.ways ∙ target-label s p op n all t there))) in
     let pushed : c.push_label.new.all.items ≡ c.targets.all.items ++ lead s p op n (way_of all t) t ∷ [] =
-    subst (λ o. IfSome o (λ l. c.push_label.new.all.items ≡ c.targets.all.items ++ l ∷ [])) labelled c.in_default.ensures in
+    subst (λ o. IfSome o (λ l. c.push_label.new.all.items ≡ c.targets.all.items ++ l ∷ [])) labelled c.in_ok-push_label.ensures in
     record {
       so_far = goes-on c.targets.all.items (lead s p op n (way_of all t) t ∷ []) _ _ _ c.push_label.new.all.items
           (leads-next s p op n all (rest_of c.targets.target-iterator) (rest_of c.next.new.self) t c.in-Some.ensures.steps) pushed c.targets.invariant.so_far;

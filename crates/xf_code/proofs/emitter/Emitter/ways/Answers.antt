@@ -17,7 +17,7 @@ pub targets-preserved : goal.targets-preserved
 targets-preserved c =
     let t = c.in-Some.target in
     let fits : FitsSigned w32 t = search rules in
-    ap (λ ks. fold with_target ks (rest_of c.next.new.self)) (c.in_default.ensures.keys ∙ ap (with_target c.targets.ways.keys) (to_z-of_z w32 t fits))
+    ap (λ ks. fold with_target ks (rest_of c.next.new.self)) (c.in_ok-insert.ensures.keys ∙ ap (with_target c.targets.ways.keys) (to_z-of_z w32 t fits))
     ∙ ap (fold with_target c.targets.ways.keys) (sym c.in-Some.ensures.steps)
     ∙ c.targets.invariant
 
