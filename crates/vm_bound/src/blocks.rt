@@ -1,5 +1,5 @@
 ghost use Rattle.std.specs.Prelude.{◌≡◌, ◌%◌, ◌≤◌, ◌<◌, IfOk, IfSome, OnOk, length};
-ghost use Rattle.vm_bound.specs.Blocks.{IsOrder, AreBlocks, IsCovered, AddsRun, with_if};
+ghost use Rattle.vm_bound.specs.Blocks.{IsOrder, AreBlocks, AddsRun, with_if};
 ghost use Rattle.vm_bound.specs.Runs.{AreEnds, AreNaming};
 
 use crate::nearest::nearest_class;
@@ -51,7 +51,8 @@ fn asked_blocks(
     Ok(blocks)
 }
 
-/// Adds blocks for the positions from one to before another, where a class stands.
+/// Adds blocks for the positions from one to before another, where a class stands. On each level the first and the last
+/// node are taken that are no halves of one that is inside.
 pub(crate) fn add_run(
     blocks: &mut Vec<Block>,
     count: u16,
@@ -64,24 +65,14 @@ pub(crate) fn add_run(
     requires few { count ≤ 8192 }
     ensures { OnOk result (AddsRun count from to by blocks.old.items blocks.new.items) }
 {
-    match by {
-        None => Ok(()),
-        Some(by) => cover(blocks, count, from, to, by),
-    }
-}
-
-/// The same for a class. On each level the first and the last node are taken that are no halves of one that is inside.
-fn cover(blocks: &mut Vec<Block>, count: u16, from: u16, to: u16, by: u16) -> Result<(), AllocError>
-    requires order { from < to }
-    requires inside { to ≤ count }
-    requires few { count ≤ 8192 }
-    ensures { OnOk result (IsCovered count from to by blocks.old.items blocks.new.items) }
-{
+    let Some(class) = by else {
+        return Ok(());
+    };
     let mut low = count + from;
     let mut high = count + to;
     'levels: while low < high {
-        push_if(blocks, low % 2, low, by)?;
-        push_if(blocks, high % 2, high - 1, by)?;
+        push_if(blocks, low % 2, low, class)?;
+        push_if(blocks, high % 2, high - 1, class)?;
         low = (low + 1) / 2;
         high = high / 2;
     }

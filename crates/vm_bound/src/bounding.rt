@@ -1,7 +1,6 @@
 ghost use Rattle.std.specs.Prelude.{◌≡◌, ◌≤◌, ◌*◌, ◌<◌, ℕ, None, IfOk, IfErr, MatchOption, length};
 ghost use Rattle.card_verify.specs.Answers.{AreAccepted};
 ghost use Rattle.digraph.specs.Way.{IsGreatest, StandsTwiceInWay};
-ghost use Rattle.jc_ops.specs.Sound.{OperationsAreSound};
 ghost use Rattle.law_chains.specs.Calls.{Calls};
 ghost use Rattle.vm_bound.specs.Rows.{IsCallGraph};
 ghost use Rattle.vm_bound.specs.Weights.{measure, most_each};

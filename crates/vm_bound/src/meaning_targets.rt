@@ -137,13 +137,9 @@ fn own_targets(
 ) -> Result<Vec<Vertex>, AllocError>
     ensures { IfOk result (λ targets. IsOwn world.now class token targets.items) }
 {
-    let mut targets = Vec::new(alloc);
     match own(world, class, token) {
-        None => Ok(targets),
-        Some(n) => {
-            targets.push(Vertex::Method(n))?;
-            Ok(targets)
-        }
+        None => Ok(Vec::new(alloc)),
+        Some(n) => Ok(vec![in alloc; Vertex::Method(n)]?),
     }
 }
 
@@ -203,13 +199,9 @@ fn single_targets(
     requires one { length order.now ≤ node }
     ensures { IfOk result (λ targets. AreTargets world.now (LeadsFromSpan world.now order.now node token) targets.items) }
 {
-    let mut targets = Vec::new(alloc);
     match supplied(world, order, node, token) {
-        None => Ok(targets),
-        Some(n) => {
-            targets.push(Vertex::Method(n))?;
-            Ok(targets)
-        }
+        None => Ok(Vec::new(alloc)),
+        Some(n) => Ok(vec![in alloc; Vertex::Method(n)]?),
     }
 }
 

@@ -1,4 +1,4 @@
-ghost use Rattle.std.specs.Prelude.{◌≡◌, ◌<◌, ◌≤◌, ◌^◌, [], All, Contains, Some, IfOk, OnOk, slice_get, length};
+ghost use Rattle.std.specs.Prelude.{◌≡◌, ◌<◌, ◌^◌, [], All, Contains, Some, IfOk, OnOk, slice_get};
 ghost use Rattle.vm_bound.specs.Vertices.{Stands, Extends, IsFitBelow};
 ghost use Rattle.vm_bound.specs.Rows.{AreNumbers};
 

@@ -1,4 +1,4 @@
-ghost use Rattle.std.specs.Prelude.{◌≡◌, ◌≤◌, IfOk, OnOk, length};
+ghost use Rattle.std.specs.Prelude.{◌≤◌, IfOk, OnOk, length};
 ghost use Rattle.vm_bound.specs.Blocks.{IsOrder, IsPlaced};
 
 use digraph::Row;
@@ -54,23 +54,13 @@ fn in_depth(
     let mut order = Vec::new(alloc);
     let mut waiting = vec![in alloc; u32::from(world.role(0))]?;
     for _ in 0..world.class_count() {
-        match waiting.pop() {
-            None => break,
-            Some(class) => {
-                order.push(class)?;
-                wait_for(&mut waiting, subclasses, class)?;
-            }
+        let Some(class) = waiting.pop() else {
+            break;
+        };
+        order.push(class)?;
+        if let Some(row) = subclasses.get(class as usize) {
+            waiting.extend_from_slice(row.as_slice())?;
         }
     }
     Ok(order)
-}
-
-/// The direct subclasses of a class wait.
-fn wait_for(waiting: &mut Vec<u32>, subclasses: &Vec<Row>, class: u32) -> Result<(), AllocError> {
-    if let Some(row) = subclasses.get(class as usize) {
-        for below in row.as_slice() {
-            waiting.push(*below)?;
-        }
-    }
-    Ok(())
 }

@@ -39,30 +39,17 @@ pub(crate) fn spread_over(
 {
     let _facts = world.classes();
     let order = class_order(alloc, world, subclasses)?;
-    let blocks = all_blocks(alloc, world, order.as_slice())?;
+    let line = order.as_slice();
+    let ends = all_ends(alloc, world, line)?;
+    let naming = all_naming(alloc, world, line)?;
+    let blocks = blocks_with(alloc, world, line, &ends, &naming)?;
     Ok(Spread {
         order: Items::of(order),
         blocks: Items::of(blocks),
     })
 }
 
-/// By number the blocks of an interface, and none of a class.
-fn all_blocks(
-    alloc: Global,
-    world: &World<'_>,
-    order: &[u16],
-) -> Result<Vec<Items<Block>>, AllocError>
-    requires order { IsOrder world.now.classes order.now }
-    requires few { length order.now ≤ 8192 }
-    ensures blocks { IfOk result (λ all. AreAllBlocks world.now.classes order.now all.items) }
-    ensures count { IfOk result (λ all. length all.items ≡ length world.now.classes.records) }
-{
-    let ends = all_ends(alloc, world, order)?;
-    let naming = all_naming(alloc, world, order)?;
-    blocks_with(alloc, world, order, &ends, &naming)
-}
-
-/// The same with the ends, and with the positions that name each interface.
+/// By number the blocks of an interface, and none of a class, with the ends, and with the positions that name each interface.
 fn blocks_with(
     alloc: Global,
     world: &World<'_>,
