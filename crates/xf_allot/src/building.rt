@@ -1,7 +1,6 @@
 ghost use Rattle.std.specs.Prelude.{◌<◌, IfOk, OnOk};
 ghost use Rattle.jc_control.specs.Flags.{Marks};
 ghost use Rattle.jc_control.specs.Listing.{IsListingOf};
-ghost use Rattle.jc_control.specs.WellFormed.{HasInstruction};
 ghost use Rattle.jc_control.specs.Subject.{method, world_of};
 ghost use Rattle.xf_allot.specs.Building.{HasPlace, IsAwaited};
 ghost use Rattle.xf_allot.specs.Graph.{IsBound, IsGraphOf, IsGraphTo};
@@ -67,27 +66,17 @@ impl Building {
         if !listing.has(u32::from(place)) {
             return Ok(());
         }
-        match listing.insn(subject.code, place) {
-            Ok(insn) => self.add_placed(subject, Placed { place, insn }),
-            Err(_) => Ok(()),
-        }
-    }
-
-    // What the node of an instruction has.
-    fn add_placed(&mut self, subject: &Subject<'_>, placed: Placed) -> Result<(), AllocError>
-        requires subject { IsSubject subject.now }
-        requires stands { HasInstruction subject.now.code.bytes.now placed }
-        requires awaited { IsAwaited placed.place self.old }
-        ensures { OnOk result (HasPlace (world_of subject.now) (method subject.now) placed.place self.old self.new) }
-    {
+        let Ok(insn) = listing.insn(subject.code, place) else {
+            return Ok(());
+        };
         let site = Site {
             method: subject.number,
-            place: placed.place,
+            place,
         };
-        match resolve(subject.world, site, placed.insn) {
+        match resolve(subject.world, site, insn) {
             Ok(operation) => {
-                self.uses[usize::from(placed.place)] = uses_of(subject.world, operation);
-                leave(&mut self.edges, subject, placed)
+                self.uses[usize::from(place)] = uses_of(subject.world, operation);
+                leave(&mut self.edges, subject, Placed { place, insn })
             }
             Err(_) => Ok(()),
         }
