@@ -2,7 +2,6 @@ ghost use Rattle.std.specs.Prelude.{◌≡◌, ◌<◌, ◌↔◌, if◌then◌e
 ghost use Rattle.jc_base.specs.Class.{is_interface};
 ghost use Rattle.jc_base.specs.Interface.{is_or_extends, implements};
 ghost use Rattle.vm_step.specs.Instance.{IsSubtype, IsInstance, IsRecorded, IsNamed, is_object, is_subtype, is_instance};
-ghost use Rattle.vm_step.specs.Searched.{AreLeft};
 
 use crate::searching::{extends, implements};
 use jc_base::{Ty, World, below, interfaces_decide};
@@ -61,19 +60,12 @@ fn implements_or_extends(world: &World<'_>, of: u16, above: u16) -> bool
         then is_or_extends world.now.classes of above
         else implements world.now.classes of above) }
 {
-    let mut searched = none_searched(world, above);
+    let mut searched = [false; CLASSES];
     if world.classes().is_interface(of) {
         extends(world, of, above, &mut searched)
     } else {
         implements(world, of, above, &mut searched)
     }
-}
-
-/// Before a search nothing was searched.
-fn none_searched(_world: &World<'_>, _sought: u16) -> [bool; CLASSES]
-    ensures { AreLeft _world.now.classes _sought result }
-{
-    [false; CLASSES]
 }
 
 /// Whether a type is that of every object and array.
