@@ -31,17 +31,11 @@ pub fn push_object_value<S: Store>(store: &mut S, handle: u16, at: u16, kind: Ki
     ensures well { S.well store.new }
     ensures fixed { S.fixed store.new ≡ S.fixed store.old }
 {
-    match kind {
-        Kind::Int => {
-            let high = store.object_cell(handle, at as usize);
-            let low = store.object_cell(handle, at as usize + 1);
-            store.push(high);
-            store.push(low);
-        }
-        _ => {
-            let cell = store.object_cell(handle, at as usize);
-            store.push(cell);
-        }
+    let cell = store.object_cell(handle, at as usize);
+    store.push(cell);
+    if let Kind::Int = kind {
+        let low = store.object_cell(handle, at as usize + 1);
+        store.push(low);
     }
 }
 
@@ -97,17 +91,11 @@ pub fn push_static_value<S: Store>(store: &mut S, slot: u16, kind: Kind)
     ensures well { S.well store.new }
     ensures fixed { S.fixed store.new ≡ S.fixed store.old }
 {
-    match kind {
-        Kind::Int => {
-            let high = store.static_cell(slot as usize);
-            let low = store.static_cell(slot as usize + 1);
-            store.push(high);
-            store.push(low);
-        }
-        _ => {
-            let cell = store.static_cell(slot as usize);
-            store.push(cell);
-        }
+    let cell = store.static_cell(slot as usize);
+    store.push(cell);
+    if let Kind::Int = kind {
+        let low = store.static_cell(slot as usize + 1);
+        store.push(low);
     }
 }
 
