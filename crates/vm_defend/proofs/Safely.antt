@@ -1,11 +1,14 @@
 -- A run in a world whose methods with code have dataflow typings.
 use Rattle.std.proofs.Common.{arith}
-use Rattle.std.proofs.Common.{◌≡◌, ℕ, List, Option, sym, subst}
+use Rattle.std.proofs.Common.{◌≡◌, ℕ, List, Option, Some, None, refl, sym, subst}
+use Rattle.std.specs.Prelude.{unwrap_or}
 use Rattle.jc_base.specs.World.{Linked}
 use Rattle.vm_store.specs.declared.cell.Cell.{Cell}
 use Rattle.vm_store.specs.Cells.{tagged}
 use Rattle.vm_store.specs.State.{State}
 use Rattle.vm_step.specs.declared.ending.Ending.{Ending}
+use Rattle.vm_step.specs.declared.ending.Ending.TheVariants.{Plain}
+use Rattle.vm_step.specs.declared.ending.Plain.TheVariants.{Spent}
 use Rattle.vm_step.specs.Arguments.{Argument}
 use Rattle.vm_step.specs.Run.{Continues}
 use Rattle.vm_run.specs.Turn.{with_ending}
@@ -31,3 +34,7 @@ module _ (w : Linked) where
   begins-safely law entry args run begun typings typed =
       subst (λ (e : Option Ending). IsTypedOutcome w typings (with_ending e run.state)) (sym begun.goes_on)
       (law typings entry args run.state typed (record { begins = begun.begins; state = begun.state }))
+
+pub spent_or : (ending : Option Ending) → unwrap_or ending (Plain Spent) ≡ answer ending
+spent_or None = refl
+spent_or (Some ending) = refl

@@ -61,25 +61,19 @@ pub(crate) fn numbers_of(store: &TaggedStore, handle: u16) -> Option<Ty>
 pub(crate) fn length_of(store: &TaggedStore, handle: u16) -> Option<u16>
     ensures { result ≡ array_length store.now handle }
 {
-    match numbers_of(store, handle) {
-        Some(_) => Some(store.element_count(handle)),
-        None => None,
-    }
+    let _numbers = numbers_of(store, handle)?;
+    Some(store.element_count(handle))
 }
 
 /// The number in an element of the array of a handle, where it is one of numbers and has the element.
 pub(crate) fn number_at(store: &TaggedStore, handle: u16, element: u16) -> Option<i32>
     ensures { result ≡ array_value tagged store.now handle element }
 {
-    match numbers_of(store, handle) {
-        None => None,
-        Some(ty) => {
-            if element < store.element_count(handle) {
-                Some(element_in(store, handle, ty, element))
-            } else {
-                None
-            }
-        }
+    let ty = numbers_of(store, handle)?;
+    if element < store.element_count(handle) {
+        Some(element_in(store, handle, ty, element))
+    } else {
+        None
     }
 }
 

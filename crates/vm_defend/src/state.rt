@@ -43,6 +43,7 @@ impl State {
     }
 
     /// Takes at most so many steps.
+    #[tactic(auto, using(crate::proofs::Safely::spent_or))]
     pub(crate) fn go_on(&mut self, world: &World<'_>, budget: u64) -> Ending
         requires { IsRunOf world.now self.old }
         ensures answer { result ≡ answer self.new.ending }
@@ -54,7 +55,7 @@ impl State {
             None => {
                 let known = Known::Marked(&self.places);
                 self.ending = vm_run::run(&mut self.store, world, known, budget);
-                ending_or_spent(self.ending)
+                self.ending.unwrap_or(Ending::Plain(Plain::Spent))
             }
         }
     }
@@ -96,15 +97,5 @@ impl State {
         ensures { result ≡ array_value tagged self.now.state handle element }
     {
         number_at(&self.store, handle, element)
-    }
-}
-
-/// The ending, and `Spent` where there is none.
-fn ending_or_spent(ending: Option<Ending>) -> Ending
-    ensures { result ≡ answer ending }
-{
-    match ending {
-        Some(ending) => ending,
-        None => Ending::Plain(Plain::Spent),
     }
 }
