@@ -100,7 +100,7 @@ impl Machine {
         let ending = storing::run(&mut store, world, budget);
         self.counts = store.counts();
         self.ending = plain(ending);
-        spent_or(self.ending)
+        self.ending.unwrap_or(Plain::Spent)
     }
 
     /// The value of a static field, by its number in the world.
@@ -176,15 +176,5 @@ fn plain(ending: Option<Ending>) -> Option<Plain>
         None => None,
         Some(Ending::Plain(plain)) => Some(plain),
         Some(Ending::Faulted(_)) => unreachable!(),
-    }
-}
-
-/// The ending, and `Spent` where there is none.
-fn spent_or(ending: Option<Plain>) -> Plain
-    ensures { result ≡ unwrap_or ending Spent }
-{
-    match ending {
-        Some(plain) => plain,
-        None => Plain::Spent,
     }
 }

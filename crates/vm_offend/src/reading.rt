@@ -44,10 +44,8 @@ pub(crate) fn length_of(heap: &[u16], counts: Counts, handle: u16) -> Option<u16
     requires { AreObjectsLaid heap.now counts }
     ensures { result ≡ array_length (objects_state heap.now counts) handle }
 {
-    match numbers_of(heap, counts, handle) {
-        Some(_) => Some(object_elements(heap, counts, handle)),
-        None => None,
-    }
+    let _numbers = numbers_of(heap, counts, handle)?;
+    Some(object_elements(heap, counts, handle))
 }
 
 /// The number in an element of the array of a handle, where it is one of numbers and has the element.
@@ -55,15 +53,11 @@ pub(crate) fn number_at(heap: &[u16], counts: Counts, handle: u16, element: u16)
     requires { AreObjectsLaid heap.now counts }
     ensures { result ≡ array_value words (objects_state heap.now counts) handle element }
 {
-    match numbers_of(heap, counts, handle) {
-        None => None,
-        Some(ty) => {
-            if element < object_elements(heap, counts, handle) {
-                Some(element_in(heap, counts, handle, ty, element))
-            } else {
-                None
-            }
-        }
+    let ty = numbers_of(heap, counts, handle)?;
+    if element < object_elements(heap, counts, handle) {
+        Some(element_in(heap, counts, handle, ty, element))
+    } else {
+        None
     }
 }
 

@@ -17,7 +17,7 @@ use Rattle.vm_offend.specs.Held.{IsOutcomeOfRun, AreWordsOf, IsRunOf, Follows}
 use Rattle.vm_offend.proofs.Moved.{moved}
 use Rattle.vm_offend.proofs.Ran.{Ran, can-run, run-keeps, run-plain, follows-each, run-after}
 use Rattle.vm_offend.proofs.machine.Machine.go_on.Goals as goal
-use Rattle.vm_offend.proofs.machine.Machine.go_on.Goals.{After-spent_or}
+use Rattle.vm_offend.proofs.machine.Machine.go_on.Goals.{After-unwrap_or}
 
 pub run-ending-requires-clause-running : goal.run-ending-requires-clause-running
 run-ending-requires-clause-running c =
@@ -41,9 +41,9 @@ plain-self-requires c =
     c.args.self.now c.args.ram.now c.args.heap.now c.args.statics.now c.requires.going c.requires.run c.args.budget _ _ c.run-ending.result
     c.over-store.ensures.state c.run-ending.ensures.runs
 
-ran : (c : After-spent_or) → Ran c.args.world.now c.args.self.now c.args.ram.now c.args.heap.now c.args.statics.now c.args.budget
+ran : (c : After-unwrap_or) → Ran c.args.world.now c.args.self.now c.args.ram.now c.args.heap.now c.args.statics.now c.args.budget
     (record { counts = c.counts-self.result; ending = c.plain-self.result }) c.run-ending.new.store.ram.now c.run-ending.new.store.heap.now
-    c.run-ending.new.store.statics.now c.spent_or.result
+    c.run-ending.new.store.statics.now c.unwrap_or.result
 ran c =
     let w = c.args.world.now in
     let z = c.run-ending.new.store in
@@ -62,7 +62,7 @@ ran c =
       laid = subst (λ (n : Counts). AreLaid w z.ram.now z.heap.now n) (sym c.counts-self.ensures)
           (subst (λ (v : Linked). AreLaid v z.ram.now z.heap.now z.counts) c.run-ending.ensures.world c.run-ending.ensures.well);
       kept = c.plain-self.ensures;
-      answer_is = c.spent_or.ensures;
+      answer_is = c.unwrap_or.ensures;
     }
 
 pub returns-clause-follows : goal.returns-clause-follows
@@ -71,11 +71,11 @@ returns-clause-follows c =
     let z = c.run-ending.new.store in
     let m : Machine = record { counts = c.counts-self.result; ending = c.plain-self.result } in
     moved (λ (x y u : List ℕ). (o : Outcome Cell) → IsOutcomeOfRun w o → AreWordsOf w c.args.self.now c.args.ram.now c.args.heap.now c.args.statics.now o
-    → Follows w c.args.budget o m x y u c.spent_or.result) _ _ _ z.ram.now z.heap.now z.statics.now (search rules) (search rules) (search rules)
+    → Follows w c.args.budget o m x y u c.unwrap_or.result) _ _ _ z.ram.now z.heap.now z.statics.now (search rules) (search rules) (search rules)
     (follows-each w (accepted-has w c.typed_code_never_fails.ensures.typings c.requires.accepted) c.typed_code_never_fails.ensures.starts
     c.typed_code_never_fails.ensures.runs c.words_run_alike.ensures.runs_follow
-    c.args.self.now c.args.ram.now c.args.heap.now c.args.statics.now c.args.budget m z.ram.now z.heap.now z.statics.now c.spent_or.result
-    (ran (goal.at.returns-clause-follows c).After-spent_or))
+    c.args.self.now c.args.ram.now c.args.heap.now c.args.statics.now c.args.budget m z.ram.now z.heap.now z.statics.now c.unwrap_or.result
+    (ran (goal.at.returns-clause-follows c).After-unwrap_or))
 
 pub returns-clause-run : goal.returns-clause-run
 returns-clause-run c =
@@ -85,6 +85,6 @@ returns-clause-run c =
     moved (IsRunOf w m) _ _ _ z.ram.now z.heap.now z.statics.now (search rules) (search rules) (search rules)
     (run-after w (accepted-has w c.typed_code_never_fails.ensures.typings c.requires.accepted) c.typed_code_never_fails.ensures.starts
     c.typed_code_never_fails.ensures.runs c.words_run_alike.ensures.runs_follow
-    c.args.self.now c.args.ram.now c.args.heap.now c.args.statics.now c.args.budget m z.ram.now z.heap.now z.statics.now c.spent_or.result
-    (ran (goal.at.returns-clause-run c).After-spent_or)
+    c.args.self.now c.args.ram.now c.args.heap.now c.args.statics.now c.args.budget m z.ram.now z.heap.now z.statics.now c.unwrap_or.result
+    (ran (goal.at.returns-clause-run c).After-unwrap_or)
     c.runs_are_runs_of_steps.ensures.tagged_on c.requires.run)
