@@ -61,17 +61,12 @@ pub fn write_array<S: Store>(store: &S, world: &World<'_>, kind: Kind) -> Result
         return Err(Exception::NullPointer);
     }
     match element_at(store, handle, short_on(store, size)) {
-        Some(element) => {
-            if keeps(store, world, kind, handle) {
-                Ok(Put::Element {
-                    handle,
-                    element,
-                    kind,
-                })
-            } else {
-                Err(Exception::ArrayStore)
-            }
-        }
+        Some(element) if keeps(store, world, kind, handle) => Ok(Put::Element {
+            handle,
+            element,
+            kind,
+        }),
+        Some(_) => Err(Exception::ArrayStore),
         None => Err(Exception::ArrayIndex),
     }
 }
@@ -119,11 +114,7 @@ fn element_at<S: Store>(store: &S, handle: u16, index: i16) -> Option<u16>
         return None;
     }
     let element = index.unsigned_abs();
-    if element < elements_of(store, handle) {
-        Some(element)
-    } else {
-        None
-    }
+    (element < elements_of(store, handle)).then_some(element)
 }
 
 /// Whether the array may keep the value on top.

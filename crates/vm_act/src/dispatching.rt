@@ -1,11 +1,11 @@
-ghost use Rattle.std.specs.Prelude.{◌≡◌, ◌<◌, length, slice_get, IfSome};
+ghost use Rattle.std.specs.Prelude.{◌≡◌, ◌<◌, length, IfSome};
 ghost use Rattle.jc_base.specs.Class.{IsClass};
 ghost use Rattle.jc_base.specs.Dispatch.{package_of, dispatched, nearest_of, visible_in};
 
 use jc_base::World;
 
 /// The method that an object of class `of` runs for a token of a class, which is package-visible from 128 on.
-#[tactic(auto, unfolding(jc_base::specs::Dispatch::dispatched, jc_base::specs::Dispatch::package_of))]
+#[tactic(auto, unfolding(jc_base::specs::Dispatch::dispatched, jc_base::specs::Dispatch::package_of, jc_base::specs::Dispatch::visible_in))]
 pub fn dispatched(world: &World<'_>, class: u16, token: u8, of: u16) -> Option<u16>
     requires class { class < length world.now.classes.records }
     requires of { IsClass world.now.classes of }
@@ -14,19 +14,8 @@ pub fn dispatched(world: &World<'_>, class: u16, token: u8, of: u16) -> Option<u
     if token < 128 {
         world.classes().public_entry(of, token)
     } else {
-        visible(world, world.class(class).package, of, token - 128)
-    }
-}
-
-/// The package-visible entry that an object runs for the methods of a package.
-#[tactic(auto, unfolding(jc_base::specs::Dispatch::visible_in))]
-fn visible(world: &World<'_>, home: u16, of: u16, n: u8) -> Option<u16>
-    requires { IsClass world.now.classes of }
-    ensures { result ≡ slice_get (visible_in world.now.classes home of) n }
-{
-    match nearest_of(world, home, of) {
-        Some(nearest) => world.classes().visible_entry(nearest, n),
-        None => None,
+        let nearest = nearest_of(world, world.class(class).package, of)?;
+        world.classes().visible_entry(nearest, token - 128)
     }
 }
 

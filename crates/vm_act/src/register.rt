@@ -1,6 +1,6 @@
 ghost use Rattle.std.specs.Prelude.{◌≡◌, ◌+◌, ◌<◌, ◌≤◌, length};
 ghost use Rattle.vm_store.specs.State.{IsRunning, top};
-ghost use Rattle.vm_step.specs.Numbers.{number_width, short_at, int_in};
+ghost use Rattle.vm_step.specs.Numbers.{number_width, int_in};
 ghost use Rattle.vm_step.specs.Values.{with_load, with_store, with_increment};
 ghost use Rattle.vm_act.specs.Widths.{sort_width};
 
@@ -76,7 +76,8 @@ pub fn increment<S: Store>(store: &mut S, width: Width, register: u8, amount: i3
     let register = u16::from(register);
     match width {
         Width::Short => {
-            let number = short_in(store, register).wrapping_add(int_to_short(amount));
+            let number = short_of_word(store.register(register).word());
+            let number = number.wrapping_add(int_to_short(amount));
             store.set_register(register, S::Cell::short(number));
         }
         Width::Int => {
@@ -85,15 +86,6 @@ pub fn increment<S: Store>(store: &mut S, width: Width, register: u8, amount: i3
             store.set_register(register + 1, S::Cell::low(low_word(number)));
         }
     }
-}
-
-fn short_in<S: Store>(store: &S, register: u16) -> i16
-    requires well { S.well store.now }
-    requires running { IsRunning (S.state store.now) }
-    requires there { register < length (top (S.state store.now)).registers }
-    ensures { result ≡ short_at S.Cell.cells (top (S.state store.now)).registers register }
-{
-    short_of_word(store.register(register).word())
 }
 
 /// The int in a register and the next.

@@ -10,13 +10,9 @@ pub fn served(world: &World<'_>, interface: u16, token: u8, class: u16) -> Optio
     requires { IsClass world.now.classes class }
     ensures { result ≡ served world.now.classes interface token class }
 {
-    match serving(world, interface, class) {
-        Some(entry) => match entry.tokens.as_slice().get(token as usize) {
-            Some(public) => world.classes().public_entry(class, *public),
-            None => None,
-        },
-        None => None,
-    }
+    let entry = serving(world, interface, class)?;
+    let public = entry.tokens.as_slice().get(token as usize)?;
+    world.classes().public_entry(class, *public)
 }
 
 /// The nearest entry for an interface among those of a class and its superclasses.
