@@ -21,7 +21,7 @@ use Rattle.cap_load.specs.Taking.{content_fault, or_full, fault_by}
 use Rattle.cap_load.proofs.Splits.{IsTail, files_split}
 use Rattle.cap_load.proofs.Faults.{one_content, one_before}
 use Rattle.cap_load.proofs.Readings.{tags_push}
-use Rattle.cap_load.proofs.Fronts.{goes_on, IsIdle, not_goes_on, not_ended, goes_not_ended, has_ended}
+use Rattle.cap_load.proofs.Fronts.{IsIdle, not_goes_on, not_ended, goes_not_ended, has_ended}
 
 -- what is found is shown, and nothing of a lesser number is
 pub record Finds (room : ℕ) (bytes : List ℕ) (byte : ℕ) (found : Option StreamFault) : Type 0 where

@@ -1,13 +1,11 @@
-ghost use Rattle.std.specs.Prelude.{◌≡◌, ◌<◌, ◌≤◌, ℕ, List, [], ◌∷◌, ◌++◌, ◌-◌, ◌+◌, ◌*◌, slice_index, length, Ok, Err, Some, None, IfOk};
-ghost use Rattle.cap_load.specs.declared.block.Block.TheVariants.{Left};
+ghost use Rattle.std.specs.Prelude.{◌≡◌, ◌≤◌, ℕ, List, [], ◌++◌, ◌+◌, ◌*◌, slice_index, length, Ok, Err, Some, None, IfOk};
 ghost use Rattle.cap_components.specs.Parts.{Lent};
 ghost use Rattle.cap_load.specs.declared.fault.StreamFault.{StreamFault};
 ghost use Rattle.cap_load.specs.declared.finish_end.FinishEnd.TheVariants.{Fault};
 ghost use Rattle.cap_load.specs.LoadFile.{AreFiles, IsLoadFileWithin};
-ghost use Rattle.cap_load.specs.Loaded.{StandsFor, IsRead, told};
+ghost use Rattle.cap_load.specs.Loaded.{StandsFor, told};
 ghost use Rattle.cap_load.specs.Finishing.{Finishes, Gives, AreWhole};
-ghost use Rattle.cap_load.specs.Reading.{read_byte};
-ghost use Rattle.cap_load.specs.Taking.{taken, content_fault, fault_by, opened, moved_by};
+ghost use Rattle.cap_load.specs.Taking.{taken, content_fault, fault_by, moved_by};
 
 use crate::block::Block;
 use crate::component::{Next, Reading};
@@ -84,32 +82,6 @@ impl Loader {
         }
     }
 
-    // Takes a length or the ending.
-    fn open(&mut self, byte: u8)
-        ensures { self.new ≡ record self.old { block = opened byte } }
-    {
-        self.block = if byte == 0 {
-            Block::Ended
-        } else {
-            Block::Left(byte)
-        };
-    }
-
-    // Takes a byte of a block of which so many are left.
-    fn put(&mut self, byte: u8, left: u8)
-        requires some { 0 < left }
-        requires fits { content_fault self.old byte ≡ None }
-        ensures { self.new ≡ record self.old {
-          contents = self.old.contents ++ byte ∷ [];
-          block = Left (left - 1);
-          reading = read_byte self.old.reading byte;
-        } }
-    {
-        self.contents.push_reserved(byte);
-        self.reading = self.reading.after(byte);
-        self.block = Block::Left(left - 1);
-    }
-
     // Takes a byte that shows no fault.
     fn go_on(&mut self, byte: u8)
         requires { fault_by self.old.block self.old byte ≡ None }
@@ -117,17 +89,14 @@ impl Loader {
     {
         match self.block {
             Block::Ended => {}
-            Block::Left(0) => self.open(byte),
-            Block::Left(left) => self.put(byte, left),
+            Block::Left(0) if byte == 0 => self.block = Block::Ended,
+            Block::Left(0) => self.block = Block::Left(byte),
+            Block::Left(left) => {
+                self.contents.push_reserved(byte);
+                self.reading = self.reading.after(byte);
+                self.block = Block::Left(left - 1);
+            }
         }
-    }
-
-    // What holds of every loader.
-    fn facts(&self)
-        ensures read { IsRead self.now.contents self.now.reading }
-        ensures few { length self.now.contents ≤ self.now.room }
-    {
-        let _room = self.room;
     }
 
     // Takes a byte, and answers the fault that came, now or before.
@@ -159,7 +128,7 @@ impl Loader {
             return Err(fault);
         }
         'bytes: for byte in piece {
-            self.facts();
+            let _room = self.room;
             if let Some(fault) = self.take(*byte) {
                 return Err(fault);
             }
@@ -181,17 +150,6 @@ impl Loader {
         }
     }
 
-    // The parts, or the fault.
-    fn parts(&self, alloc: Global) -> Result<Parts<'_>, FinishEnd>
-        ensures finishes { Finishes self.now result }
-        ensures again { (fault : StreamFault) → self.now.fault ≡ Some fault → result ≡ Err (Fault fault) }
-    {
-        match self.fault {
-            Some(fault) => Err(FinishEnd::Fault(fault)),
-            None => self.end(alloc),
-        }
-    }
-
     /// The parts of which the bytes are a Load file, lent by the loader; or why they are none.
     pub fn finish(&self, alloc: Global) -> Result<Parts<'_>, FinishEnd>
         ensures finishes { Finishes self.now result }
@@ -199,7 +157,10 @@ impl Loader {
             → StandsFor self.now bytes → IsLoadFileWithin self.now.room bytes parts → Gives parts result }
         ensures again { (fault : StreamFault) → self.now.fault ≡ Some fault → result ≡ Err (Fault fault) }
     {
-        self.parts(alloc)
+        match self.fault {
+            Some(fault) => Err(FinishEnd::Fault(fault)),
+            None => self.end(alloc),
+        }
     }
 }
 

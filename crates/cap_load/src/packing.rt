@@ -1,8 +1,8 @@
-ghost use Rattle.std.specs.Prelude.{◌≡◌, ◌≤◌, ◌<◌, ◌^◌, ◌++◌, length, IfOk, IfErr, OnOk};
+ghost use Rattle.std.specs.Prelude.{◌≡◌, ◌≤◌, ◌++◌, length, IfOk, IfErr, OnOk};
 ghost use Rattle.std.specs.List.{AllByRecursion, flat_map};
 ghost use Rattle.cap_load.specs.LoadFile.{block, IsBlock};
 ghost use Rattle.cap_load.specs.Packing.{IsFramed, IsPacked, IsTooLong};
-ghost use Rattle.cap_load.specs.Joining.{counted_from, in_order, file_in, ending, IsCut};
+ghost use Rattle.cap_load.specs.Joining.{in_order, file_in, ending, IsCut};
 
 use crate::blocks_end::BlocksEnd;
 use crate::order::COMPONENTS;
@@ -33,24 +33,15 @@ fn append_all(contents: &mut Vec<u8>, parts: &Parts<'_>, tags: &[u8]) -> Result<
     Ok(())
 }
 
-/// Appends the files of the custom components.
-fn append_customs(contents: &mut Vec<u8>, parts: &Parts<'_>) -> Result<(), AllocError>
-    ensures { OnOk result (contents.new.items ≡ contents.old.items ++ flat_map (file_in parts.now) (counted_from 128 128)) }
-{
-    'tags: for tag in 128..256u16 {
-        append(contents, parts, tag as u8)?;
-    }
-    Ok(())
-}
-
 /// The files of the components, one after another, in order.
-#[tactic(auto, using(crate::proofs::Choosing::joined_order))]
 fn joined(alloc: Global, parts: &Parts<'_>) -> Result<Vec<u8>, AllocError>
     ensures { IfOk result (λ contents. contents.items ≡ flat_map (file_in parts.now) in_order) }
 {
     let mut contents = Vec::new(alloc);
     append_all(&mut contents, parts, &COMPONENTS)?;
-    append_customs(&mut contents, parts)?;
+    'customs: for tag in 128..256u16 {
+        append(&mut contents, parts, tag as u8)?;
+    }
     Ok(contents)
 }
 
@@ -90,25 +81,16 @@ fn cut(alloc: Global, contents: &[u8]) -> Result<Vec<u8>, AllocError>
     Ok(stream)
 }
 
-/// The Load file, however long it is.
-fn pack(alloc: Global, parts: &Parts<'_>) -> Result<Vec<u8>, AllocError>
-    requires { AllByRecursion IsFramed parts.now }
-    ensures { IfOk result (λ stream. IsPacked parts.now stream.items × (length stream.items < 2 ^ 32)) }
-{
-    let contents = joined(alloc, parts)?;
-    let bytes = contents.as_slice();
-    are_bytes(bytes);
-    let stream = cut(alloc, bytes)?;
-    Ok(stream)
-}
-
 /// The Load file of the components among the parts: those of the standard but Debug, and the custom ones.
 pub fn blocks(alloc: Global, parts: &Parts<'_>) -> Result<Vec<u8>, BlocksEnd>
     requires { AllByRecursion IsFramed parts.now }
     ensures packed { IfOk result (λ stream. IsPacked parts.now stream.items × (length stream.items ≤ 65538)) }
     ensures long { IfErr result (λ end. IsTooLong parts.now end) }
 {
-    let stream = pack(alloc, parts)?;
+    let contents = joined(alloc, parts)?;
+    let bytes = contents.as_slice();
+    are_bytes(bytes);
+    let stream = cut(alloc, bytes)?;
     if stream.len() > MOST_BYTES {
         return Err(BlocksEnd::LoadLong(stream.len() as u32));
     }
