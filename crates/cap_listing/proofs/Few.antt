@@ -5,7 +5,6 @@ use Rattle.std.specs.Prelude.{slice_get, Some, None}
 use Rattle.std.proofs.lemmas.List.{drop_all, append-nil}
 use Rattle.jc_decode.specs.declared.layout.Cases.{Cases}
 use Rattle.jc_decode.specs.declared.insn.Case.{Case}
-use Rattle.std.proofs.Common.{[]}
 use Rattle.std.proofs.Common.{arith}
 use Rattle.jc_decode.proofs.Elements.{drop-here, drop-past}
 use Rattle.cap_listing.specs.Numbers.{shown, shown_case, shown_cases}

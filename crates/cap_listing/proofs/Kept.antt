@@ -1,6 +1,5 @@
 -- An operand's number is kept where the operand may have it.
 use Rattle.std.proofs.Common.{◌≡◌, List, ◌++◌}
-use Rattle.std.proofs.Common.{[]}
 use Rattle.std.proofs.Common.{arith}
 use Rattle.std.specs.Prelude.{ℤ}
 use Rattle.std.proofs.lemmas.Bool.{le-leb}

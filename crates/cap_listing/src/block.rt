@@ -63,18 +63,11 @@ fn push_operand(operand: Operand, number: i32, out: &mut Vec<u8>) -> Result<(), 
     Ok(())
 }
 
-/// The distance from a place to a target.
-fn distance(place: u16, target: i32) -> i64
-    ensures { result ≡ target -ℤ pos place }
-{
-    i64::from(target) - i64::from(place)
-}
-
 /// Appends the offset of a target.
 fn push_target(place: u16, target: i32, out: &mut Vec<u8>) -> Result<(), AllocError>
     ensures { OnOk result (out.new.items ≡ out.old.items ++ kept_bytes S2 (target -ℤ pos place)) }
 {
-    push_kept(Operand::S2, distance(place, target), out)?;
+    push_kept(Operand::S2, read_first(true, place, target), out)?;
     Ok(())
 }
 

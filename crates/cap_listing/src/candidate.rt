@@ -1,14 +1,12 @@
-ghost use Rattle.std.specs.Prelude.{◌≡◌, ◌≤◌, ◌<◌, ◌+◌, ◌-◌, ◌^◌, ◌∷◌, ◌++◌, [], ℕ, ℤ, List, map, decimal, FitsSigned, IfOk, OnOk};
-ghost use Rattle.std.specs.Int.{w32};
+ghost use Rattle.std.specs.Prelude.{◌≡◌, ◌≤◌, ◌∷◌, ◌++◌, ℕ, ℤ, List, map, decimal, IfOk};
 ghost use Rattle.std.specs.Fmt.{signed_decimal};
 ghost use Rattle.jc_decode.specs.declared.insn.Insn.{Insn};
 ghost use Rattle.jc_decode.specs.declared.symbols.LaidHandler.{LaidHandler};
-ghost use Rattle.jc_decode.specs.Names.{HasName};
 ghost use Rattle.cap_bytes.specs.Bytes.{AreBytes};
 ghost use Rattle.cap_listing.specs.declared.method.ListedMethod.{ListedMethod};
 ghost use Rattle.hex.specs.Hex.{encode_lower};
 ghost use Rattle.cap_listing.specs.Words.{IsPlain, joined};
-ghost use Rattle.cap_listing.specs.Numbers.{AreShown, block_of};
+ghost use Rattle.cap_listing.specs.Numbers.{AreShown};
 ghost use Rattle.cap_listing.specs.Text.{IsMethod, IsHeading, IsHandler, head_words, heading_of, handler_words, bytes_words};
 ghost use Rattle.cap_listing.specs.Reading.{IsOne, block_words};
 
@@ -61,14 +59,6 @@ pub(crate) fn heading_in(line: &[u8]) -> Heading
     }
 }
 
-/// How many bytes a range has from its start to its end; 0 where it ends before.
-fn range_length(start: u16, end: u16) -> u16
-    ensures value { result ≡ end - start }
-    ensures fits { start + result < 2 ^ 16 }
-{
-    if end < start { 0 } else { end - start }
-}
-
 /// The handler whose line this is, and any other where it is none.
 pub(crate) fn handler_in(line: &[u8]) -> LaidHandler
     ensures fits { IsHandler result }
@@ -79,7 +69,7 @@ pub(crate) fn handler_in(line: &[u8]) -> LaidHandler
     let (entry, after_entry) = cut_word(after_end);
     let (pool, _) = cut_word(after_entry);
     let start = count(start);
-    let length = range_length(start, count(end));
+    let length = count(end).saturating_sub(start);
     let entry = count(entry);
     let pool = count(pool);
     LaidHandler {
@@ -114,15 +104,6 @@ pub(crate) fn bytes_in(alloc: Global, line: &[u8]) -> Result<Vec<u8>, AllocError
     Ok(bytes)
 }
 
-/// Appends the number that a word writes, and any other where it writes none.
-fn push_number(word: &[u8], numbers: &mut Vec<i32>) -> Result<(), AllocError>
-    ensures { OnOk result ((z : ℤ) → FitsSigned w32 z → word.now ≡ signed_decimal z
-        → numbers.new.items ≡ numbers.old.items ++ z ∷ []) }
-{
-    numbers.push(number(word))?;
-    Ok(())
-}
-
 /// The numbers that some words write, and any others where one writes none.
 fn numbers_in(alloc: Global, words: &[u8]) -> Result<Vec<i32>, AllocError>
     ensures { IfOk result (λ v. (ns : List ℤ) → AreShown ns → words.now ≡ joined (map signed_decimal ns) → v.items ≡ ns) }
@@ -131,20 +112,10 @@ fn numbers_in(alloc: Global, words: &[u8]) -> Result<Vec<i32>, AllocError>
     let mut rest = words;
     'words: while !rest.is_empty() {
         let (word, after) = cut_word(rest);
-        push_number(word, &mut numbers)?;
+        numbers.push(number(word))?;
         rest = after;
     }
     Ok(numbers)
-}
-
-/// The opcode of a name, and any other where it is none's.
-fn opcode_in(word: &[u8]) -> u8
-    ensures { (op : ℕ) → HasName word.now op → result ≡ op }
-{
-    match opcode_named(word) {
-        Some(op) => op,
-        None => 0,
-    }
 }
 
 /// The bytes of the instruction at a place whose line this is, and any others where it is none.
@@ -154,16 +125,8 @@ pub(crate) fn block_in(alloc: Global, place: u16, line: &[u8]) -> Result<Vec<u8>
 {
     let (name, after_name) = second_word(line);
     let numbers = numbers_in(alloc, after_name)?;
-    let op = opcode_in(name);
-    let bytes = block(alloc, place, op, numbers.as_slice())?;
-    Ok(bytes)
-}
-
-/// The bytes of an instruction of this opcode at a place, whose numbers these are.
-fn block(alloc: Global, place: u16, op: u8, numbers: &[i32]) -> Result<Vec<u8>, AllocError>
-    ensures { IfOk result (λ v. v.items ≡ block_of place op numbers.now) }
-{
+    let op = opcode_named(name).unwrap_or(0);
     let mut bytes = Vec::new(alloc);
-    push_block(place, op, numbers, &mut bytes)?;
+    push_block(place, op, numbers.as_slice(), &mut bytes)?;
     Ok(bytes)
 }

@@ -1,6 +1,6 @@
-ghost use Rattle.std.specs.Prelude.{◌≡◌, min};
+ghost use Rattle.std.specs.Prelude.{◌≡◌};
 ghost use Rattle.cap_listing.specs.declared.condition.Condition.TheVariants as conditions;
-ghost use Rattle.cap_listing.specs.Placing.{is_same, lies_in, other_faults, range_faults, own_faults, faults_from, handler_total, total_faults, faults, first_refused};
+ghost use Rattle.cap_listing.specs.Placing.{is_same, lies_in, other_faults, range_faults, own_faults, faults_from, total_faults, faults, first_refused};
 
 use crate::condition::Condition;
 use crate::fault::AsmFault;
@@ -16,18 +16,11 @@ fn is_same(method: &ListedMethod, own: &ListedMethod) -> bool
         && method.laid.nargs == own.laid.nargs
 }
 
-/// The less of two numbers.
-fn less(first: usize, second: usize) -> usize
-    ensures { result ≡ min first second }
-{
-    if first < second { first } else { second }
-}
-
 /// Refuses the first method that is not the package's own of its number.
 fn check_others(methods: &[ListedMethod], owns: &[ListedMethod]) -> Result<(), AsmFault>
     ensures { result ≡ first_refused (other_faults 0 methods.now owns.now) }
 {
-    let both = less(methods.len(), owns.len());
+    let both = methods.len().min(owns.len());
     'methods: for n in 0..both {
         if !is_same(&methods[n], &owns[n]) {
             return Err(AsmFault::OtherMethod(n));
@@ -60,36 +53,17 @@ fn check_handlers(n: usize, size: usize, handlers: &[LaidHandler]) -> Result<(),
     Ok(())
 }
 
-fn check_registers(n: usize, method: &ListedMethod) -> Result<(), AsmFault>
-    ensures { result ≡ first_refused (own_faults conditions.Registers n method.now) }
-{
-    let count = u16::from(method.laid.nargs) + u16::from(method.laid.max_locals);
-    if count > 255 {
-        return Err(AsmFault::Registers(n, count));
-    }
-    Ok(())
-}
-
-fn check_length(n: usize, method: &ListedMethod) -> Result<(), AsmFault>
-    ensures { result ≡ first_refused (own_faults conditions.Length n method.now) }
-{
-    let size = method.laid.code.len();
-    if size == 0 || size > 32767 {
-        return Err(AsmFault::CodeLength(n, size));
-    }
-    Ok(())
-}
-
 /// Refuses the n-th method where it does not meet a condition.
 fn check_one(condition: Condition, n: usize, method: &ListedMethod) -> Result<(), AsmFault>
     ensures { result ≡ first_refused (own_faults condition n method.now) }
 {
+    let size = method.laid.code.len();
+    let count = u16::from(method.laid.nargs) + u16::from(method.laid.max_locals);
     match condition {
-        Condition::Registers => check_registers(n, method),
-        Condition::Handlers => {
-            check_handlers(n, method.laid.code.len(), method.laid.handlers.as_slice())
-        }
-        Condition::Length => check_length(n, method),
+        Condition::Registers if count > 255 => Err(AsmFault::Registers(n, count)),
+        Condition::Handlers => check_handlers(n, size, method.laid.handlers.as_slice()),
+        Condition::Length if size == 0 || size > 32767 => Err(AsmFault::CodeLength(n, size)),
+        _ => Ok(()),
     }
 }
 
@@ -98,30 +72,19 @@ fn check_each(condition: Condition, methods: &[ListedMethod]) -> Result<(), AsmF
     ensures { result ≡ first_refused (faults_from condition 0 methods.now) }
 {
     'methods: for n in 0..methods.len() {
-        match check_one(condition, n, &methods[n]) {
-            Ok(()) => {}
-            Err(fault) => return Err(fault),
-        }
+        check_one(condition, n, &methods[n])?;
     }
     Ok(())
-}
-
-/// How many handlers methods have; the greatest number of 64 bits where they are more.
-fn total(methods: &[ListedMethod]) -> usize
-    ensures { result ≡ min (handler_total methods.now) 18446744073709551615 }
-{
-    let mut total: usize = 0;
-    'methods: for method in methods {
-        total = total.saturating_add(method.laid.handlers.len());
-    }
-    total
 }
 
 /// Refuses methods of more than 255 handlers together.
 fn check_total(methods: &[ListedMethod]) -> Result<(), AsmFault>
     ensures { result ≡ first_refused (total_faults methods.now) }
 {
-    let count = total(methods);
+    let mut count: usize = 0;
+    'methods: for method in methods {
+        count = count.saturating_add(method.laid.handlers.len());
+    }
     if count > 255 {
         return Err(AsmFault::TooManyHandlers(count));
     }

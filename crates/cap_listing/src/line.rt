@@ -1,4 +1,4 @@
-ghost use Rattle.std.specs.Prelude.{◌≡◌, ◌++◌, ◌∷◌, [], ◌<◌, ◌≤◌, Ok, length, map, codes, OnOk};
+ghost use Rattle.std.specs.Prelude.{◌≡◌, ◌++◌, ◌∷◌, [], ◌≤◌, Ok, length, map, OnOk};
 ghost use Rattle.std.specs.Fmt.{signed_decimal, decimal};
 ghost use Rattle.jc_decode.specs.Decoding.{decoded};
 ghost use Rattle.jc_decode.specs.Names.{name};
@@ -43,18 +43,6 @@ pub(crate) fn push_number(number: i64, out: &mut Vec<u8>) -> Result<(), AllocErr
     push_word(Buffer::new().format(number).as_bytes(), out)
 }
 
-/// Appends the name of a method: the numbers of its class and its own.
-#[tactic(auto, using(crate::proofs::Appending::steps))]
-fn push_name(class_no: u16, method_no: u16, out: &mut Vec<u8>) -> Result<(), AllocError>
-    ensures { OnOk result (out.new.items
-        ≡ out.old.items ++ joined (codes "method" ∷ (decimal class_no ++ 46 ∷ decimal method_no) ∷ [])) }
-{
-    out.extend_from_slice(b"method")?;
-    push_count(u32::from(class_no), out)?;
-    out.push(b'.')?;
-    push_decimal(u32::from(method_no), out)
-}
-
 /// Appends a word and a number, each after a space.
 #[tactic(auto, using(crate::proofs::Appending::steps))]
 fn push_named(word: &[u8], number: u8, out: &mut Vec<u8>) -> Result<(), AllocError>
@@ -69,7 +57,10 @@ fn push_named(word: &[u8], number: u8, out: &mut Vec<u8>) -> Result<(), AllocErr
 pub(crate) fn push_heading(heading: Heading, out: &mut Vec<u8>) -> Result<(), AllocError>
     ensures { OnOk result (out.new.items ≡ out.old.items ++ joined (heading_words heading)) }
 {
-    push_name(heading.class_no, heading.method_no, out)?;
+    out.extend_from_slice(b"method")?;
+    push_count(u32::from(heading.class_no), out)?;
+    out.push(b'.')?;
+    push_decimal(u32::from(heading.method_no), out)?;
     push_named(b"stack", heading.max_stack, out)?;
     push_named(b"args", heading.nargs, out)?;
     push_named(b"locals", heading.max_locals, out)

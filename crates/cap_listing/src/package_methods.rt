@@ -117,12 +117,9 @@ fn push_listed(
         (header_in methods.now.info.bytes.now method.now.method_offset)) }
 {
     let header = match header(methods, method.method_offset) {
-        Some(header) => header,
-        None => return Ok(()),
+        Some(header) if !header.flags.is_abstract() => header,
+        _ => return Ok(()),
     };
-    if header.flags.is_abstract() {
-        return Ok(());
-    }
     let laid = laid(alloc, methods, method, header)?;
     listed.push(ListedMethod {
         class_no,
@@ -207,9 +204,8 @@ fn handlers_after<'a>(handlers: HandlerEntries<'a>, count: u16) -> HandlerEntrie
 {
     let mut rest = handlers;
     'passed: for _ in 0..count {
-        match rest.next() {
-            Some(_) => {}
-            None => return rest,
+        if rest.next().is_none() {
+            return rest;
         }
     }
     rest
@@ -229,12 +225,10 @@ fn laid_handlers(
     let mut laid = Vec::new(alloc);
     let mut rest = handlers;
     'handlers: for _ in 0..count {
-        match rest.next() {
-            Some(handler) => {
-                laid.push(laid_handler(start, handler))?;
-            }
-            None => return Ok(laid),
-        }
+        let Some(handler) = rest.next() else {
+            return Ok(laid);
+        };
+        laid.push(laid_handler(start, handler))?;
     }
     Ok(laid)
 }

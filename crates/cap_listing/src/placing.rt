@@ -122,10 +122,7 @@ fn first_laid(
         return Ok(None);
     }
     match methods.split_first() {
-        Some((first, _)) => {
-            let laid = copied(alloc, &first.laid)?;
-            Ok(Some(laid))
-        }
+        Some((first, _)) => Ok(Some(copied(alloc, &first.laid)?)),
         None => Ok(None),
     }
 }

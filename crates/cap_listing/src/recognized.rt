@@ -1,24 +1,16 @@
-ghost use Rattle.std.specs.Prelude.{◌≡◌, ◌≢◌, ◌≤◌, ◌+◌, ◌↔◌, ℕ, List, Ok, length, IfOk, IfSome, IfNone, IsTrue};
-ghost use Rattle.jc_decode.specs.Decoding.{decoded};
+ghost use Rattle.std.specs.Prelude.{◌≡◌, ◌≢◌, ◌≤◌, ◌+◌, ◌↔◌, ℕ, List, length, IfOk, IfSome, IfNone, IsTrue};
 ghost use Rattle.jc_decode.specs.declared.symbols.LaidHandler.{LaidHandler};
 ghost use Rattle.cap_listing.specs.declared.method.ListedMethod.{ListedMethod};
 ghost use Rattle.cap_listing.specs.Words.{joined};
-ghost use Rattle.cap_listing.specs.Text.{IsMethod, IsHeading, IsHandler, heading_words, head_words, handler_words, bytes_words};
+ghost use Rattle.cap_listing.specs.Text.{IsMethod, IsHeading, IsHandler, heading_words, head_words, handler_words};
 ghost use Rattle.cap_listing.specs.Lines.{IsInstructionLine, IsBytesLine};
 
 use crate::candidate::{block_in, bytes_in, handler_in, heading_in};
 use crate::line::{push_bytes, push_handler, push_heading, push_instruction};
 use crate::method::Heading;
 use cap_bytes::{View, are_bytes};
-use jc_decode::{Insn, LaidHandler, decode};
+use jc_decode::{LaidHandler, decode};
 use std::alloc::{AllocError, Global};
-
-/// Whether two lists of bytes are the same.
-fn is_same(bytes: &[u8], others: &[u8]) -> bool
-    ensures { IsTrue result ↔ (others.now ≡ bytes.now) }
-{
-    others == bytes
-}
 
 /// Whether a line is the first of a method with these numbers.
 fn is_heading_line(alloc: Global, heading: Heading, line: &[u8]) -> Result<bool, AllocError>
@@ -26,7 +18,7 @@ fn is_heading_line(alloc: Global, heading: Heading, line: &[u8]) -> Result<bool,
 {
     let mut shown = Vec::new(alloc);
     push_heading(heading, &mut shown)?;
-    Ok(is_same(shown.as_slice(), line))
+    Ok(line == shown.as_slice())
 }
 
 /// The numbers of the method whose first line this is, where it is one.
@@ -45,7 +37,7 @@ fn is_handler_line(alloc: Global, handler: LaidHandler, line: &[u8]) -> Result<b
 {
     let mut shown = Vec::new(alloc);
     push_handler(handler, &mut shown)?;
-    Ok(is_same(shown.as_slice(), line))
+    Ok(line == shown.as_slice())
 }
 
 /// The handler whose line this is, where it is one.
@@ -58,28 +50,18 @@ pub(crate) fn handler_of(alloc: Global, line: &[u8]) -> Result<Option<LaidHandle
     if good { Ok(Some(handler)) } else { Ok(None) }
 }
 
-/// Whether a line shows these bytes at a place.
-fn shows_bytes(alloc: Global, place: u16, bytes: &[u8], line: &[u8]) -> Result<bool, AllocError>
-    ensures { IfOk result (λ good. IsTrue good ↔ (line.now ≡ joined (bytes_words place bytes.now))) }
-{
-    let mut shown = Vec::new(alloc);
-    push_bytes(alloc, place, bytes, &mut shown)?;
-    Ok(is_same(shown.as_slice(), line))
-}
-
 /// Whether a line is that of these bytes at a place, at which no instruction is decoded.
 fn is_bytes_line(alloc: Global, place: u16, bytes: &[u8], line: &[u8]) -> Result<bool, AllocError>
     requires { length bytes.now ≤ 65535 }
     ensures { IfOk result (λ good. IsTrue good ↔ IsBytesLine place bytes.now line.now) }
 {
     are_bytes(bytes);
-    if bytes.is_empty() {
+    if bytes.is_empty() || decode(View::of(bytes), 0).is_ok() {
         return Ok(false);
     }
-    match decode(View::of(bytes), 0) {
-        Ok(_) => Ok(false),
-        Err(_) => shows_bytes(alloc, place, bytes, line),
-    }
+    let mut shown = Vec::new(alloc);
+    push_bytes(alloc, place, bytes, &mut shown)?;
+    Ok(line == shown.as_slice())
 }
 
 /// The bytes whose line this is at a place of a code, at which no instruction is decoded, where it is one.
@@ -99,27 +81,6 @@ pub(crate) fn bytes_of(
     if good { Ok(Some(bytes)) } else { Ok(None) }
 }
 
-/// Whether a line shows the instruction of these bytes at a place, and they are that instruction alone.
-fn shows_instruction(
-    alloc: Global,
-    place: u16,
-    insn: Insn,
-    bytes: &[u8],
-    line: &[u8],
-) -> Result<bool, AllocError>
-    requires short { length bytes.now ≤ 65535 }
-    requires decodes { decoded bytes.now 0 ≡ Ok insn }
-    ensures { IfOk result (λ good. IsTrue good ↔ IsInstructionLine place bytes.now line.now) }
-{
-    are_bytes(bytes);
-    if insn.len as usize != bytes.len() {
-        return Ok(false);
-    }
-    let mut shown = Vec::new(alloc);
-    push_instruction(place, insn, View::of(bytes), 0, &mut shown)?;
-    Ok(is_same(shown.as_slice(), line))
-}
-
 /// Whether a line is that of the instruction of these bytes at a place.
 fn is_instruction_line(
     alloc: Global,
@@ -130,9 +91,14 @@ fn is_instruction_line(
     requires { length bytes.now ≤ 65535 }
     ensures { IfOk result (λ good. IsTrue good ↔ IsInstructionLine place bytes.now line.now) }
 {
+    are_bytes(bytes);
     match decode(View::of(bytes), 0) {
-        Ok(insn) => shows_instruction(alloc, place, insn, bytes, line),
-        Err(_) => Ok(false),
+        Ok(insn) if insn.len as usize == bytes.len() => {
+            let mut shown = Vec::new(alloc);
+            push_instruction(place, insn, View::of(bytes), 0, &mut shown)?;
+            Ok(line == shown.as_slice())
+        }
+        _ => Ok(false),
     }
 }
 

@@ -1,4 +1,4 @@
-use Rattle.std.proofs.Common.{◌∙◌, ◌++◌, ◌+◌, ℤ, List, ap, sym, to_z, of_z, w32, w64, rules}
+use Rattle.std.proofs.Common.{◌∙◌, ◌++◌, ℤ, List, ap, sym, to_z, of_z, w32, w64, rules}
 use Rattle.std.specs.Prelude.{Bool, FitsSigned}
 use Rattle.std.proofs.lemmas.Int.{to_z-of_z}
 use Rattle.jc_decode.specs.Listing.{jumps}

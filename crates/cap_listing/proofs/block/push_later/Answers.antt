@@ -1,4 +1,4 @@
-use Rattle.std.proofs.Common.{◌∙◌, ◌++◌, ◌+◌, ℤ, List, ap, to_z, of_z, w32, rules}
+use Rattle.std.proofs.Common.{◌∙◌, ◌++◌, ℤ, List, ap, to_z, of_z, w32, rules}
 use Rattle.std.specs.Prelude.{FitsSigned}
 use Rattle.std.proofs.lemmas.Int.{to_z-of_z}
 use Rattle.cap_listing.specs.Numbers.{first_number, after_operand, table_of}
