@@ -136,3 +136,13 @@ is_exact from g bytes = record {
 
 -- what the reader of a whole component needs
 pub ruleset whole = (stands, breaks, is_exact)
+
+-- the same of a reading that is written out
+pub broken : {X : Type 0} (from : Origin) (g : Grammar X) (bytes : List ℕ) (fault : FormFault) → outcome (read from g bytes 0) ≡ Err fault
+    → Breaks from g bytes 0 fault
+unfolding reading
+broken from g bytes fault h = breaks from g bytes fault h
+
+pub stood : {X : Type 0} (from : Origin) (g : Grammar X) (bytes : List ℕ) (x : X) → outcome (read from g bytes 0) ≡ Ok x → Stands g bytes x
+unfolding reading
+stood from g bytes x h = stands from g bytes x h
