@@ -104,18 +104,12 @@ fn jumps_with_fresh(insn: Insn, stack: &[Ty]) -> bool
     insn.jumps() && has_fresh(stack)
 }
 
-fn is_fresh(ty: Ty) -> bool
-    ensures { MatchBool result (¬ (IsNotFresh ty)) (IsNotFresh ty) }
-{
-    matches!(ty, Ty::Fresh { .. })
-}
-
 /// Whether a cell holds an uninitialised object.
 fn has_fresh(cells: &[Ty]) -> bool
     ensures { MatchBool result (¬ (All IsNotFresh cells.now)) (All IsNotFresh cells.now) }
 {
     'cells: for cell in cells {
-        if is_fresh(*cell) {
+        if matches!(cell, Ty::Fresh { .. }) {
             return true;
         }
     }

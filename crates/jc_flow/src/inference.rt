@@ -1,7 +1,7 @@
 ghost use Rattle.std.specs.Prelude.{◌≡◌, ◌<◌, None, false, length, replicate, IfOk, IfErr, OnOk, IsSomeAnd, slice_get};
 ghost use Rattle.jc_base.specs.declared.ty.Ty.TheVariants.{Bottom, Top};
 ghost use Rattle.jc_control.specs.Method.{IsMethodOf, method_in};
-ghost use Rattle.jc_rules.specs.Flow.{IsLeastTyping, HasFlowTyping, At, FrameBelow, start_frame, receiver_of};
+ghost use Rattle.jc_rules.specs.Flow.{IsLeastTyping, HasFlowTyping, At, FrameBelow, start_frame};
 ghost use Rattle.jc_rules.specs.Typing.{state_at};
 ghost use Rattle.jc_flow.specs.Progress.{AreHeld, AreClosed};
 ghost use Rattle.jc_flow.specs.Fails.{IsFailure};
@@ -74,23 +74,15 @@ fn unformed(end: ControlEnd) -> FlowEnd
     }
 }
 
-/// The receiver of a method, where there is one.
-fn receiver(alloc: Global, rec: &MethodRec) -> Result<Vec<Ty>, AllocError>
-    ensures { IfOk result (λ v. v.items ≡ receiver_of rec.now) }
-{
-    if rec.is_static {
-        Ok(Vec::new(alloc))
-    } else {
-        Ok(vec![in alloc; Ty::Class(rec.class)]?)
-    }
-}
-
 /// The registers at a method's start.
 fn start_regs(alloc: Global, rec: &MethodRec) -> Result<Vec<Ty>, AllocError>
     ensures { IfOk result (λ v. v.items ≡ (start_frame rec.now Top).regs) }
 {
     let unset: Vec<Ty> = vec![in alloc; Ty::Top; rec.max_locals as usize]?;
-    let mut regs = receiver(alloc, rec)?;
+    let mut regs = Vec::new(alloc);
+    if !rec.is_static {
+        regs.push(Ty::Class(rec.class))?;
+    }
     regs.extend_from_slice(rec.sig.args.as_slice())?;
     regs.extend_from_slice(unset.as_slice())?;
     Ok(regs)

@@ -110,13 +110,6 @@ fn copy(from: &[Ty], to: &mut Vec<Ty>)
     requires { length from.now ≤ length to.old.items }
     ensures { to.new.items ≡ from.now ++ drop (length from.now) to.old.items }
 {
-    overwrite(from, to.as_mut_slice());
-}
-
-fn overwrite(from: &[Ty], to: &mut [Ty])
-    requires { length from.now ≤ length to.old }
-    ensures { to.new ≡ from.now ++ drop (length from.now) to.old }
-{
-    let (front, _) = to.split_at_mut(from.len());
+    let (front, _) = to.as_mut_slice().split_at_mut(from.len());
     front.copy_from_slice(from);
 }
