@@ -27,11 +27,9 @@ pub(crate) fn items(
 {
     let mut items = Vec::new(alloc);
     'instructions: for placed in Instructions::of(code) {
-        if let Err(error) = add(alloc, code, placed, sharing, &mut items) {
-            return Err(error);
-        }
+        add(alloc, code, placed, sharing, &mut items)?;
     }
-    put(&mut items, Item::Label(code.bytes.len() as u16))?;
+    items.push(Item::Label(code.bytes.len() as u16))?;
     Ok(items)
 }
 
@@ -50,15 +48,8 @@ fn add(
         ≡ items.old.items
         ++ Label placed.place ∷ item_of code.entry.bytes.now (number_of sharing.now) placed ∷ []) }
 {
-    put(items, Item::Label(placed.place))?;
+    items.push(Item::Label(placed.place))?;
     let item = item(alloc, code, placed, sharing)?;
-    put(items, item)
-}
-
-// Appends an item.
-fn put(items: &mut Vec<Item>, item: Item) -> Result<(), AllocError>
-    ensures { OnOk result (items.new.items ≡ items.old.items ++ item ∷ []) }
-{
     items.push(item)?;
     Ok(())
 }

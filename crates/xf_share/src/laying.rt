@@ -57,22 +57,11 @@ fn lay_method(alloc: Global, world: &World<'_>, number: u16) -> Result<Option<La
     if world.method(number).code_len == 0 {
         return Ok(None);
     }
-    match lay_code(alloc, world, number) {
-        Ok(laid) => Ok(Some(laid)),
-        Err(end) => Err(end),
-    }
-}
-
-// The code of a method in which its variables share registers.
-fn lay_code(alloc: Global, world: &World<'_>, number: u16) -> Result<Laid, LayEnd>
-    requires code { IsSomeAnd (slice_get world.now.methods number) (λ r. 0 < r.code_len) }
-    requires accepted { HaveCardTypings world.now }
-    ensures laid { IsSomeAnd (method_in world.now number) (λ m. IfOk result (IsSharedFor world.now m)) }
-    ensures fits { IsSomeAnd (method_in world.now number) (λ m. IfOk result (FitsMethod m.rec)) }
-    ensures end { IfErr result (TellsUnlaid world.now number) }
-{
     match share_method(alloc, world, number) {
-        Ok(sharing) => lay_shared(alloc, world, number, &sharing),
+        Ok(sharing) => match lay_shared(alloc, world, number, &sharing) {
+            Ok(laid) => Ok(Some(laid)),
+            Err(end) => Err(end),
+        },
         Err(error) => Err(error.into()),
     }
 }

@@ -1,5 +1,5 @@
-ghost use Rattle.std.specs.Prelude.{◌≡◌, slice_index_or};
-ghost use Rattle.jc_decode.specs.Forms.{is_load_n, is_store_n, with_operand};
+ghost use Rattle.std.specs.Prelude.{◌≡◌};
+ghost use Rattle.jc_decode.specs.Forms.{with_operand};
 ghost use Rattle.law_renumbered.specs.Instruction.{uses_register, renumbered_instruction};
 ghost use Rattle.xf_share.specs.Numbering.{number_of};
 
@@ -26,17 +26,11 @@ fn number_of(sharing: &Option<Sharing>, register: u8) -> u8
     ensures { result ≡ number_of sharing.now register }
 {
     match sharing {
-        Some(sharing) => number_among(&sharing.numbers, register),
+        Some(sharing) => match sharing.numbers.get(usize::from(register)) {
+            Some(number) => *number,
+            None => 0,
+        },
         None => register,
-    }
-}
-
-fn number_among(numbers: &Vec<u8>, register: u8) -> u8
-    ensures { result ≡ slice_index_or numbers.now.items register 0 }
-{
-    match numbers.get(usize::from(register)) {
-        Some(number) => *number,
-        None => 0,
     }
 }
 
@@ -51,14 +45,14 @@ fn uses_register(insn: Insn) -> bool
 fn with_operand(insn: Insn) -> Insn
     ensures { result ≡ with_operand insn }
 {
-    if is_load_n(insn.op) {
+    if 24 <= insn.op && insn.op <= 35 {
         return Insn {
             op: 21 + (insn.op - 24) / 4,
             x: i32::from((insn.op - 24) % 4),
             ..insn
         };
     }
-    if is_store_n(insn.op) {
+    if 43 <= insn.op && insn.op <= 54 {
         return Insn {
             op: 40 + (insn.op - 43) / 4,
             x: i32::from((insn.op - 43) % 4),
@@ -66,16 +60,4 @@ fn with_operand(insn: Insn) -> Insn
         };
     }
     insn
-}
-
-fn is_load_n(op: u8) -> bool
-    ensures { result ≡ is_load_n op }
-{
-    24 <= op && op <= 35
-}
-
-fn is_store_n(op: u8) -> bool
-    ensures { result ≡ is_store_n op }
-{
-    43 <= op && op <= 54
 }
