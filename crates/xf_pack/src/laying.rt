@@ -1,9 +1,7 @@
-ghost use Rattle.std.specs.Prelude.{◌≡◌, ◌+◌, ◌^◌, ◌<◌, ◌≤◌, List, length, All, IfErr, IfOk, IsSomeAnd, slice_get, vec_len};
+ghost use Rattle.std.specs.Prelude.{◌≡◌, ◌+◌, ◌^◌, ◌<◌, List, length, All, IfErr, IfOk, IsSomeAnd, slice_get, vec_len};
 ghost use Rattle.cap_package.specs.PackageRecord.{PackageRecord};
 ghost use Rattle.jc_control.specs.Method.{method_in};
 ghost use Rattle.jc_decode.specs.Symbols.{IsRange, plain_size};
-ghost use Rattle.jc_rules.specs.Typing.{state_at};
-ghost use Rattle.xf_homes.specs.Order.{AreHomes, register_sum};
 ghost use Rattle.law_transform.specs.Laid.{IsLaidFor};
 ghost use Rattle.xf_pack.specs.Ends.{AreAcceptedLibraries, IsTypedLast, TellsOf};
 ghost use Rattle.xf_last.specs.Fits.{FitsMethod};
@@ -20,7 +18,7 @@ use jc_rules::Typing;
 use law_laid::laid_is_typed;
 use std::alloc::Global;
 use xf_code::rewrite;
-use xf_homes::{Homes, homes};
+use xf_homes::homes;
 use xf_layout::lay;
 
 /// What is laid for each method of the last package, by these typings, in the order of their numbers, and None for one without code.
@@ -89,33 +87,16 @@ fn lay_code(
     ensures sound { IsSomeAnd (method_in world.now number) (λ m. IfOk result (FitsMethod m.rec)) }
     ensures end { IfErr result (TellsUnlaid world.now number) }
 {
-    // Its record links to others of the world.
-    let _rec = world.method(number);
+    // Its record links to others of the world, its stack is counted by a byte, and so are the registers of its homes.
+    let _max_stack = world.method(number).max_stack;
     match homes(alloc, world, number, typing) {
-        Ok(homes) => lay_homes(alloc, world, number, typing, &homes),
-        Err(end) => Err(end.into()),
-    }
-}
-
-// A method's code with these homes in place of its locals, and that code in bytes.
-fn lay_homes(
-    alloc: Global,
-    world: &World<'_>,
-    number: u16,
-    typing: &Typing,
-    homes: &Homes,
-) -> Result<Laid, LayingEnd>
-    requires code { IsSomeAnd (slice_get world.now.methods number) (λ r. 0 < r.code_len) }
-    requires typing { IsSomeAnd (method_in world.now number) (λ m. IsTypedBy world.now m typing.now) }
-    requires homes { IsSomeAnd (method_in world.now number) (λ m. AreHomes world.now m (state_at typing.now) homes.now) }
-    ensures laid { IsSomeAnd (method_in world.now number) (λ m. IfOk result (IsLaidFor world.now m)) }
-    ensures sound { IsSomeAnd (method_in world.now number) (λ m. IfOk result (FitsMethod m.rec)) }
-    ensures end { IfErr result (TellsUnlaid world.now number) }
-{
-    are_few(homes);
-    is_a_byte(world.method(number).max_stack);
-    match rewrite(alloc, &*world, number, &*typing, &*homes) {
-        Ok(symbols) => lay_symbols(alloc, world, number, &symbols),
+        Ok(homes) => {
+            let _count = homes.count();
+            match rewrite(alloc, &*world, number, &*typing, &homes) {
+                Ok(symbols) => lay_symbols(alloc, world, number, &symbols),
+                Err(end) => Err(end.into()),
+            }
+        }
         Err(end) => Err(end.into()),
     }
 }
@@ -143,18 +124,4 @@ fn lay_symbols(
         Ok(laid) => Ok(laid),
         Err(end) => Err(end.into()),
     }
-}
-
-/// The homes take no more registers than a method may have: a fact for proofs, and no work.
-fn are_few(homes: &Homes)
-    ensures { register_sum homes.now ≤ 255 }
-{
-    let _count = homes.count();
-}
-
-/// A byte is a small number: a fact for proofs, and no work.
-fn is_a_byte(byte: u8)
-    ensures { byte ≤ 255 }
-{
-    let _ = byte;
 }

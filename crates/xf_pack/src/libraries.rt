@@ -1,4 +1,4 @@
-ghost use Rattle.std.specs.Prelude.{List, ◌<◌, OnOk, IfErr};
+ghost use Rattle.std.specs.Prelude.{List, OnOk, IfErr};
 ghost use Rattle.cap_package.specs.PackageRecord.{PackageRecord};
 ghost use Rattle.xf_pack.specs.Ends.{AreAcceptedLibraries, TellsOf};
 ghost use Rattle.xf_last.specs.Last.{BeginsLast};
