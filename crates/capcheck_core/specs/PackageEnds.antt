@@ -1,7 +1,6 @@
 -- Why packages and roles were not loaded, and when.
 use Rattle.std.specs.Prelude.{◌≡◌, ℕ, ◌≤◌, List, length, Option, Some, None, Result, Ok, Err, string_bytes}
 use Rattle.cap_files.specs.Folder.{Folders, IsThere, LoadFails}
-use Rattle.cap_components.specs.declared.fault.PackFault.TheVariants.{Form}
 use Rattle.cap_package.specs.Parts.{Lent}
 use Rattle.cap_package.specs.PackageRecord.{PackageRecord}
 use Rattle.cap_package.specs.FirstFault.{Tells}
@@ -11,7 +10,7 @@ use Rattle.jc_link.specs.LinkFault.TheVariants.{TooManyPackages}
 use Rattle.cap_load.specs.LoadFile.{IsLoadFile}
 use Rattle.cap_load.specs.Fault.{IsRefused}
 use Rattle.cap_load.specs.Loaded as loaders
-use Rattle.capcheck_core.specs.declared.folder_fault.FolderFault.TheVariants.{Pack, Stream}
+use Rattle.capcheck_core.specs.declared.folder_fault.FolderFault.TheVariants.{Stream}
 use Rattle.capcheck_core.specs.declared.packages.PackagesStop.{PackagesStop}
 use Rattle.capcheck_core.specs.declared.packages.PackagesStop.TheVariants.{TooMany, Malformed, Failed, Memory}
 use Rattle.capcheck_core.specs.declared.verdict.Verdict.{Verdict}
@@ -21,7 +20,7 @@ use Rattle.capcheck_core.specs.InLoadFile.{load_key}
 use Rattle.capcheck_core.specs.Loads.{AreParts}
 use Rattle.capcheck_core.specs.Place.{Place, in_components, in_load_file}
 use Rattle.capcheck_core.specs.BesideEnds.{StopsFile}
-use Rattle.capcheck_core.specs.Roles.{AreRolesIn, HasRoles, HasBadRoles, LacksRoles, IsNoRoles, roles_key}
+use Rattle.capcheck_core.specs.Roles.{AreRolesIn, HasRoles, HasBadRoles, LacksRoles, roles_key}
 use Rattle.capcheck_core.specs.Packages.{LacksPackage, LacksPartsBy, FailsPartsBy}
 
 -- the folders after loads of packages: as before, unless one failed
@@ -36,12 +35,6 @@ PackagesLeave before after (Ok loaded) = after ≡ before
 PackagesLeave before after (Err stop) = PackagesStopLeaves before after stop
 
 -- ---- the roles
-
--- the roles in a file, by the answer
-abbrev pub ReadsRoles : List ℕ → Result (List ℕ) PackagesStop → Type 0
-ReadsRoles file (Ok roles) = (roles ≡ file) × (length roles ≡ 8)
-ReadsRoles file (Err (Malformed number (Pack (Form form)))) = (number ≡ 0) × IsNoRoles file form
-ReadsRoles file (Err _) = ⊥
 
 -- the load of the roles beside the first package, by its answer
 abbrev pub LoadsRoles : Folders → Folders → List ℕ → Result (List ℕ) PackagesStop → Type 0
@@ -87,13 +80,6 @@ pub record HasLoaded (before : Folders) (dir : List ℕ) (loader : loaders.Loade
   pub there : IsThere before (load_key dir) stream
   pub short : length stream ≤ 65538
   pub taken : HasTaken loader stream
-
--- a loader for bytes, by the answer
-abbrev pub TakesStream : List ℕ → ℕ → Result loaders.Loaded PackagesStop → Type 0
-TakesStream stream number (Ok loader) = HasTaken loader stream
-TakesStream stream number (Err (Malformed n (Stream fault))) = (n ≡ number) × IsRefused 65538 stream fault
-TakesStream stream number (Err Memory) = Unit {0}
-TakesStream stream number (Err _) = ⊥
 
 -- the load of its Load file, by its answer
 abbrev pub LoadsStream : Folders → Folders → List ℕ → ℕ → Result loaders.Loaded PackagesStop → Type 0

@@ -2,7 +2,7 @@
 ghost use Rattle.std.specs.Prelude.{◌≤◌, length};
 ghost use Rattle.std.specs.Option.{option_copied};
 ghost use Rattle.cap_text.specs.OutOfDir.{out_of_dir_request};
-ghost use Rattle.capcheck_core.specs.Assemble.{AssemblesBeside, AssemblesText, IsAssembled, IsUnassembledBy, PutsMethods};
+ghost use Rattle.capcheck_core.specs.Assemble.{AssemblesBeside, IsAssembled, IsUnassembledBy, PutsMethods};
 
 use crate::beside::load_wanted;
 use crate::package_step::PackageStep;
@@ -41,15 +41,15 @@ impl PackageStep for AsmStep<'_> {
         folder: &mut F,
     ) -> Verdict {
         match load_wanted(alloc, folder, self.asked.dir, LISTING, 0) {
-            Ok(text) => assemble_beside(alloc, self.asked, read, &text, folder),
+            Ok(text) => assemble_text(alloc, self.asked, read, &text, folder),
             Err(stop) => stop.verdict(alloc),
         }
     }
 }
 
 // Loads the roles, where they are there, and stores the package with the methods of which a text is the listing.
-#[tactic(auto, using(crate::proofs::OnPackages::stopped_at_file))]
-fn assemble_beside<F: Folder>(
+#[tactic(auto, using(crate::proofs::OnPackages::stopped_at_file, crate::proofs::Assembles::not_listing))]
+fn assemble_text<F: Folder>(
     alloc: Global,
     asked: &OutOfDir<'_>,
     read: &Package<'_, '_>,
@@ -60,27 +60,13 @@ fn assemble_beside<F: Folder>(
     ensures { AssemblesBeside (out_of_dir_request asked.now) read.now text.now (F.folders folder.old) (F.folders folder.new) result }
 {
     match find_roles(alloc, folder, asked.dir) {
-        Ok(roles) => assemble_text(alloc, asked.out, read, text, slice_of(&roles), folder),
+        Ok(roles) => match assemble(alloc, text) {
+            Ok(methods) => {
+                put_methods(alloc, asked.out, read, &methods, slice_of(&roles), folder)
+            }
+            Err(end) => unassembled(alloc, end),
+        },
         Err(stop) => stop.verdict(alloc),
-    }
-}
-
-// Stores the package with the methods of which a text is the listing.
-#[tactic(auto, using(crate::proofs::Assembles::not_listing))]
-fn assemble_text<F: Folder>(
-    alloc: Global,
-    out: &str,
-    read: &Package<'_, '_>,
-    text: &[u8],
-    roles: Option<&[u8]>,
-    folder: &mut F,
-) -> Verdict
-    requires { length text.now ≤ 65538 }
-    ensures { AssemblesText read.now text.now (option_copied roles.entry) out.now (F.folders folder.old) (F.folders folder.new) result }
-{
-    match assemble(alloc, text) {
-        Ok(methods) => put_methods(alloc, out, read, &methods, roles, folder),
-        Err(end) => unassembled(alloc, end),
     }
 }
 

@@ -41,23 +41,16 @@ impl LastStep for BoundStep<'_> {
         _folder: &mut F,
         _card: &mut Card<'_>,
     ) -> Verdict {
-        bound_entry(alloc, world, self.at)
+        let mut room = CardRoom::new();
+        match accept(world, &mut room) {
+            Ok(accepted) => bound_entry(alloc, &accepted, self.at),
+            Err((number, fault)) => uncarded(alloc, world, number, fault),
+        }
     }
 }
 
-/// Verifies all packages of a world as a card does, and bounds the stack of an entry of the last one.
-fn bound_entry(alloc: Global, world: &World<'_>, at: &AtEntry<'_>) -> Verdict
-    ensures { AnswersBound world.now (entry_request at.now) result }
-{
-    let mut room = CardRoom::new();
-    match accept(world, &mut room) {
-        Ok(accepted) => accepted_entry(alloc, &accepted, at),
-        Err((number, fault)) => uncarded(alloc, world, number, fault),
-    }
-}
-
-// The same, where all methods are accepted.
-fn accepted_entry(alloc: Global, accepted: &Accepted<'_>, at: &AtEntry<'_>) -> Verdict
+// Bounds the stack of an entry, where all methods are accepted.
+fn bound_entry(alloc: Global, accepted: &Accepted<'_>, at: &AtEntry<'_>) -> Verdict
     requires { AreAccepted accepted.now }
     ensures { AnswersBound accepted.now (entry_request at.now) result }
 {

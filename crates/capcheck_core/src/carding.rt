@@ -1,5 +1,3 @@
-ghost use Rattle.std.specs.Prelude.{◌≡◌, ◌<◌, count_by, length, Some, option_map, slice_get};
-ghost use Rattle.cap_index.specs.Indexes.{has_code};
 ghost use Rattle.card_verify.specs.Answers.{AreAccepted, IsFirstRefused};
 ghost use Rattle.capcheck_core.specs.Verify.{StopsAtRefused, AcceptsWorld};
 
@@ -26,6 +24,7 @@ impl LastStep for VerifyStep {
 
     ghost own = { λ _. of_world VerifiesWorld };
 
+    #[tactic(auto, using(crate::proofs::Cardings::refused_world))]
     fn take<F: Folder>(
         &self,
         alloc: Global,
@@ -35,19 +34,11 @@ impl LastStep for VerifyStep {
         _folder: &mut F,
         _card: &mut Card<'_>,
     ) -> Verdict {
-        verify_methods(alloc, world)
-    }
-}
-
-// Verifies each method with code of all packages of a world, in the room of a card.
-#[tactic(auto, using(crate::proofs::Cardings::refused_world))]
-pub(crate) fn verify_methods(alloc: Global, world: &World<'_>) -> Verdict
-    ensures { AcceptsWorld world.now result }
-{
-    let mut room = CardRoom::new();
-    match accept(world, &mut room) {
-        Ok(_) => counted(alloc, world),
-        Err((number, fault)) => uncarded(alloc, world, number, fault),
+        let mut room = CardRoom::new();
+        match accept(world, &mut room) {
+            Ok(_) => counted(alloc, world),
+            Err((number, fault)) => uncarded(alloc, world, number, fault),
+        }
     }
 }
 
@@ -57,26 +48,11 @@ fn counted(alloc: Global, world: &World<'_>) -> Verdict
     ensures { AcceptsWorld world.now result }
 {
     typed_code_never_fails(world);
-    Verdict::done(accepted(alloc, count_of_world(world)))
-}
-
-// How many methods with code a world has.
-fn count_of_world(world: &World<'_>) -> u16
-    ensures { result ≡ count_by has_code world.now.methods }
-{
     let mut count = 0u16;
     'methods: for number in 0..world.method_count() {
-        count += u16::from(has_code(world, number));
+        count += u16::from(world.method(number).code_len > 0);
     }
-    count
-}
-
-// Whether a method has code.
-fn has_code(world: &World<'_>, number: u16) -> bool
-    requires { number < length world.now.methods }
-    ensures { option_map has_code (slice_get world.now.methods number) ≡ Some result }
-{
-    world.method(number).code_len > 0
+    Verdict::done(accepted(alloc, count))
 }
 
 /// The verdict for the first method that is refused.

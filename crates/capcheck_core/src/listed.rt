@@ -1,4 +1,4 @@
-ghost use Rattle.std.specs.Prelude.{◌≡◌, IfOk, IsAscii, string_bytes};
+ghost use Rattle.std.specs.Prelude.{IfOk, string_bytes};
 ghost use Rattle.cap_listing.specs.Methods.{methods_of};
 ghost use Rattle.cap_listing.specs.Text.{Lists};
 
@@ -30,21 +30,12 @@ impl PackageStep for ListStep {
 }
 
 // The listing of a package's methods as a text.
+#[tactic(auto, using(crate::proofs::Verdicts::ascii_is_utf8))]
 fn listed(alloc: Global, read: &Package<'_, '_>) -> Result<String, AllocError>
     ensures { IfOk result (λ text. Lists (methods_of read.now) (string_bytes text)) }
 {
-    let bytes = listing(alloc, read)?;
-    Ok(ascii_text(bytes))
-}
-
-// Bytes of ASCII as a text.
-#[tactic(auto, using(crate::proofs::Verdicts::ascii_is_utf8))]
-fn ascii_text(bytes: Vec<u8>) -> String
-    requires { IsAscii bytes.items }
-    ensures { string_bytes result ≡ bytes.items }
-{
-    match String::from_utf8(bytes) {
-        Ok(text) => text,
+    match String::from_utf8(listing(alloc, read)?) {
+        Ok(text) => Ok(text),
         Err(_) => unreachable!(),
     }
 }

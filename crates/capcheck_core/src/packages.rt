@@ -5,7 +5,7 @@ ghost use Rattle.cap_components.specs.declared.fault.PackFault.TheVariants.{Part
 ghost use Rattle.capcheck_core.specs.declared.folder_fault.FolderFault.TheVariants.{Pack};
 ghost use Rattle.capcheck_core.specs.declared.packages.PackagesStop.TheVariants.{Malformed};
 ghost use Rattle.capcheck_core.specs.Roles.{IsNoRoles};
-ghost use Rattle.capcheck_core.specs.PackageEnds.{ReadsRoles, RolesBeside, LoadsRoles, FindsRoles, LoadsFiles, ReadsPackage, PackagesLeave, IsStop};
+ghost use Rattle.capcheck_core.specs.PackageEnds.{RolesBeside, FindsRoles, LoadsFiles, ReadsPackage, PackagesLeave, IsStop};
 
 use crate::folder_fault::FolderFault;
 use crate::load::{Files, LoadStop, load_parts};
@@ -57,20 +57,15 @@ impl PackagesStop {
                 alloc,
                 LinkFault::TooManyPackages(count),
             )),
-            PackagesStop::Malformed(number, fault) => malformed_folder(alloc, number, fault),
+            PackagesStop::Malformed(number, FolderFault::Pack(fault)) => {
+                Verdict::malformed(malformed(alloc, number, fault))
+            }
+            PackagesStop::Malformed(number, FolderFault::Stream(fault)) => {
+                Verdict::malformed(malformed_stream(alloc, number, fault))
+            }
             PackagesStop::Failed => Verdict::ReadFault,
             PackagesStop::Memory => Verdict::Memory,
         }
-    }
-}
-
-// The verdict for what is at fault in the folder of the package of a number.
-fn malformed_folder(alloc: Global, number: u16, fault: FolderFault) -> Verdict
-    ensures { IsStop (Malformed number fault) result }
-{
-    match fault {
-        FolderFault::Pack(fault) => Verdict::malformed(malformed(alloc, number, fault)),
-        FolderFault::Stream(fault) => { Verdict::malformed(malformed_stream(alloc, number, fault)) }
     }
 }
 
@@ -124,6 +119,7 @@ pub(crate) fn read_package<'p, 'a>(
 }
 
 /// The roles: those that are given, and else those beside the first package.
+#[tactic(auto, using(crate::proofs::OnPackages::bad_roles))]
 pub(crate) fn roles_beside<F: Folder>(
     alloc: Global,
     folder: &mut F,
@@ -135,24 +131,14 @@ pub(crate) fn roles_beside<F: Folder>(
 {
     match given {
         Some(roles) => Ok(roles),
-        None => load_roles(alloc, folder, dir),
-    }
-}
-
-// The roles beside the first package.
-#[tactic(auto, using(crate::proofs::OnPackages::bad_roles))]
-fn load_roles<F: Folder>(alloc: Global, folder: &mut F, dir: &str) -> Result<[u8; 8], PackagesStop>
-    ensures loads { LoadsRoles (F.folders folder.old) (F.folders folder.new)
-        dir.now result }
-    ensures folders { PackagesLeave (F.folders folder.old) (F.folders folder.new) result }
-{
-    match find_roles(alloc, folder, dir) {
-        Ok(Some(roles)) => Ok(roles),
-        Ok(None) => Err(PackagesStop::Malformed(
-            0,
-            FolderFault::Pack(PackFault::MissingPart(ROLES.0)),
-        )),
-        Err(stop) => Err(stop),
+        None => match find_roles(alloc, folder, dir) {
+            Ok(Some(roles)) => Ok(roles),
+            Ok(None) => Err(PackagesStop::Malformed(
+                0,
+                FolderFault::Pack(PackFault::MissingPart(ROLES.0)),
+            )),
+            Err(stop) => Err(stop),
+        },
     }
 }
 
@@ -167,9 +153,12 @@ pub(crate) fn find_roles<F: Folder>(
 {
     let mut file = Vec::new(alloc);
     match folder.load(alloc, dir, ROLES, &mut file) {
-        Ok(true) => match roles_in(file.as_slice()) {
+        Ok(true) => match <[u8; 8]>::try_from(file.as_slice()) {
             Ok(roles) => Ok(Some(roles)),
-            Err(stop) => Err(stop),
+            Err(_) => Err(PackagesStop::Malformed(
+                0,
+                FolderFault::Pack(PackFault::Form(misfit(file.as_slice()))),
+            )),
         },
         Ok(false) => Ok(None),
         Err(LoadEnd::TooLong) => Err(too_long(0, ROLES)),
@@ -188,34 +177,20 @@ pub(crate) fn slice_of(roles: &Option<[u8; 8]>) -> Option<&[u8]>
     }
 }
 
-// The roles in a file, which is no longer than a component.
-fn roles_in(file: &[u8]) -> Result<[u8; 8], PackagesStop>
-    requires { length file.now ≤ 65538 }
-    ensures { ReadsRoles file.now result }
-{
-    match <[u8; 8]>::try_from(file) {
-        Ok(roles) => Ok(roles),
-        Err(_) => Err(PackagesStop::Malformed(0, FolderFault::Pack(PackFault::Form(misfit(file))))),
-    }
-}
-
 // Where a file of another length breaks.
 fn misfit(file: &[u8]) -> FormFault
     requires short { length file.now ≤ 65538 }
     requires other { length file.now ≢ 8 }
     ensures { IsNoRoles file.now result }
 {
-    if file.len() < 8 {
-        FormFault {
-            part: ROLES.0,
-            at: file.len() as u32,
-            kind: FormKind::Cut,
-        }
+    let (at, kind) = if file.len() < 8 {
+        (file.len() as u32, FormKind::Cut)
     } else {
-        FormFault {
-            part: ROLES.0,
-            at: 8,
-            kind: FormKind::Trailing,
-        }
+        (8, FormKind::Trailing)
+    };
+    FormFault {
+        part: ROLES.0,
+        at,
+        kind,
     }
 }

@@ -1,9 +1,8 @@
 //! `pack`: a package as a Load file.
 ghost use Rattle.std.specs.Prelude.{◌≡◌, ◌≤◌, List, ℕ, length};
-ghost use Rattle.std.specs.List.{AllByRecursion};
 ghost use Rattle.std.specs.Option.{option_copied};
 ghost use Rattle.cap_load.specs.LoadFile.{stream_of};
-ghost use Rattle.cap_load.specs.Packing.{AreFull, IsFramed, IsPacked};
+ghost use Rattle.cap_load.specs.Packing.{AreFull, IsPacked};
 ghost use Rattle.cap_text.specs.OutOfDir.{out_of_dir_request};
 ghost use Rattle.capcheck_core.specs.Pack.{PacksInto};
 
@@ -37,28 +36,16 @@ impl PackageStep for PackStep<'_> {
         _read: &Package<'_, '_>,
         folder: &mut F,
     ) -> Verdict {
-        match find_roles(alloc, folder, self.asked.dir) {
-            Ok(roles) => pack_parts(alloc, self.asked.out, parts, slice_of(&roles), folder),
-            Err(stop) => stop.verdict(alloc),
+        let roles = match find_roles(alloc, folder, self.asked.dir) {
+            Ok(roles) => roles,
+            Err(stop) => return stop.verdict(alloc),
+        };
+        let out = self.asked.out;
+        match blocks(alloc, parts) {
+            Ok(stream) => store_packed(alloc, out, parts, &stream, slice_of(&roles), folder),
+            Err(BlocksEnd::LoadLong(size)) => Verdict::limit(limit_load(alloc, size)),
+            Err(BlocksEnd::Memory) => Verdict::Memory,
         }
-    }
-}
-
-// Stores the components among the parts as a Load file.
-fn pack_parts<F: Folder>(
-    alloc: Global,
-    out: &str,
-    parts: &Parts<'_>,
-    roles: Option<&[u8]>,
-    folder: &mut F,
-) -> Verdict
-    requires { AllByRecursion IsFramed parts.now }
-    ensures { PacksInto parts.now (option_copied roles.entry) out.now (F.folders folder.old) (F.folders folder.new) result }
-{
-    match blocks(alloc, parts) {
-        Ok(stream) => store_packed(alloc, out, parts, &stream, roles, folder),
-        Err(BlocksEnd::LoadLong(size)) => Verdict::limit(limit_load(alloc, size)),
-        Err(BlocksEnd::Memory) => Verdict::Memory,
     }
 }
 

@@ -16,10 +16,9 @@ pub(crate) struct Rest<'w> {
 }
 
 /// How the parts of the next package are had, by the folders after it.
-pub(crate) fn source_of(last: Source, others: WordsIter<'_>) -> Source
+pub(crate) fn source_of(last: Source, mut others: WordsIter<'_>) -> Source
     ensures { result ≡ source_before last (words_left others.entry) }
 {
-    let mut others = others;
     match others.next() {
         Some(_) => Source::Components,
         None => last,

@@ -1,17 +1,14 @@
-ghost use Rattle.std.specs.Prelude.{◌≡◌, ◌≤◌, Some, None, MatchResult, IfOk, IfErr, OnErr, length, map, string_bytes};
+ghost use Rattle.std.specs.Prelude.{◌≡◌, ◌≤◌, Some, None, MatchResult, IfOk, IfErr, OnErr, map, string_bytes};
 ghost use Rattle.card_verify.specs.Answers.{AreAccepted};
-ghost use Rattle.cap_text.specs.Line.{not_started_line, refused_card_line};
-ghost use Rattle.cap_text.specs.Room.{HasRoom, IsEmpty, Writes};
+ghost use Rattle.cap_text.specs.Room.{HasRoom, IsEmpty};
 ghost use Rattle.cap_text.specs.Run.{run_request};
 ghost use Rattle.cap_text.specs.Word.{argument_read};
 ghost use Rattle.vm_offend.specs.Begun.{IsBegun};
 ghost use Rattle.vm_offend.specs.Held.{IsRunOf};
-ghost use Rattle.vm_offend.specs.Sized.{AreSized, static_cells};
+ghost use Rattle.vm_offend.specs.Sized.{static_cells};
 ghost use Rattle.vm_step.specs.declared.ending.Ending.TheVariants as endings;
 ghost use Rattle.vm_store.specs.Cells.{words};
-ghost use Rattle.vm_text.specs.Left.{left_by};
-ghost use Rattle.vm_text.specs.Lent.{lent_state, IsLentRun};
-ghost use Rattle.vm_text.specs.Text.{left_text, most_text};
+ghost use Rattle.vm_text.specs.Text.{most_text};
 ghost use Rattle.xf_share.specs.Ends.{HaveCardTypings};
 ghost use Rattle.capcheck_core.specs.Defend.{method_entered, run_fault};
 ghost use Rattle.capcheck_core.specs.LentCard.{IsSameCard, words_of};
@@ -25,7 +22,7 @@ use crate::typing::number_of;
 use crate::verdict::Verdict;
 use cap_files::Folder;
 use cap_package::Packages;
-use cap_text::{MethodNumber, Room, Run, write_not_started, write_refused_card};
+use cap_text::{Room, Run, write_not_started, write_refused_card};
 use card_typing::CardFault;
 use card_verify::{Accepted, CardRoom, accept};
 use jc_base::World;
@@ -88,65 +85,23 @@ pub(crate) enum RunStop {
     NotStarted(StartFault),
 }
 
-/// Verifies all packages of a world as a card does, and runs an entry of the last one in the memory of the card. What a
-/// run needs of other memory, for its arguments and its text, is taken before.
-pub(crate) fn run_in_card(
-    alloc: Global,
-    world: &World<'_>,
-    run: Bounded<'_>,
-    card: &mut Card<'_>,
-) -> Verdict
+// Verifies all packages of a world as a card does, and runs an entry of the last one in the memory of the card. What a
+// run needs of other memory, for its arguments and its text, is taken before. From there on nothing can run out of memory.
+fn run_in_card(alloc: Global, world: &World<'_>, run: Bounded<'_>, card: &mut Card<'_>) -> Verdict
     requires lengths { HasLengths (words_of card.old) }
     ensures runs { RunsWorldIn world.now (bounded_request run.entry) (words_of card.new) result }
     ensures kept { IsCardKept (words_of card.old) (words_of card.new) result }
     ensures same { IsSameCard card.old card.new }
 {
-    match lent(alloc, &run.run.args) {
-        Ok(args) => with_arguments(alloc, world, &run, &args, card),
-        Err(_) => Verdict::Memory,
-    }
-}
-
-// Takes the room of the text, and runs the entry with these arguments.
-fn with_arguments(
-    alloc: Global,
-    world: &World<'_>,
-    run: &Bounded<'_>,
-    args: &Args<'_>,
-    card: &mut Card<'_>,
-) -> Verdict
-    requires lengths { HasLengths (words_of card.old) }
-    requires handed { args.now ≡ map argument_read run.now.run.now.args.items }
-    ensures runs { RunsWorldIn world.now (bounded_request run.now) (words_of card.new) result }
-    ensures kept { IsCardKept (words_of card.old) (words_of card.new) result }
-    ensures same { IsSameCard card.old card.new }
-{
-    match room(alloc, world) {
-        Ok(text) => with_room(world, run, args, text, card),
-        Err(_) => Verdict::Memory,
-    }
-}
-
-// The same with the room of the text. From here on nothing can run out of memory.
-fn with_room(
-    world: &World<'_>,
-    run: &Bounded<'_>,
-    args: &Args<'_>,
-    text: Room,
-    card: &mut Card<'_>,
-) -> Verdict
-    requires lengths { HasLengths (words_of card.old) }
-    requires handed { args.now ≡ map argument_read run.now.run.now.args.items }
-    requires empty { IsEmpty text }
-    requires room { HasRoom text (most_text world.now) }
-    ensures runs { RunsWithMemory world.now (bounded_request run.now) (words_of card.new) result }
-    ensures kept { IsCardKept (words_of card.old) (words_of card.new) result }
-    ensures same { IsSameCard card.old card.new }
-{
-    let mut text = text;
-    match run_verified(world, run, args, &mut text, card) {
+    let Ok(args) = lent(alloc, &run.run.args) else {
+        return Verdict::Memory;
+    };
+    let Ok(mut text) = room(alloc, world) else {
+        return Verdict::Memory;
+    };
+    match run_verified(world, &run, &args, &mut text, card) {
         Ok(()) => Verdict::Done(text.into_text()),
-        Err(stop) => not_run(world, run, stop, text),
+        Err(stop) => not_run(world, &run, stop, text),
     }
 }
 
@@ -158,35 +113,18 @@ fn not_run(world: &World<'_>, run: &Bounded<'_>, stop: RunStop, text: Room) -> V
     requires room { HasRoom text (most_text world.now) }
     ensures { (c : CardWords) → RunsWithMemory world.now (bounded_request run.now) c result }
 {
+    let mut text = text;
     match stop {
         RunStop::Refused(method, fault) => {
             let _code = world.code(method);
-            Verdict::Refused(refusal_line(text, number_of(world, method), fault))
+            write_refused_card(&mut text, number_of(world, method), fault);
+            Verdict::Refused(text.into_text())
         }
-        RunStop::NotStarted(fault) => Verdict::Malformed(unstarted_line(text, fault)),
+        RunStop::NotStarted(fault) => {
+            write_not_started(&mut text, fault);
+            Verdict::Malformed(text.into_text())
+        }
     }
-}
-
-// The line for a method that is refused.
-fn refusal_line(text: Room, method: MethodNumber, fault: CardFault) -> String
-    requires empty { IsEmpty text }
-    requires room { HasRoom text 123 }
-    ensures { string_bytes result ≡ refused_card_line method fault }
-{
-    let mut text = text;
-    write_refused_card(&mut text, method, fault);
-    text.into_text()
-}
-
-// The line for an entry that does not start.
-fn unstarted_line(text: Room, fault: StartFault) -> String
-    requires empty { IsEmpty text }
-    requires room { HasRoom text 48 }
-    ensures { string_bytes result ≡ not_started_line fault }
-{
-    let mut text = text;
-    write_not_started(&mut text, fault);
-    text.into_text()
 }
 
 /// Runs an entry that begins, of a world whose methods with code have card typings, in the memory of the card, and gives the
@@ -239,43 +177,20 @@ fn run_verified(
 {
     let mut room = CardRoom::new();
     match accept(world, &mut room) {
-        Ok(accepted) => run_accepted(&accepted, run, args, text, card),
+        Ok(accepted) => match method_entered(world, run.run.entry) {
+            Some(number) => run_entry(
+                &accepted,
+                run,
+                number,
+                args,
+                text,
+                card.ram,
+                card.heap,
+                card.statics,
+            ),
+            None => Err(RunStop::NotStarted(StartFault::NoEntry)),
+        },
         Err((method, fault)) => Err(RunStop::Refused(method, fault)),
-    }
-}
-
-// The same over the accepted world.
-fn run_accepted(
-    accepted: &Accepted<'_>,
-    run: &Bounded<'_>,
-    args: &Args<'_>,
-    text: &mut Room,
-    card: &mut Card<'_>,
-) -> Result<(), RunStop>
-    requires accepted { AreAccepted accepted.now }
-    requires lengths { HasLengths (words_of card.old) }
-    requires handed { args.now ≡ map argument_read run.now.run.now.args.items }
-    requires empty { IsEmpty text.old }
-    requires room { HasRoom text.old (most_text accepted.now) }
-    ensures runs { MatchResult result
-        (λ _. IsRun accepted.now (bounded_request run.now) (words_of card.new) text.new.text)
-        (StopsRun accepted.now (bounded_request run.now)) }
-    ensures kept { OnErr result (words_of card.new ≡ words_of card.old) }
-    ensures room { IfErr result (λ _. text.new ≡ text.old) }
-    ensures same { IsSameCard card.old card.new }
-{
-    match method_entered(accepted.world(), run.run.entry) {
-        Some(number) => run_entry(
-            accepted,
-            run,
-            number,
-            args,
-            text,
-            card.ram,
-            card.heap,
-            card.statics,
-        ),
-        None => Err(RunStop::NotStarted(StartFault::NoEntry)),
     }
 }
 
@@ -304,7 +219,13 @@ fn run_entry(
 {
     let count = field_words(accepted.world());
     let (fields, _others) = statics.split_at_mut(count);
-    begin(accepted, run, number, args, text, ram, heap, fields)
+    match start(accepted, number, args, ram, heap, fields) {
+        Ok(machine) => {
+            go_on(accepted, run, number, machine, text, ram, heap, fields);
+            Ok(())
+        }
+        Err(fault) => Err(RunStop::NotStarted(fault)),
+    }
 }
 
 /// How many words the static fields of a world take: not more than a card has for them.
@@ -314,39 +235,6 @@ pub(crate) fn field_words(world: &World<'_>) -> usize
 {
     let _limits = world.classes();
     sizes(world).statics
-}
-
-// Begins the run of the method of a number in memory of the lengths that the world needs, and goes on with it.
-fn begin(
-    accepted: &Accepted<'_>,
-    run: &Bounded<'_>,
-    number: u16,
-    args: &Args<'_>,
-    text: &mut Room,
-    ram: &mut [u16],
-    heap: &mut [u16],
-    statics: &mut [u16],
-) -> Result<(), RunStop>
-    requires accepted { AreAccepted accepted.now }
-    requires entered { method_entered accepted.now run.now.run.now.entry ≡ Some number }
-    requires sized { AreSized accepted.now ram.old heap.old statics.old }
-    requires handed { args.now ≡ map argument_read run.now.run.now.args.items }
-    requires empty { IsEmpty text.old }
-    requires room { HasRoom text.old (most_text accepted.now) }
-    ensures runs { MatchResult result
-        (λ _. IsRun accepted.now (bounded_request run.now) (card_words ram.new heap.new statics.new) text.new.text)
-        (StopsRun accepted.now (bounded_request run.now)) }
-    ensures length { length statics.new ≡ length statics.old }
-    ensures kept { OnErr result (card_words ram.new heap.new statics.new ≡ card_words ram.old heap.old statics.old) }
-    ensures room { IfErr result (λ _. text.new ≡ text.old) }
-{
-    match start(accepted, number, args, ram, heap, statics) {
-        Ok(machine) => {
-            go_on(accepted, run, number, machine, text, ram, heap, statics);
-            Ok(())
-        }
-        Err(fault) => Err(RunStop::NotStarted(fault)),
-    }
 }
 
 // Takes the steps of a run that has begun, and writes what comes of it.
@@ -369,33 +257,8 @@ fn go_on(
 {
     let mut machine = machine;
     let ending = machine.run(accepted, ram, heap, statics, run.steps);
-    texts_are_alike(accepted.world());
-    write_left(
-        text,
-        accepted.world(),
-        accepted,
-        machine,
-        heap,
-        statics,
-        ending,
-    );
-}
-
-// Writes what a run left that ended so.
-fn write_left(
-    text: &mut Room,
-    world: &World<'_>,
-    accepted: &Accepted<'_>,
-    machine: Machine,
-    heap: &[u16],
-    statics: &[u16],
-    ending: Plain,
-)
-    requires left { IsLentRun world.now accepted.now heap.now statics.now machine.counts }
-    requires room { HasRoom text.old (most_text world.now) }
-    ensures { Writes text.old text.new
-        (left_text (left_by words world.now (lent_state heap.now statics.now machine.counts)) (endings.Plain ending)) }
-{
+    let world = accepted.world();
+    texts_are_alike(world);
     let left = LentRun {
         machine,
         accepted,

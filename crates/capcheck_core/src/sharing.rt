@@ -1,4 +1,3 @@
-ghost use Rattle.jc_link.specs.World.{IsLinked};
 ghost use Rattle.xf_share.specs.Ends.{TellsOf};
 ghost use Rattle.xf_share.specs.Shared.{IsSharedFrom};
 ghost use Rattle.capcheck_core.specs.Share.{SharesIn, StopsSharing};
@@ -37,30 +36,15 @@ impl LastStep for ShareStep<'_> {
         folder: &mut F,
         _card: &mut Card<'_>,
     ) -> Verdict {
-        share_last(alloc, self.asked.out, packages, roles, world, folder)
+        let out = self.asked.out;
+        match share_linked(alloc, packages, roles, world) {
+            Ok(fewer) => store_shared(alloc, out, packages, roles, world, &fewer, folder),
+            Err(end) => unshared(alloc, packages, world, end),
+        }
     }
 }
 
-// Lets the methods of the last package of a world share registers, and stores the package in a folder. Nothing is stored before all
-// parts and the text are made.
-fn share_last<F: Folder>(
-    alloc: Global,
-    out: &str,
-    packages: &Packages<'_, '_>,
-    roles: [u8; 8],
-    world: &World<'_>,
-    folder: &mut F,
-) -> Verdict
-    requires { IsLinked packages.now roles world.now }
-    ensures { SharesIn packages.now roles world.now out.now (F.folders folder.old) (F.folders folder.new) result }
-{
-    match share_linked(alloc, packages, roles, world) {
-        Ok(fewer) => store_shared(alloc, out, packages, roles, world, &fewer, folder),
-        Err(end) => unshared(alloc, packages, world, end),
-    }
-}
-
-// Stores the parts that stand for the last package.
+// Stores the parts that stand for the last package. Nothing is stored before all parts and the text are made.
 fn store_shared<F: Folder>(
     alloc: Global,
     out: &str,

@@ -1,6 +1,6 @@
 //! The parts of a package in the Load file of its folder.
 ghost use Rattle.std.specs.Prelude.{ℕ, List};
-ghost use Rattle.capcheck_core.specs.PackageEnds.{FinishesStream, HasTaken, LoadsStream, PackagesLeave, TakesStream};
+ghost use Rattle.capcheck_core.specs.PackageEnds.{FinishesStream, HasTaken, LoadsStream, PackagesLeave};
 
 use crate::beside::load_wanted;
 use crate::folder_fault::FolderFault;
@@ -24,18 +24,9 @@ pub(crate) fn load_stream<F: Folder>(
     ensures loads { LoadsStream (F.folders folder.old) (F.folders folder.new) dir.now number result }
     ensures folders { PackagesLeave (F.folders folder.old) (F.folders folder.new) result }
 {
-    match load_wanted(alloc, folder, dir, LOAD, number) {
-        Ok(stream) => take_stream(alloc, &stream, number),
-        Err(stop) => Err(stop),
-    }
-}
-
-// A loader that took these bytes.
-fn take_stream(alloc: Global, stream: &[u8], number: u16) -> Result<Loader, PackagesStop>
-    ensures { TakesStream stream.now number result }
-{
+    let stream = load_wanted(alloc, folder, dir, LOAD, number)?;
     let mut loader = Loader::new(alloc, ROOM)?;
-    match loader.feed(stream) {
+    match loader.feed(&stream) {
         Ok(()) => Ok(loader),
         Err(fault) => Err(PackagesStop::Malformed(number, FolderFault::Stream(fault))),
     }

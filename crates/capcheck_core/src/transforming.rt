@@ -1,6 +1,5 @@
 ghost use Rattle.std.specs.Prelude.{◌≡◌, IfOk, string_bytes};
 ghost use Rattle.std.specs.Option.{option_copied};
-ghost use Rattle.jc_link.specs.World.{IsLinked};
 ghost use Rattle.xf_pack.specs.Ends.{TellsOf};
 ghost use Rattle.xf_pack.specs.Transformed.{IsTransformed};
 ghost use Rattle.capcheck_core.specs.Transform.{roles_beside, limit_line, StopsBefore, TransformsIn};
@@ -42,30 +41,15 @@ impl LastStep for TransformStep<'_> {
         folder: &mut F,
         _card: &mut Card<'_>,
     ) -> Verdict {
-        transform_last(alloc, self.asked.out, packages, roles, world, folder)
+        let out = self.asked.out;
+        match transform_linked(alloc, packages, roles, world) {
+            Ok(parts) => store_last(alloc, out, packages, roles, world, &parts, folder),
+            Err(end) => untransformed(alloc, packages, world, end),
+        }
     }
 }
 
-/// Brings the last package of a world into the form that a verifier on the card accepts, and stores it in a folder. Nothing
-/// is stored before all parts and the text are made.
-pub(crate) fn transform_last<F: Folder>(
-    alloc: Global,
-    out: &str,
-    packages: &Packages<'_, '_>,
-    roles: [u8; 8],
-    world: &World<'_>,
-    folder: &mut F,
-) -> Verdict
-    requires { IsLinked packages.now roles world.now }
-    ensures { TransformsIn packages.now roles world.now out.now (F.folders folder.old) (F.folders folder.new) result }
-{
-    match transform_linked(alloc, packages, roles, world) {
-        Ok(parts) => store_last(alloc, out, packages, roles, world, &parts, folder),
-        Err(end) => untransformed(alloc, packages, world, end),
-    }
-}
-
-// Stores the parts that stand for the last package.
+// Stores the parts that stand for the last package. Nothing is stored before all parts and the text are made.
 fn store_last<F: Folder>(
     alloc: Global,
     out: &str,

@@ -50,6 +50,7 @@ impl LastStep for TrialStep<'_> {
 
     ghost own = { λ s. TriesWorld (run_request s.run.now) };
 
+    #[tactic(auto, using(crate::proofs::Trials::untried_there))]
     fn take<F: Folder>(
         &self,
         alloc: Global,
@@ -59,43 +60,23 @@ impl LastStep for TrialStep<'_> {
         _folder: &mut F,
         card: &mut Card<'_>,
     ) -> Verdict {
-        try_last(alloc, packages, roles, world, self.run, card)
-    }
-}
-
-/// Brings the last package of a world into the form that a verifier on the card accepts. Runs an entry of its source on the
-/// machine that tests what it does, and then the same entry of the new package in the memory of the card.
-#[tactic(auto, using(crate::proofs::Trials::untried_there))]
-pub(crate) fn try_last(
-    alloc: Global,
-    packages: &Packages<'_, '_>,
-    roles: [u8; 8],
-    world: &World<'_>,
-    run: &Run<'_>,
-    card: &mut Card<'_>,
-) -> Verdict
-    requires lengths { HasLengths (words_of card.old) }
-    requires linked { IsLinked packages.now roles world.now }
-    ensures tries { TriesIn packages.now roles world.now (run_request run.now) (words_of card.new) result }
-    ensures kept { IsUntriedKept packages.now roles world.now (run_request run.now)
-        (words_of card.old) (words_of card.new) result }
-    ensures same { IsSameCard card.old card.new }
-{
-    match transform_linked(alloc, packages, roles, world) {
-        Ok(parts) => {
-            let made = Made {
-                packages,
-                roles,
-                world,
-                parts: &parts,
-            };
-            try_made(alloc, &made, run, card)
+        match transform_linked(alloc, packages, roles, world) {
+            Ok(parts) => {
+                let made = Made {
+                    packages,
+                    roles,
+                    world,
+                    parts: &parts,
+                };
+                try_made(alloc, &made, self.run, card)
+            }
+            Err(end) => untransformed(alloc, packages, world, end),
         }
-        Err(end) => untransformed(alloc, packages, world, end),
     }
 }
 
-// The same with the parts of the new package. Its source is run first.
+// Runs an entry of the source on the machine that tests what it does, and then the same entry of the new package in the memory
+// of the card.
 #[tactic(auto, using(crate::proofs::Trials::untried_there))]
 fn try_made(
     alloc: Global,
@@ -189,8 +170,7 @@ fn run_new(
 {
     starts_refuse_alike(made.world);
     let steps = STEPS_EACH * u64::from(run.budget);
-    let bounded = Bounded { run, steps };
-    match run_carded(alloc, new, bounded, card) {
+    match run_carded(alloc, new, Bounded { run, steps }, card) {
         Ok(target) => Verdict::done(tried(alloc, source, target.as_str())),
         Err(_) => Verdict::Memory,
     }

@@ -1,6 +1,5 @@
-ghost use Rattle.std.specs.Prelude.{◌≡◌, ◌≤◌, ◌+◌, ◌∷◌, length};
+ghost use Rattle.std.specs.Prelude.{◌≤◌, ◌+◌, ◌∷◌, length};
 ghost use Rattle.cap_files.specs.WordsLeft.{words_left};
-ghost use Rattle.capcheck_core.specs.declared.source.Source.TheVariants.{Components, LoadFile};
 ghost use Rattle.capcheck_core.specs.LentCard.{IsSameCard, words_of};
 ghost use Rattle.capcheck_core.specs.Outside.{outside};
 ghost use Rattle.capcheck_core.specs.OverFolders.{OverFolders, OverPlaces};
@@ -113,60 +112,19 @@ fn over_rest<'k, 'c, S: LastStep, F: Folder>(
         (outside (F.folders folder.new) (words_of card.new)) result }
     ensures same { IsSameCard card.old card.new }
 {
+    let number = packages.len() as u16;
     match source_of(rest.last, rest.others) {
-        Source::Components => over_components(alloc, step, rest, packages, folder, card),
-        Source::LoadFile => over_load_file(alloc, step, rest, packages, folder, card),
+        Source::Components => {
+            let files = load_files(alloc, folder, rest.dir, number)?;
+            let parts = files.lend(alloc)?;
+            over_parts(alloc, step, rest, packages, &parts, folder, card)
+        }
+        Source::LoadFile => {
+            let loader = load_stream(alloc, folder, rest.dir, number)?;
+            let parts = parts_in(alloc, &loader, number)?;
+            over_parts(alloc, step, rest, packages, &parts, folder, card)
+        }
     }
-}
-
-// The same where the parts in the next folder are components.
-#[cycle(folders)]
-fn over_components<'k, 'c, S: LastStep, F: Folder>(
-    alloc: Global,
-    step: &S,
-    rest: Rest<'_>,
-    packages: Packages<'_, '_>,
-    folder: &mut F,
-    card: &'k mut Card<'c>,
-) -> Result<Verdict, PackagesStop>
-    requires few { length packages + length (words_left rest.others) ≤ 15 }
-    requires begun { GivenAfterFirst rest.roles (length packages) }
-    requires source { source_before rest.last (words_left rest.others) ≡ Components }
-    requires lengths { HasLengths (words_of card.old) }
-    ensures answers { GoesOver (S.own step.now) (places rest.entry.last (rest.entry.dir.now ∷ words_left rest.entry.others))
-        packages.entry rest.entry.roles
-        (outside (F.folders folder.old) (words_of card.old))
-        (outside (F.folders folder.new) (words_of card.new)) result }
-    ensures same { IsSameCard card.old card.new }
-{
-    let files = load_files(alloc, folder, rest.dir, packages.len() as u16)?;
-    let parts = files.lend(alloc)?;
-    over_parts(alloc, step, rest, packages, &parts, folder, card)
-}
-
-// The same where they stand in its Load file.
-#[cycle(folders)]
-fn over_load_file<'k, 'c, S: LastStep, F: Folder>(
-    alloc: Global,
-    step: &S,
-    rest: Rest<'_>,
-    packages: Packages<'_, '_>,
-    folder: &mut F,
-    card: &'k mut Card<'c>,
-) -> Result<Verdict, PackagesStop>
-    requires few { length packages + length (words_left rest.others) ≤ 15 }
-    requires begun { GivenAfterFirst rest.roles (length packages) }
-    requires source { source_before rest.last (words_left rest.others) ≡ LoadFile }
-    requires lengths { HasLengths (words_of card.old) }
-    ensures answers { GoesOver (S.own step.now) (places rest.entry.last (rest.entry.dir.now ∷ words_left rest.entry.others))
-        packages.entry rest.entry.roles
-        (outside (F.folders folder.old) (words_of card.old))
-        (outside (F.folders folder.new) (words_of card.new)) result }
-    ensures same { IsSameCard card.old card.new }
-{
-    let loader = load_stream(alloc, folder, rest.dir, packages.len() as u16)?;
-    let parts = parts_in(alloc, &loader, packages.len() as u16)?;
-    over_parts(alloc, step, rest, packages, &parts, folder, card)
 }
 
 // The same where the parts of the next package are loaded.

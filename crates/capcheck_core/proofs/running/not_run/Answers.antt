@@ -1,5 +1,5 @@
 -- the line of the first reason
-use Rattle.std.proofs.Common.{subst}
+use Rattle.std.proofs.Common.{rules, subst}
 use Rattle.capcheck_core.specs.Run.{bounded_request}
 use Rattle.capcheck_core.specs.Run.{StopsRun}
 use Rattle.xf_last.proofs.Passing.{all-carded}
@@ -11,7 +11,7 @@ returns-in-Refused c =
     let w = c.args.world.now in
     let first = subst (StopsRun w (bounded_request c.args.run.now)) c.in-Refused.is c.requires.stops in
     λ card. first_uncarded w c.in-Refused.method c.in-Refused.fault c.code-code.result.now c.number_of.result _ first c.code-code.ensures.is
-    c.code-code.ensures.len c.number_of.ensures c.refusal_line.ensures
+    c.code-code.ensures.len c.number_of.ensures (search rules)
 
 pub returns-in-NotStarted : goal.returns-in-NotStarted
 returns-in-NotStarted c =
@@ -19,5 +19,5 @@ returns-in-NotStarted c =
     let stops = subst (StopsRun w (bounded_request c.args.run.now)) c.in-NotStarted.is c.requires.stops in
     λ card. record {
       carded = all-carded w stops.0;
-      unbegun = record { fault = c.in-NotStarted.fault; first = stops.1; prints = c.unstarted_line.ensures };
+      unbegun = record { fault = c.in-NotStarted.fault; first = stops.1; prints = search rules };
     }

@@ -2,5 +2,5 @@
 use Rattle.capcheck_core.proofs.Packs.{all_framed}
 use Rattle.capcheck_core.proofs.packing.PackStepPackageStep.take.Goals as goal
 
-pub pack_parts-requires : goal.pack_parts-requires
-pack_parts-requires g c = all_framed c.args.parts.now c.args._read.now c.requires.stands c.requires.loaded
+pub blocks-requires : goal.blocks-requires
+blocks-requires g c = all_framed c.args.parts.now c.args._read.now c.requires.stands c.requires.loaded

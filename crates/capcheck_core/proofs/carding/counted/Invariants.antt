@@ -1,6 +1,6 @@
 use Rattle.std.proofs.Common.{◌≡◌, ◌≤◌, take, count_by}
 use Rattle.cap_index.specs.Indexes.{has_code}
-use Rattle.capcheck_core.proofs.carding.count_of_world.Given as goal
+use Rattle.capcheck_core.proofs.carding.counted.Given as goal
 
 abbrev pub invariant-methods : goal.invariant-methods
 invariant-methods l = record {
