@@ -8,27 +8,13 @@ use std::alloc::{AllocError, Global};
 /// How many methods there are.
 pub(crate) const COUNT: u8 = 200;
 
-/// The first constant in the code of a method.
-fn first_constant(seed: u32, number: u8) -> u8
-    ensures { result ≡ (seed + number) % 100 }
-{
-    ((u64::from(seed) + u64::from(number)) % 100) as u8
-}
-
-/// The second.
-fn second_constant(seed: u32, number: u8) -> u8
-    ensures { result ≡ (seed + 2 * number) % 100 }
-{
-    ((u64::from(seed) + 2 * u64::from(number)) % 100) as u8
-}
-
 /// Appends the header and the code of a method.
 #[tactic(auto, using(crate::proofs::ByKind::bytes_by_kind))]
 fn put_method(seed: u32, number: u8, out: &mut Vec<u8>) -> Result<(), AllocError>
     ensures { OnOk result (out.new.items ≡ out.old.items ++ method_bytes seed number) }
 {
-    let c = first_constant(seed, number);
-    let d = second_constant(seed, number);
+    let c = ((u64::from(seed) + u64::from(number)) % 100) as u8;
+    let d = ((u64::from(seed) + 2 * u64::from(number)) % 100) as u8;
     match number % 4 {
         0 => out.extend_from_slice(&[
             0x02, 0x20, 0x1C, 0x1D, 0x60, 6, 0x10, c, 0x70, 4, 0x10, d, 0x41, 0x78,
