@@ -1,6 +1,6 @@
 -- std's `parse` reads each word that the grammar allows, and a comparison of texts that fails
 -- tells two lists apart.
-use Rattle.std.proofs.Common.{◌≡◌, ◌≢◌, ℕ, ◌<◌, ◌≤◌, ◌^◌, ℤ, pos, negsuc, FitsSigned, List, [], ◌∷◌, length, Bor, ap, subst}
+use Rattle.std.proofs.Common.{◌≡◌, ◌≢◌, ℕ, ◌<◌, ◌≤◌, ◌^◌, ℤ, pos, negsuc, FitsSigned, List, ◌∷◌, length, Bor, ap, subst}
 use Rattle.std.proofs.Common.{drop, get_or, false, eqb, sym, ◌∙◌, arith, rules, w32, to_z, of_z, true≢false}
 use Rattle.std.specs.Prelude.{Result, Ok, Err, Option, MatchOption, IfSome, IfNone, IsTrue, codes, decimal}
 use Rattle.std.specs.Fmt.{signed_decimal}

@@ -1,4 +1,4 @@
-ghost use Rattle.cap_text.specs.Card.{bad_index_text, card_kind_text, card_fault_text};
+ghost use Rattle.cap_text.specs.Card.{card_kind_text, card_fault_text};
 ghost use Rattle.cap_text.specs.Room.{HasRoom, Writes, WritesAtMost};
 
 use crate::bare::{write_bad_target, write_code_end};
@@ -22,19 +22,12 @@ fn write_kind(room: &mut Room, kind: CardKind)
         CardKind::BadTarget(target) => write_bad_target(room, target),
         CardKind::FallsOff => room.write("FallsOff"),
         CardKind::BadHandler(number) => room.write_named("BadHandler", number),
-        CardKind::BadIndex(entry) => write_bad_index(room, entry),
+        CardKind::BadIndex(entry) => {
+            room.write("BadIndex ");
+            room.write_long(u64::from(entry));
+        }
         CardKind::NotIndexed(target) => room.write_named("NotIndexed", target),
     }
-}
-
-// The entry of a target index that names no instruction, or none above that of the entry before it.
-fn write_bad_index(room: &mut Room, entry: u32)
-    requires { HasRoom room.old 29 }
-    ensures writes { Writes room.old room.new (bad_index_text entry) }
-    ensures few { WritesAtMost room.old room.new 29 }
-{
-    room.write("BadIndex ");
-    room.write_long(u64::from(entry));
 }
 
 /// Writes where the verifier on the card refuses a method and why, in at most 81 bytes.

@@ -1,5 +1,4 @@
-ghost use Rattle.std.specs.Prelude.{◌≡◌, [], ◌∷◌, codes};
-ghost use Rattle.std.specs.List.{concat};
+ghost use Rattle.std.specs.Prelude.{◌≡◌};
 ghost use Rattle.cap_text.specs.Room.{HasRoom, Writes, WritesAtMost};
 ghost use Rattle.cap_text.specs.Ending.{value_text, plain_text, fault_name, ending_line, static_line, kind_name, array_head, element_text};
 
@@ -63,16 +62,6 @@ fn fault_name(fault: Fault) -> &'static str
     }
 }
 
-// How a run ends that a fault ends.
-fn write_fault(room: &mut Room, fault: Fault)
-    requires { HasRoom room.old 11 }
-    ensures writes { Writes room.old room.new (concat (codes "fault " ∷ fault_name fault ∷ [])) }
-    ensures few { WritesAtMost room.old room.new 11 }
-{
-    room.write("fault ");
-    room.write(fault_name(fault));
-}
-
 /// Writes the line for how a run ends, in at most 34 bytes.
 pub fn write_ending(room: &mut Room, ending: Ending)
     requires { HasRoom room.old 34 }
@@ -81,7 +70,10 @@ pub fn write_ending(room: &mut Room, ending: Ending)
 {
     match ending {
         Ending::Plain(plain) => write_plain(room, plain),
-        Ending::Faulted(fault) => write_fault(room, fault),
+        Ending::Faulted(fault) => {
+            room.write("fault ");
+            room.write(fault_name(fault));
+        }
     }
     room.write("\n");
 }

@@ -17,18 +17,10 @@ impl Entry {
         ensures found { IfSome result (λ e. IsEntryWord word.now e) }
         ensures none { IfNone result ((e : Entry) → IsEntryWord word.now e → ⊥) }
     {
-        let Some((class_no, method_no)) = word.split_once('.') else {
-            return None;
-        };
-        let Some(class_no) = short_number(class_no) else {
-            return None;
-        };
-        let Some(method_no) = short_number(method_no) else {
-            return None;
-        };
+        let (class_no, method_no) = word.split_once('.')?;
         Some(Entry {
-            class_no,
-            method_no,
+            class_no: short_number(class_no)?,
+            method_no: short_number(method_no)?,
         })
     }
 }

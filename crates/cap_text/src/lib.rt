@@ -6,7 +6,6 @@
 mod asm_line;
 mod at_entry;
 mod bare;
-mod bound_line;
 mod card;
 mod command;
 mod ending;
@@ -20,41 +19,35 @@ mod of_dir;
 mod of_dirs;
 mod out_of_dir;
 mod out_of_dirs;
-mod pack_line;
 mod printed;
 mod probe;
 mod room;
 mod rule;
 mod run;
-mod share_line;
 mod start;
 mod table;
 mod transform_line;
-mod trial;
 mod word;
 
 pub use asm_line::{assembled, not_assembled};
 pub use at_entry::AtEntry;
-pub use bound_line::{bounded, cycle};
 pub use command::{Command, read_command};
 pub use ending::{write_array_head, write_element, write_ending, write_static};
 pub use entry::Entry;
 pub use fault::Shown;
 pub use generate::{Generate, generated};
 pub use line::{
-    MethodNumber, accepted, bare_ending, malformed, malformed_stream, not_linked, not_started,
-    refused_bare, refused_card, refused_flow, typed, write_not_started, write_refused_card,
+    MethodNumber, accepted, bare_ending, bounded, cycle, limit_load, malformed, malformed_stream,
+    not_linked, not_started, packed, refused_bare, refused_card, refused_flow, shared, tried,
+    typed, write_not_started, write_refused_card,
 };
 pub use of_dir::OfDir;
 pub use of_dirs::OfDirs;
 pub use out_of_dir::OutOfDir;
 pub use out_of_dirs::OutOfDirs;
-pub use pack_line::{limit_load, packed};
 pub use probe::Probe;
 pub use room::Room;
 pub use run::Run;
-pub use share_line::shared;
 pub use table::component_table;
 pub use transform_line::{limit_code, limit_part, limit_registers, limit_stack, transformed};
-pub use trial::tried;
 pub use word::{OwnedArg, argument, folder_word, folder_words, number};

@@ -1,7 +1,9 @@
-ghost use Rattle.std.specs.Prelude.{◌≡◌, ◌≢◌, IfOk, codes, string_bytes};
-ghost use Rattle.jc_flow.specs.declared.end.FlowEnd.TheVariants.{Memory};
-ghost use Rattle.cap_text.specs.Line.{malformed_line, malformed_stream_line, not_linked_line, not_started_line, refused_bare_line, methods_line, method_text, refused_flow_line, refused_card_line, bare_ending_line};
+ghost use Rattle.std.specs.Prelude.{◌≡◌, IfOk, codes, string_bytes};
+ghost use Rattle.cap_text.specs.Line.{malformed_line, malformed_stream_line, not_linked_line, not_started_line, refused_bare_line, methods_line, method_text, refused_flow_line, refused_card_line, bare_ending_line, bound_line, cycle_line};
 ghost use Rattle.cap_text.specs.Room.{HasRoom, Writes, WritesAtMost};
+ghost use Rattle.cap_text.specs.Shared.{shared_line};
+ghost use Rattle.cap_text.specs.Trial.{trial_text};
+ghost use Rattle.cap_text.specs.Packed.{packed_line, load_limit_line};
 
 use crate::bare::write_bare_kind;
 use crate::card::write_card_fault;
@@ -122,22 +124,15 @@ pub fn refused_flow(alloc: Global, method: MethodNumber, end: FlowEnd) -> Result
     let mut room = Room::new(alloc, MOST_REFUSED)?;
     match end {
         FlowEnd::Memory => {}
-        _ => write_refused_flow(&mut room, method, end),
+        _ => {
+            room.write("refused ");
+            write_method(&mut room, method);
+            room.write(" ");
+            write_flow_end(&mut room, end);
+            room.write("\n");
+        }
     }
     Ok(room.into_text())
-}
-
-// The line for a method without a dataflow typing.
-fn write_refused_flow(room: &mut Room, method: MethodNumber, end: FlowEnd)
-    requires room { HasRoom room.old 123 }
-    requires known { end ≢ Memory }
-    ensures { Writes room.old room.new (refused_flow_line method end) }
-{
-    room.write("refused ");
-    write_method(room, method);
-    room.write(" ");
-    write_flow_end(room, end);
-    room.write("\n");
 }
 
 /// The line for packages whose methods with code, of which there are `count`, all have a card typing.
@@ -180,4 +175,48 @@ pub fn bare_ending(alloc: Global, end: BareEnd) -> Result<String, AllocError>
         BareEnd::Returned(value) => format!(in alloc; "returned short {value}\n"),
         BareEnd::Spent => format!(in alloc; "spent\n"),
     }
+}
+
+/// The line for a package whose methods with code, of which there are `count`, had so many registers beside their arguments,
+/// and now have fewer or as many.
+pub fn shared(alloc: Global, count: u16, before: u32, after: u32) -> Result<String, AllocError>
+    ensures { IfOk result (λ t. string_bytes t ≡ shared_line count before after) }
+{
+    format!(in alloc; "shared {count} methods {before} to {after} registers\n")
+}
+
+/// The text for a run of a package, of which `source` tells, and one of the package in the form that a verifier on the card
+/// accepts, of which `target` tells.
+pub fn tried(alloc: Global, source: &str, target: &str) -> Result<String, AllocError>
+    ensures { IfOk result (λ t. string_bytes t ≡ trial_text source.now target.now) }
+{
+    format!(in alloc; "source\n{source}target\n{target}")
+}
+
+/// The line for an entry whose runs take so many words of frames, and so many frames, at most.
+pub fn bounded(alloc: Global, words: u32, frames: u16) -> Result<String, AllocError>
+    ensures { IfOk result (λ t. string_bytes t ≡ bound_line words frames) }
+{
+    format!(in alloc; "bound {words} words {frames} frames\n")
+}
+
+/// The line for an entry from which calls come to a method again, by its numbers in its package's Descriptor.
+pub fn cycle(alloc: Global, class_no: u16, method_no: u16) -> Result<String, AllocError>
+    ensures { IfOk result (λ t. string_bytes t ≡ cycle_line class_no method_no) }
+{
+    format!(in alloc; "cycle method {class_no}.{method_no}\n")
+}
+
+/// The line for a package that is packed into a Load file of so many blocks and bytes.
+pub fn packed(alloc: Global, blocks: usize, bytes: usize) -> Result<String, AllocError>
+    ensures { IfOk result (λ t. string_bytes t ≡ packed_line blocks bytes) }
+{
+    format!(in alloc; "packed {blocks} blocks {bytes} bytes\n")
+}
+
+/// The line for a Load file that would have so many bytes, more than a part may have.
+pub fn limit_load(alloc: Global, size: u32) -> Result<String, AllocError>
+    ensures { IfOk result (λ t. string_bytes t ≡ load_limit_line size) }
+{
+    format!(in alloc; "limit LoadLong {size}\n")
 }

@@ -17,10 +17,6 @@ impl<'a> OfDirs<'a> {
         ensures found { IfSome result (λ d. IsOfDirs (words_left operands.entry) (words_left d.dirs)) }
         ensures none { IfNone result ((dirs : List (List ℕ)) → IsOfDirs (words_left operands.entry) dirs → ⊥) }
     {
-        if folder_words(operands) {
-            Some(OfDirs { dirs: operands })
-        } else {
-            None
-        }
+        folder_words(operands).then_some(OfDirs { dirs: operands })
     }
 }

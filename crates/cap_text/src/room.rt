@@ -39,10 +39,7 @@ impl Room {
         requires { HasRoom self.old (length piece.now) }
         ensures { Writes self.old self.new piece.now }
     {
-        match self.text.push_str(piece) {
-            Ok(()) => {}
-            Err(_) => {}
-        }
+        let _ = self.text.push_str(piece);
     }
 
     /// Writes a number in decimal.

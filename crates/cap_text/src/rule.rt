@@ -1,5 +1,5 @@
 ghost use Rattle.cap_text.specs.Room.{HasRoom, Writes, WritesAtMost};
-ghost use Rattle.cap_text.specs.Rule.{fresh_text, type_text, mismatch_text, rule_fault_text};
+ghost use Rattle.cap_text.specs.Rule.{type_text, rule_fault_text};
 
 use crate::room::Room;
 use jc_base::Ty;
@@ -23,19 +23,12 @@ fn write_type(room: &mut Room, ty: Ty)
         Ty::ArrShort => room.write("array short"),
         Ty::ArrInt => room.write("array int"),
         Ty::ArrRef(class) => room.write_named("array class", class),
-        Ty::Fresh { place, class } => write_fresh(room, place, class),
+        Ty::Fresh { place, class } => {
+            room.write_named("fresh", place);
+            room.write_named(" class", class);
+        }
         Ty::Top => room.write("top"),
     }
-}
-
-// The type of an object on which no constructor was called.
-fn write_fresh(room: &mut Room, place: u16, class: u16)
-    requires { HasRoom room.old 23 }
-    ensures writes { Writes room.old room.new (fresh_text place class) }
-    ensures few { WritesAtMost room.old room.new 23 }
-{
-    room.write_named("fresh", place);
-    room.write_named(" class", class);
 }
 
 /// Writes why the typing rule of an instruction refuses, in at most 69 bytes.
@@ -47,7 +40,12 @@ pub(crate) fn write_rule_fault(room: &mut Room, fault: RuleFault)
     match fault {
         RuleFault::Underflow => room.write("Underflow"),
         RuleFault::Overflow => room.write("Overflow"),
-        RuleFault::Mismatch { found, wanted } => write_mismatch(room, found, wanted),
+        RuleFault::Mismatch { found, wanted } => {
+            room.write("Mismatch found ");
+            write_type(room, found);
+            room.write(" wanted ");
+            write_type(room, wanted);
+        }
         RuleFault::NoLocal(register) => room.write_named("NoLocal", u16::from(register)),
         RuleFault::SplitInt => room.write("SplitInt"),
         RuleFault::FreshKept => room.write("FreshKept"),
@@ -55,16 +53,4 @@ pub(crate) fn write_rule_fault(room: &mut Room, fault: RuleFault)
         RuleFault::NotConcrete(class) => room.write_named("NotConcrete", class),
         RuleFault::StackMerge => room.write("StackMerge"),
     }
-}
-
-// A type that is not below the wanted one.
-fn write_mismatch(room: &mut Room, found: Ty, wanted: Ty)
-    requires { HasRoom room.old 69 }
-    ensures writes { Writes room.old room.new (mismatch_text found wanted) }
-    ensures few { WritesAtMost room.old room.new 69 }
-{
-    room.write("Mismatch found ");
-    write_type(room, found);
-    room.write(" wanted ");
-    write_type(room, wanted);
 }

@@ -1,7 +1,6 @@
-ghost use Rattle.std.specs.Prelude.{◌≡◌, ◌++◌, IfOk, string_bytes, unwrap_or};
+ghost use Rattle.std.specs.Prelude.{◌≡◌, IfOk, string_bytes};
 ghost use Rattle.std.specs.List.{flat_map};
-ghost use Rattle.cap_frame.specs.Directory.{directory_items, size_in};
-ghost use Rattle.cap_frame.specs.Header.{header_items};
+ghost use Rattle.cap_frame.specs.Directory.{directory_items};
 ghost use Rattle.cap_frame.specs.Packages.{package_seen};
 ghost use Rattle.cap_text.specs.Table.{format_name, package_line, component_line, tag_line, component_lines, custom_lines, component_table};
 
@@ -16,24 +15,14 @@ const TAGS: [u8; 12] = [1, 2, 3, 4, 5, 6, 7, 8, 9, 10, 11, 12];
 
 /// The component table of a package: a line for the package, one for each component of the standard
 /// and one for each custom component, with the sizes that the Directory gives.
+#[tactic(auto, unfolding(crate::specs::Table::component_lines))]
 pub fn component_table(alloc: Global, package: &Package<'_, '_>) -> Result<String, AllocError>
     ensures { IfOk result (λ t. string_bytes t ≡ component_table «package».now) }
 {
-    table_of(alloc, &package.header(), package)
-}
-
-fn table_of(
-    alloc: Global,
-    header: &Header<'_>,
-    package: &Package<'_, '_>,
-) -> Result<String, AllocError>
-    ensures { IfOk result (λ t. string_bytes t
-        ≡ (package_line (header_items header.now).format (header_items header.now).package_of ++ component_lines «package».now.directory)
-        ++ custom_lines «package».now.directory) }
-{
+    let header = package.header();
     let mut text = package_line(alloc, header.format(), header.package())?;
-    text.push_str(standard_lines(alloc, package)?.as_str())?;
-    text.push_str(lines_of_customs(alloc, package)?.as_str())?;
+    text.push_str(component_lines(alloc, package, &TAGS)?.as_str())?;
+    text.push_str(custom_lines(alloc, &package.directory())?.as_str())?;
     Ok(text)
 }
 
@@ -59,13 +48,6 @@ fn format_name(format: Format) -> &'static str
     }
 }
 
-#[tactic(auto, unfolding(crate::specs::Table::component_lines))]
-fn standard_lines(alloc: Global, package: &Package<'_, '_>) -> Result<String, AllocError>
-    ensures { IfOk result (λ t. string_bytes t ≡ component_lines «package».now.directory) }
-{
-    component_lines(alloc, package, &TAGS)
-}
-
 fn component_lines(
     alloc: Global,
     package: &Package<'_, '_>,
@@ -75,22 +57,10 @@ fn component_lines(
 {
     let mut text = String::new(alloc);
     'tags: for tag in tags {
-        text.push_str(component_line(alloc, *tag, size_of(package, *tag))?.as_str())?;
+        let size = package.directory().size(*tag).unwrap_or(0);
+        text.push_str(component_line(alloc, *tag, size)?.as_str())?;
     }
     Ok(text)
-}
-
-// The size that the Directory gives a component, and 0 where it gives none.
-fn size_of(package: &Package<'_, '_>, tag: u8) -> u16
-    ensures { result ≡ unwrap_or (size_in «package».now.directory tag) 0 }
-{
-    package.directory().size(tag).unwrap_or(0)
-}
-
-fn lines_of_customs(alloc: Global, package: &Package<'_, '_>) -> Result<String, AllocError>
-    ensures { IfOk result (λ t. string_bytes t ≡ custom_lines «package».now.directory) }
-{
-    custom_lines(alloc, &package.directory())
 }
 
 #[tactic(auto, unfolding(crate::specs::Table::custom_lines))]

@@ -1,5 +1,4 @@
-ghost use Rattle.std.specs.Prelude.{◌≡◌, ◌≢◌, ℕ, ◌<◌, ◌≤◌, ◌^◌, ◌↔◌, List, ◌∷◌, map, length, decimal, Ok, IsTrue, IfOk, IfErr, IfSome, IfNone};
-ghost use Rattle.hex.specs.Hex.{decode_of};
+ghost use Rattle.std.specs.Prelude.{◌≡◌, ◌≢◌, ℕ, ◌<◌, ◌^◌, ◌↔◌, List, ◌∷◌, map, decimal, Ok, IsTrue, IfOk, IfErr, IfSome, IfNone};
 ghost use Rattle.cap_files.specs.WordsLeft.{words_left};
 ghost use Rattle.cap_text.specs.Word.{IsFolderWord, AreFolderWords, IsNumberWord, IsBytesWord, IsArgWord, AreArgWords, argument_read};
 ghost use Rattle.vm_step.specs.Arguments.{Argument, argument_of};
@@ -130,26 +129,18 @@ fn bytes(alloc: Global, digits: &str) -> Result<Option<Vec<u8>>, AllocError>
         return Ok(None);
     }
     match hex::decode(alloc, digits) {
-        Ok(bytes) => if_printed(alloc, digits, bytes),
+        Ok(bytes) => {
+            let printed = hex::encode(alloc, bytes.as_slice())?;
+            if printed.as_str() == digits {
+                Ok(Some(bytes))
+            } else {
+                Ok(None)
+            }
+        }
         Err(end) => match end {
             FromHexError::OutOfMemory => Err(AllocError),
             _ => Ok(None),
         },
-    }
-}
-
-// The bytes that were read from digits, where they print as these.
-fn if_printed(alloc: Global, digits: &str, bytes: Vec<u8>) -> Result<Option<Vec<u8>>, AllocError>
-    requires read { decode_of digits.now ≡ Ok bytes.items }
-    requires few { length digits.now ≤ 2048 }
-    ensures found { IfOk result (λ o. IfSome o (λ v. IsBytesWord (35 ∷ digits.now) v.items)) }
-    ensures none { IfOk result (λ o. IfNone o ((bs : List ℕ) → IsBytesWord (35 ∷ digits.now) bs → ⊥)) }
-{
-    let printed = hex::encode(alloc, bytes.as_slice())?;
-    if printed.as_str() == digits {
-        Ok(Some(bytes))
-    } else {
-        Ok(None)
     }
 }
 
@@ -163,10 +154,7 @@ pub fn arguments(alloc: Global, words: WordsIter<'_>) -> Result<Option<Vec<Owned
         let Some(arg) = argument(alloc, word)? else {
             return Ok(None);
         };
-        match args.push(arg) {
-            Ok(()) => {}
-            Err(_) => return Err(AllocError),
-        }
+        args.push(arg)?;
     }
     Ok(Some(args))
 }
