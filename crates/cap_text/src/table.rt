@@ -6,7 +6,7 @@ ghost use Rattle.cap_text.specs.Table.{format_name, package_line, component_line
 
 use cap_bytes::{Format, Part};
 use cap_files::file_name;
-use cap_frame::{Directory, Header, PackageInfo};
+use cap_frame::{Directory, PackageInfo};
 use cap_package::Package;
 use std::alloc::{AllocError, Global};
 

@@ -6,8 +6,6 @@ ghost use Rattle.cap_text.specs.Word.{argument_read};
 ghost use Rattle.vm_offend.specs.Begun.{IsBegun};
 ghost use Rattle.vm_offend.specs.Held.{IsRunOf};
 ghost use Rattle.vm_offend.specs.Sized.{static_cells};
-ghost use Rattle.vm_step.specs.declared.ending.Ending.TheVariants as endings;
-ghost use Rattle.vm_store.specs.Cells.{words};
 ghost use Rattle.vm_text.specs.Text.{most_text};
 ghost use Rattle.xf_share.specs.Ends.{HaveCardTypings};
 ghost use Rattle.capcheck_core.specs.Defend.{method_entered, run_fault};
