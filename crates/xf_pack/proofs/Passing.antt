@@ -17,7 +17,6 @@ use Rattle.xf_last.specs.Last.{BeginsLast}
 use Rattle.xf_last.proofs.Passing.{below-more}
 use Rattle.xf_pack.specs.declared.end.MethodLimit.{MethodLimit}
 use Rattle.xf_pack.specs.declared.unlaid.LayingEnd.{LayingEnd}
-use Rattle.xf_pack.specs.declared.unlaid.LayingEnd.TheVariants as laying
 use Rattle.xf_pack.specs.Ends.{AreAcceptedLibraries, IsLimited, IsTypedLast, IsUntypedLast, TellsOf}
 use Rattle.xf_pack.specs.Passes.{IsKeptTyping, IsLaidAt, IsTypingAt}
 use Rattle.xf_pack.specs.Unlaid.{IsUnlaid, TellsUnlaid, unlaid}
