@@ -81,7 +81,8 @@ fn alone<'p, 'a>(alloc: Global, only: Package<'p, 'a>) -> Result<Packages<'p, 'a
     Ok(all)
 }
 
-// Brings the package into the form that a verifier on the card accepts.
+// Brings the package into the form that a verifier on the card accepts, and stores the parts, then the roles, and the Header
+// last.
 fn bring<F: Folder>(
     alloc: Global,
     operands: &Generate<'_>,
@@ -102,36 +103,16 @@ fn bring<F: Folder>(
 {
     packages_link();
     match transform_linked(alloc, packages, ROLES, world) {
-        Ok(parts) => store(alloc, operands, world, &parts, size, folder, card),
+        Ok(parts) => {
+            let Ok(stores) = in_order(alloc, &parts, Some(&ROLES)) else {
+                return Verdict::Memory;
+            };
+            match store_parts(folder, operands.out, &stores) {
+                Ok(()) => run_stored(alloc, operands.seed, world, &parts, size, card),
+                Err(_) => Verdict::StoreFault,
+            }
+        }
         Err(end) => untransformed(alloc, packages, world, end),
-    }
-}
-
-// Stores the parts, then the roles, and the Header last.
-fn store<F: Folder>(
-    alloc: Global,
-    operands: &Generate<'_>,
-    world: &World<'_>,
-    parts: &OwnedParts,
-    size: usize,
-    folder: &mut F,
-    card: &mut Card<'_>,
-) -> Verdict
-    requires lengths { HasLengths (words_of card.old) }
-    requires linked { IsLinked (generated operands.now.seed) roles world.now }
-    requires made { IsTransformed (generated operands.now.seed) roles world.now parts.now }
-    requires size { size ≡ length (method_info operands.now.seed) }
-    ensures answers { GeneratesIn (generate_request operands.now) world.now
-        (outside (F.folders folder.old) (words_of card.old))
-        (outside (F.folders folder.new) (words_of card.new)) result }
-    ensures same { IsSameCard card.old card.new }
-{
-    let Ok(stores) = in_order(alloc, parts, Some(&ROLES)) else {
-        return Verdict::Memory;
-    };
-    match store_parts(folder, operands.out, &stores) {
-        Ok(()) => run_stored(alloc, operands.seed, world, parts, size, card),
-        Err(_) => Verdict::StoreFault,
     }
 }
 
