@@ -4,13 +4,11 @@
 //! which nothing is proved or needed. It stands on the library alone.
 #![tactic(auto)]
 
-mod candidate;
 mod graph;
 mod hints;
 mod search;
 mod settling;
 
-pub use candidate::least_recurring;
 pub use graph::{Digraph, Row};
-pub use search::led_to;
+pub use search::{least_recurring, led_to};
 pub use settling::greatest;

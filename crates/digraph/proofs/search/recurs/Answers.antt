@@ -1,7 +1,7 @@
 use Rattle.std.proofs.Common.{rules}
 use Rattle.digraph.specs.Ranks.{AllFall}
 use Rattle.digraph.proofs.Ranking.{falls-on-no-cycle}
-use Rattle.digraph.proofs.candidate.recurs.Goals as goal
+use Rattle.digraph.proofs.search.recurs.Goals as goal
 
 pub returns-then-fall : goal.returns-then-fall
 returns-then-fall c = λ r.
