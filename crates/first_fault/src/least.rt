@@ -3,7 +3,7 @@ ghost use Rattle.std.specs.Iterator.{IsFinite};
 ghost use Rattle.first_fault.specs.Least.{lesser, refused};
 ghost use Rattle.first_fault.specs.LeastFound.{FindsLeast};
 
-use crate::fault::Fault;
+use crate::place::Fault;
 
 /// The fault that is named of the least so far and another.
 #[cold]

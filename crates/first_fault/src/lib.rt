@@ -4,10 +4,8 @@
 //! is in specs/First.antt, in terms of lists of things at fault, and the laws are in proofs/.
 #![tactic(auto)]
 
-mod fault;
 mod least;
 mod place;
 
-pub use fault::Fault;
 pub use least::{keep_lesser, least_from, lesser, refuse};
-pub use place::Place;
+pub use place::{Fault, Place};
