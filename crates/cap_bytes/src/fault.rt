@@ -27,3 +27,20 @@ pub struct FormFault {
     pub at: u32,
     pub kind: FormKind,
 }
+
+/// The format of a package's components, which its Header names: the version of the CAP file format
+/// (section 6.3 of the specification).
+#[derive(Clone, Copy)]
+pub enum Format {
+    /// The format 2.1: the Header has no name, the Directory no size for Debug, and the Class
+    /// component no signature pool.
+    V21,
+    /// The format 2.2, that of the specification.
+    V22,
+}
+
+/// A file of a package's folder, by the tag of the component that it holds (section 6.1 of the
+/// specification): 0 is the file of roles, 1 to 12 are the components by tag, and from 128 on the
+/// custom components.
+#[derive(Clone, Copy)]
+pub struct Part(pub u8);

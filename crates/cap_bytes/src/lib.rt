@@ -5,26 +5,15 @@
 //! stand, which keeps every other byte. It stands on `byteorder`, and takes no memory.
 #![tactic(auto)]
 
-mod bytes;
 mod class_reference;
 mod cursor;
-mod edited_bytes;
 mod fault;
-mod format;
-mod part;
-mod patching;
 mod table;
-mod table_reads;
 mod take;
 mod view;
 
-pub use bytes::are_bytes;
 pub use class_reference::ClassReference;
 pub use cursor::Cursor;
-pub use edited_bytes::patches_renew;
-pub use fault::{FormFault, FormKind};
-pub use format::Format;
-pub use part::Part;
-pub use patching::patch;
+pub use fault::{FormFault, FormKind, Format, Part};
 pub use table::Table;
-pub use view::View;
+pub use view::{View, are_bytes, patch, patches_renew};

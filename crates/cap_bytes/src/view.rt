@@ -1,5 +1,8 @@
 ghost use Rattle.std.specs.Prelude.{◌≡◌, ◌+◌, ◌≤◌, ◌↔◌, length, take, drop, IsSome, IfSome};
 ghost use Rattle.cap_bytes.specs.Number.{number_at};
+ghost use Rattle.cap_bytes.specs.Bytes.{AreBytes};
+ghost use Rattle.cap_bytes.specs.Edit.{patched};
+ghost use Rattle.cap_bytes.specs.EditedBytes.{PatchesRenew};
 
 use byteorder::{BigEndian, ByteOrder};
 
@@ -50,3 +53,25 @@ impl<'a> View<'a> {
         Some(View { bytes })
     }
 }
+
+/// The items of a list of bytes are bytes: a fact for proofs, and no work.
+pub fn are_bytes(bytes: &[u8])
+    ensures { AreBytes bytes.now }
+{
+    let _ = bytes;
+}
+
+/// Writes a number over the two bytes at a place. No other byte changes.
+#[tactic(auto, unfolding(crate::specs::Edit::patched))]
+pub fn patch(bytes: &mut [u8], at: usize, number: u16)
+    requires { at + 2 ≤ length bytes.old }
+    ensures value { bytes.new ≡ patched (record { at = at; number = number }) bytes.old }
+    ensures long { length bytes.new ≡ length bytes.old }
+{
+    bytes[at..at + 2].copy_from_slice(&number.to_be_bytes());
+}
+
+/// Numbers that are written over at rising places stand there, and change nothing else.
+pub fn patches_renew()
+    ensures { PatchesRenew }
+{}

@@ -5,8 +5,8 @@ use Rattle.std.specs.Prelude.{Option, Some, None}
 use Rattle.std.specs.Int.RustNames.{bit_and}
 use Rattle.cap_bytes.specs.declared.fault.FormKind.{FormKind}
 use Rattle.cap_bytes.specs.declared.fault.FormKind.TheVariants.{BadValue, Remote}
-use Rattle.cap_bytes.specs.declared.format.Format.{Format}
-use Rattle.cap_bytes.specs.declared.format.Format.TheVariants.{V21, V22}
+use Rattle.cap_bytes.specs.declared.fault.Format.{Format}
+use Rattle.cap_bytes.specs.declared.fault.Format.TheVariants.{V21, V22}
 use Rattle.cap_bytes.specs.Grammar.{Grammar, number, u1, u2, piece, repeat, table, until_end, place, give, ◌>>=◌}
 
 -- implemented_interface_info: the interface, and for each of its tokens the class's own

@@ -1,7 +1,7 @@
 -- What the components of a package say (JCVM 2.2, chapter 6), or the first by tag that is absent or breaks its format.
 use Rattle.std.specs.Prelude.{◌≡◌, ℕ, ◌⊎◌, List, Option, Some, None}
 use Rattle.cap_bytes.specs.declared.fault.FormFault.{FormFault}
-use Rattle.cap_bytes.specs.declared.format.Format.{Format}
+use Rattle.cap_bytes.specs.declared.fault.Format.{Format}
 use Rattle.cap_bytes.specs.Grammar.{Grammar}
 use Rattle.cap_bytes.specs.Spelling.{Stands, Breaks, info_of, file_of}
 use Rattle.cap_frame.specs.Frame.{component}

@@ -4,7 +4,7 @@ use Rattle.std.proofs.Common.{refl, ap, sym, subst, ◌∙◌, arith, length-app
 use Rattle.std.proofs.lemmas.List.{take-append-le, drop-append-le, take-append-drop, length-take-le, drop-drop}
 use Rattle.std.proofs.lemmas.List.Sums.{sum_by-cons}
 use Rattle.std.proofs.Math.Seq.{drop-append_seam, take-append_seam, take-add, take-length, drop-length}
-use Rattle.cap_bytes.specs.declared.part.Part.{Part}
+use Rattle.cap_bytes.specs.declared.fault.Part.{Part}
 use Rattle.cap_files.specs.declared.records.Entry.{Entry}
 use Rattle.cap_files.specs.Laid.{records, record_of, IsLaid}
 use Rattle.cap_files.specs.Room.{size_of}

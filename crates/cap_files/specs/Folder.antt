@@ -5,7 +5,7 @@ use Rattle.std.specs.Prelude.{Some, None, IfSome, IsSomeAnd, Result, Ok, Err, â—
 use Rattle.std.specs.Ordering.{nat_cmp}
 use Rattle.std.specs.Cmp.Lexicographic.{slice_cmp}
 use Rattle.std.specs.FinMap as map
-use Rattle.cap_bytes.specs.declared.part.Part.{Part}
+use Rattle.cap_bytes.specs.declared.fault.Part.{Part}
 use Rattle.cap_files.specs.declared.folder.LoadEnd.{LoadEnd}
 use Rattle.cap_files.specs.declared.folder.LoadEnd.TheVariants.{Failed, TooLong, Memory}
 use Rattle.cap_files.specs.declared.folder.StoreFailed.{StoreFailed}

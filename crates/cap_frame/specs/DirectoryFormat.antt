@@ -1,7 +1,7 @@
 -- The Directory component (JCVM 2.2, section 6.4), in the formats 2.1 and 2.2.
 use Rattle.std.specs.Prelude.{ℕ, Bool, false, List, not, ◌&&◌, ◌||◌, ◌==◌, nat_le}
-use Rattle.cap_bytes.specs.declared.format.Format.{Format}
-use Rattle.cap_bytes.specs.declared.format.Format.TheVariants.{V21, V22}
+use Rattle.cap_bytes.specs.declared.fault.Format.{Format}
+use Rattle.cap_bytes.specs.declared.fault.Format.TheVariants.{V21, V22}
 use Rattle.cap_bytes.specs.Grammar.{Grammar, give, number, finish, u1, u2, aid, that, each, table, ◌>>=◌}
 
 -- a custom component

@@ -3,8 +3,8 @@ use Rattle.std.specs.Prelude.{ℕ, List, [], Option, Some, None, ◌==◌, ◌||
 use Rattle.std.specs.Int.RustNames.{bit_and}
 use Rattle.cap_bytes.specs.declared.fault.FormKind.{FormKind}
 use Rattle.cap_bytes.specs.declared.fault.FormKind.TheVariants.{BadMagic, BadVersion}
-use Rattle.cap_bytes.specs.declared.format.Format.{Format}
-use Rattle.cap_bytes.specs.declared.format.Format.TheVariants.{V21, V22}
+use Rattle.cap_bytes.specs.declared.fault.Format.{Format}
+use Rattle.cap_bytes.specs.declared.fault.Format.TheVariants.{V21, V22}
 use Rattle.cap_bytes.specs.Grammar.{Grammar, give, number, piece, finish, u1, only, ◌>>=◌}
 use Rattle.cap_frame.specs.PackageFormat.{Package, package_info}
 

@@ -1,7 +1,7 @@
 -- Worked cases: a small Header, an import, and custom components in a Directory.
 use Rattle.std.specs.Prelude.{◌≡◌, ℕ, List, [], ◌∷◌, Ok, Err, refl}
 use Rattle.cap_bytes.specs.declared.fault.FormKind.TheVariants.{BadValue, BadVersion, Trailing, WrongTag}
-use Rattle.cap_bytes.specs.declared.format.Format.TheVariants.{V21, V22}
+use Rattle.cap_bytes.specs.declared.fault.Format.TheVariants.{V21, V22}
 use Rattle.cap_bytes.specs.Spelling.{info_of, file_of}
 use Rattle.cap_bytes.specs.Reading.{reading}
 use Rattle.cap_frame.specs.Frame.{component}

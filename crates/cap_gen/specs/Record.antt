@@ -1,6 +1,6 @@
 -- What the components of the generated package say (JCVM 2.2, chapter 6).
 use Rattle.std.specs.Prelude.{ℕ, List, [], ◌∷◌, replicate, None}
-use Rattle.cap_bytes.specs.declared.format.Format.TheVariants.{V22}
+use Rattle.cap_bytes.specs.declared.fault.Format.TheVariants.{V22}
 use Rattle.cap_frame.specs.HeaderFormat.{HeaderItems}
 use Rattle.cap_class.specs.ClassFormat.{Class}
 use Rattle.cap_components.specs.PackageRecord.{PackageRecord}

@@ -8,7 +8,7 @@ use Rattle.std.proofs.lemmas.Bool.Decides.{nat_tests}
 use Rattle.byteorder.specs.Endian.{big_bytes}
 use Rattle.cap_bytes.specs.declared.fault.FormKind.{FormKind}
 use Rattle.cap_bytes.specs.declared.fault.FormKind.TheVariants.{BadValue}
-use Rattle.cap_bytes.specs.declared.format.Format.{Format}
+use Rattle.cap_bytes.specs.declared.fault.Format.{Format}
 use Rattle.cap_bytes.specs.Grammar.{Grammar, any, that, u1, u2, number, piece, aid, is_aid_length, each, repeat, table, finish, give, ◌>>=◌}
 use Rattle.cap_bytes.specs.Spelling.{Stands}
 use Rattle.cap_frame.specs.DirectoryFormat.{Custom, DirectoryItems, ImageSizes, image_sizes_info, size_count, is_new_tag, and_that_of, none, custom_info}

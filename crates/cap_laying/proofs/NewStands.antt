@@ -6,7 +6,7 @@ use Rattle.std.specs.List.{flat_map}
 use Rattle.std.proofs.lemmas.Bool.{false≢true}
 use Rattle.std.proofs.lemmas.Bool.Decides.{nat_tests}
 use Rattle.byteorder.specs.Endian.{big_bytes}
-use Rattle.cap_bytes.specs.declared.format.Format.{Format}
+use Rattle.cap_bytes.specs.declared.fault.Format.{Format}
 use Rattle.cap_bytes.specs.Grammar.{is_aid_length}
 use Rattle.cap_frame.specs.DirectoryFormat.{Custom, DirectoryItems, is_new_tag, and_that_of, none, size_count}
 use Rattle.cap_laying.specs.declared.sizes.IndexChange.{IndexChange}

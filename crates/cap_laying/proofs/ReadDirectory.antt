@@ -4,7 +4,7 @@ use Rattle.std.proofs.Common.{arith}
 use Rattle.std.specs.Prelude.{IsTrue}
 use Rattle.std.proofs.lemmas.List.{length-take, length-drop}
 use Rattle.cap_bytes.specs.declared.fault.FormKind.TheVariants.{BadValue}
-use Rattle.cap_bytes.specs.declared.format.Format.{Format}
+use Rattle.cap_bytes.specs.declared.fault.Format.{Format}
 use Rattle.cap_bytes.specs.Grammar.{that, u2, is_aid_length, each, repeat, table}
 use Rattle.cap_bytes.specs.Spelling.{Spells, Stands}
 use Rattle.cap_frame.specs.DirectoryFormat.{Custom, DirectoryItems, custom_info, is_new_tag, and_that_of, directory_info}

@@ -1,6 +1,6 @@
 -- The info that is written stands for its items.
 use Rattle.std.specs.Prelude.{◌≡◌, ◌<◌, ℕ, Bool, List, [], ◌∷◌, length, IsTrue}
-use Rattle.cap_bytes.specs.declared.format.Format.{Format}
+use Rattle.cap_bytes.specs.declared.fault.Format.{Format}
 use Rattle.cap_bytes.specs.Grammar.{is_aid_length}
 use Rattle.cap_bytes.specs.Spelling.{Stands}
 use Rattle.cap_frame.specs.DirectoryFormat.{Custom, DirectoryItems, size_count, is_new_tag, and_that_of, none, directory_info}

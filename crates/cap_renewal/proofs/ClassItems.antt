@@ -3,7 +3,7 @@ use Rattle.std.proofs.Common.{◌≡◌, ℕ, zero, suc, ◌+◌, ◌-◌, ◌*�
 use Rattle.std.proofs.Common.{false, refl, sym, ap, subst, ◌∙◌, arith}
 use Rattle.std.specs.Prelude.{nat_lt}
 use Rattle.std.proofs.lemmas.List.{length-map}
-use Rattle.cap_bytes.specs.declared.format.Format.{Format}
+use Rattle.cap_bytes.specs.declared.fault.Format.{Format}
 use Rattle.cap_bytes.specs.Grammar.{Grammar, number, u1, u2, repeat, table, when, at_most, ◌>>=◌, give}
 use Rattle.cap_bytes.specs.Spelling.{Spells, Stands}
 use Rattle.cap_bytes.proofs.Wide.{read_within}

@@ -1,5 +1,5 @@
 ghost use Rattle.std.specs.Prelude.{◌≡◌, length, map};
-ghost use Rattle.cap_bytes.specs.declared.format.Format.{Format};
+ghost use Rattle.cap_bytes.specs.declared.fault.Format.{Format};
 ghost use Rattle.cap_bytes.specs.Spelling.{Stands};
 ghost use Rattle.cap_class.specs.ClassFormat.{classes_info};
 ghost use Rattle.cap_class.specs.ClassPart.{class_seen, records};

@@ -5,8 +5,8 @@ use Rattle.std.specs.Prelude.{◌==◌, ◌&&◌, nat_le, slice_index}
 use Rattle.std.proofs.lemmas.Bool.{cases_eq, eqb-true}
 use Rattle.std.proofs.lemmas.Bool.Decides.{nat_tests}
 use Rattle.std.proofs.lemmas.List.{get_or_past}
-use Rattle.cap_bytes.specs.declared.format.Format.{Format}
-use Rattle.cap_bytes.specs.declared.format.Format.TheVariants.{V21, V22}
+use Rattle.cap_bytes.specs.declared.fault.Format.{Format}
+use Rattle.cap_bytes.specs.declared.fault.Format.TheVariants.{V21, V22}
 use Rattle.cap_bytes.specs.Grammar.{Grammar}
 use Rattle.cap_bytes.specs.Spelling.{Stands}
 use Rattle.cap_bytes.proofs.Laws.{stands}

@@ -8,7 +8,7 @@ use Rattle.std.proofs.lemmas.Option.{slice_get-map}
 use Rattle.jc_base.specs.Each.{Each}
 use Rattle.jc_base.proofs.Eaching.{Each-append, Each-weaker, Each-map}
 use Rattle.cap_bytes.specs.Grammar.{at_most, when, give, ◌>>=◌}
-use Rattle.cap_bytes.specs.declared.format.Format.{Format}
+use Rattle.cap_bytes.specs.declared.fault.Format.{Format}
 use Rattle.cap_bytes.specs.Spelling.{Spells, Stands}
 use Rattle.cap_class.specs.ClassFormat.{Class, record_info, is_after, beyond_first, is_interface, class_flags, signature_pool, classes_info}
 use Rattle.cap_package.specs.PackageRecord.{PackageRecord}
