@@ -2,7 +2,7 @@
 use Rattle.std.specs.Prelude.{List, []}
 use Rattle.cap_bytes.specs.Grammar.{repeat}
 use Rattle.cap_bytes.specs.Taking.{given}
-use Rattle.cap_frame.specs.declared.package_info.PackageInfo.{PackageInfo}
+use Rattle.cap_frame.specs.declared.header_record.PackageInfo.{PackageInfo}
 use Rattle.cap_frame.specs.declared.lists.PackageInfos.{PackageInfos}
 use Rattle.cap_frame.specs.PackageFormat.{Package, package_info}
 

@@ -1,7 +1,9 @@
 ghost use Rattle.std.specs.Prelude.{◌≡◌, length, slice_get, option_map};
 ghost use Rattle.cap_frame.specs.Applets.{applet_seen, applets_left, applets_of};
+ghost use Rattle.std.specs.Iterator.{YieldsFirstBy, item_count};
 
 use crate::lists::AppletInfos;
+use crate::readers::applet_info;
 use cap_bytes::View;
 
 /// An applet of the package.
@@ -48,5 +50,22 @@ impl<'a> Applets<'a> {
         ensures { applets_left result ≡ applets_of self.now }
     {
         self.applets
+    }
+}
+
+impl<'a> Iterator for AppletInfos<'a> {
+    type Item = AppletInfo<'a>;
+
+    ghost next_gives = { YieldsFirstBy applet_seen applets_left };
+
+    ghost remaining = { item_count applets_left };
+
+    #[tactic(auto, using(cap_bytes::proofs::Loops::yielding))]
+    fn next(&mut self) -> Option<AppletInfo<'a>> {
+        let left = self.left.checked_sub(1)?;
+        let mut items = self.items;
+        let applet = applet_info(&mut items).ok()?;
+        *self = AppletInfos { items, left };
+        Some(applet)
     }
 }

@@ -1,7 +1,9 @@
 ghost use Rattle.std.specs.Prelude.{◌≡◌, length, slice_get, option_map};
 ghost use Rattle.cap_frame.specs.Directory.{custom_seen, customs_left, directory_items, custom_size_in, size_in};
+ghost use Rattle.std.specs.Iterator.{YieldsFirstBy, item_count};
 
 use crate::lists::CustomEntries;
+use crate::readers::custom_info;
 use cap_bytes::{Table, View};
 
 /// A custom component that the Directory names.
@@ -121,5 +123,22 @@ impl<'a> Directory<'a> {
         ensures { customs_left result ≡ (directory_items self.now).customs }
     {
         self.customs
+    }
+}
+
+impl<'a> Iterator for CustomEntries<'a> {
+    type Item = CustomEntry<'a>;
+
+    ghost next_gives = { YieldsFirstBy custom_seen customs_left };
+
+    ghost remaining = { item_count customs_left };
+
+    #[tactic(auto, using(cap_bytes::proofs::Loops::yielding))]
+    fn next(&mut self) -> Option<CustomEntry<'a>> {
+        let left = self.left.checked_sub(1)?;
+        let mut items = self.items;
+        let custom = custom_info(&mut items).ok()?;
+        *self = CustomEntries { items, left };
+        Some(custom)
     }
 }

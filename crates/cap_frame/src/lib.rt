@@ -4,31 +4,18 @@
 //! items of `cap_bytes` and the flags of `bitflags`, and takes no memory.
 #![tactic(auto)]
 
-mod applet_iter;
-mod applet_reader;
 mod applet_record;
-mod custom_iter;
-mod directory_reader;
 mod directory_record;
 mod framing;
-mod header_flags;
-mod header_reader;
 mod header_record;
-mod import_reader;
 mod import_record;
 mod lists;
-mod package_info;
-mod package_items;
+mod readers;
 
-pub use applet_reader::applets;
 pub use applet_record::{AppletInfo, Applets};
-pub use directory_reader::directory;
 pub use directory_record::{CustomEntry, Directory};
 pub use framing::frame;
-pub use header_flags::HeaderFlags;
-pub use header_reader::header;
-pub use header_record::Header;
-pub use import_reader::imports;
+pub use header_record::{Header, HeaderFlags, PackageInfo};
 pub use import_record::Imports;
 pub use lists::{AppletInfos, CustomEntries, PackageInfos};
-pub use package_info::PackageInfo;
+pub use readers::{applets, directory, header, imports};

@@ -1,7 +1,7 @@
 use Rattle.std.proofs.Common.{rules}
 use Rattle.cap_frame.specs.Directory.{custom_seen}
 use Rattle.cap_frame.proofs.Customs.{named_more}
-use Rattle.cap_frame.proofs.directory_reader.customs.Goals as goal
+use Rattle.cap_frame.proofs.readers.customs.Goals as goal
 
 pub customs-preserved : goal.customs-preserved
 customs-preserved c =
