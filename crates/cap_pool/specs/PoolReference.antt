@@ -5,11 +5,11 @@ use Rattle.cap_bytes.specs.declared.class_reference.ClassReference.{ClassReferen
 use Rattle.cap_bytes.specs.declared.class_reference.ClassReference.TheVariants.{External as OfImport}
 use Rattle.cap_bytes.specs.ClassReference.{reference_of}
 use Rattle.cap_pool.specs.PoolFormat.{Entry}
-use Rattle.cap_pool.specs.declared.pool_reference.PoolReference.{PoolReference}
-use Rattle.cap_pool.specs.declared.pool_reference.PoolReference.TheVariants.{Class, InstanceField, VirtualMethod, SuperMethod, StaticField}
-use Rattle.cap_pool.specs.declared.pool_reference.PoolReference.TheVariants.{StaticMethod}
-use Rattle.cap_pool.specs.declared.pool_reference.StaticReference.{StaticReference}
-use Rattle.cap_pool.specs.declared.pool_reference.StaticReference.TheVariants.{Internal, External}
+use Rattle.cap_pool.specs.declared.pool_record.PoolReference.{PoolReference}
+use Rattle.cap_pool.specs.declared.pool_record.PoolReference.TheVariants.{Class, InstanceField, VirtualMethod, SuperMethod, StaticField}
+use Rattle.cap_pool.specs.declared.pool_record.PoolReference.TheVariants.{StaticMethod}
+use Rattle.cap_pool.specs.declared.pool_record.StaticReference.{StaticReference}
+use Rattle.cap_pool.specs.declared.pool_record.StaticReference.TheVariants.{Internal, External}
 
 -- the class_ref in the first two bytes
 abbrev pub class_in : List ℕ → ClassReference

@@ -4,23 +4,15 @@
 //! takes no memory.
 #![tactic(auto)]
 
-mod export_items;
-mod export_reader;
 mod export_record;
 mod lists;
-mod location_reader;
 mod location_reads;
 mod location_record;
-mod pool_items;
-mod pool_reader;
 mod pool_record;
-mod pool_reference;
+mod readers;
 
-pub use export_reader::export;
 pub use export_record::Export;
 pub use lists::{ExportClass, ExportedClass, ExportedClasses, PoolEntries};
-pub use location_reader::locations;
 pub use location_record::Locations;
-pub use pool_reader::pool;
-pub use pool_record::{Pool, PoolEntry};
-pub use pool_reference::{PoolReference, StaticReference};
+pub use pool_record::{Pool, PoolEntry, PoolReference, StaticReference};
+pub use readers::{export, locations, pool};

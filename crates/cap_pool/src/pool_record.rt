@@ -1,12 +1,40 @@
 ghost use Rattle.std.specs.Prelude.{◌≡◌, length, slice_get, option_map};
 ghost use Rattle.cap_pool.specs.Pool.{entries, entries_left, entry_seen};
 ghost use Rattle.cap_pool.specs.PoolReference.{class_in, referred, static_in, token_in};
+ghost use Rattle.std.specs.Iterator.{YieldsFirstBy, item_count};
+ghost use Rattle.cap_bytes.specs.Taking.{Takes};
+ghost use Rattle.cap_pool.specs.PoolFormat.{entry_info};
 
 use crate::lists::PoolEntries;
-use crate::pool_items::entry;
-use crate::pool_reference::{PoolReference, StaticReference};
 use byteorder::{BigEndian, ByteOrder};
-use cap_bytes::{ClassReference, View};
+use cap_bytes::{ClassReference, Cursor, FormFault, FormKind, View};
+
+/// The static field or the method without dispatch that a StaticFieldref or a StaticMethodref names (section 6.7.3).
+#[derive(Clone, Copy)]
+pub enum StaticReference {
+    /// One of the package itself: the offset of a field in the static field image, or of a method in the info of the
+    /// Method component.
+    Internal(u16),
+    /// One of an imported package: the tokens of the package, of a class in it, and of the field or method of that class.
+    External { package: u8, class: u8, token: u8 },
+}
+
+/// What an entry of the constant pool refers to (section 6.7).
+#[derive(Clone, Copy)]
+pub enum PoolReference {
+    /// A Classref: a class or an interface.
+    Class(ClassReference),
+    /// An InstanceFieldref: the class that it is named by, and the token of the field.
+    InstanceField { class: ClassReference, token: u8 },
+    /// A VirtualMethodref: the class that it is named by, and the token of the method.
+    VirtualMethod { class: ClassReference, token: u8 },
+    /// A SuperMethodref: the class whose superclass has the method, and the token of the method.
+    SuperMethod { class: ClassReference, token: u8 },
+    /// A StaticFieldref.
+    StaticField(StaticReference),
+    /// A StaticMethodref.
+    StaticMethod(StaticReference),
+}
 
 /// An entry of the constant pool.
 #[derive(Clone, Copy)]
@@ -109,5 +137,37 @@ impl<'a> Pool<'a> {
         ensures { entries_left result ≡ entries self.now }
     {
         self.entries
+    }
+}
+
+/// The next entry.
+#[inline(always)]
+pub(crate) fn entry(items: &mut Cursor<'_>) -> Result<PoolEntry, FormFault>
+    ensures { Takes entry_seen entry_info items.old result items.new }
+{
+    let place = *items;
+    let tag = items.u1()?;
+    if tag < 1 || tag > 6 {
+        return Err(place.fault(FormKind::BadValue));
+    }
+    let bytes = items.triple()?;
+    Ok(PoolEntry { tag, bytes })
+}
+
+impl Iterator for PoolEntries<'_> {
+    type Item = PoolEntry;
+
+    ghost next_gives = { YieldsFirstBy entry_seen entries_left };
+
+    ghost remaining = { item_count entries_left };
+
+    #[tactic(auto, using(cap_bytes::proofs::Loops::yielding))]
+    #[inline(always)]
+    fn next(&mut self) -> Option<PoolEntry> {
+        let left = self.left.checked_sub(1)?;
+        let mut items = self.items;
+        let entry = entry(&mut items).ok()?;
+        *self = PoolEntries { items, left };
+        Some(entry)
     }
 }

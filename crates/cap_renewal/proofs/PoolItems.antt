@@ -7,9 +7,9 @@ use Rattle.cap_bytes.specs.Grammar.{number, that, u2, repeat}
 use Rattle.cap_bytes.specs.Spelling.{Spells, Stands}
 use Rattle.cap_bytes.proofs.Wide.{read_within}
 use Rattle.cap_pool.specs.PoolFormat.{Entry, is_pool_tag, entry_info, pool_info}
-use Rattle.cap_pool.specs.declared.pool_reference.PoolReference.{PoolReference}
-use Rattle.cap_pool.specs.declared.pool_reference.PoolReference.TheVariants.{StaticMethod}
-use Rattle.cap_pool.specs.declared.pool_reference.StaticReference.TheVariants.{Internal}
+use Rattle.cap_pool.specs.declared.pool_record.PoolReference.{PoolReference}
+use Rattle.cap_pool.specs.declared.pool_record.PoolReference.TheVariants.{StaticMethod}
+use Rattle.cap_pool.specs.declared.pool_record.StaticReference.TheVariants.{Internal}
 use Rattle.cap_pool.specs.PoolReference.{referred}
 use Rattle.cap_pool.proofs.OwnMethods.{own-told}
 use Rattle.cap_bytes.specs.Edit.{patched_all, AreInside, FitBytes}

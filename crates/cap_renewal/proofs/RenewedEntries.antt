@@ -2,9 +2,9 @@
 use Rattle.std.proofs.Common.{◌≡◌, ℕ, ◌+◌, ◌*◌, ◌⊎◌, None, slice_index, arith}
 use Rattle.byteorder.specs.Endian.{big_bytes}
 use Rattle.cap_pool.specs.PoolFormat.{Entry}
-use Rattle.cap_pool.specs.declared.pool_reference.PoolReference.{PoolReference}
-use Rattle.cap_pool.specs.declared.pool_reference.PoolReference.TheVariants.{StaticMethod}
-use Rattle.cap_pool.specs.declared.pool_reference.StaticReference.TheVariants.{Internal}
+use Rattle.cap_pool.specs.declared.pool_record.PoolReference.{PoolReference}
+use Rattle.cap_pool.specs.declared.pool_record.PoolReference.TheVariants.{StaticMethod}
+use Rattle.cap_pool.specs.declared.pool_record.StaticReference.TheVariants.{Internal}
 use Rattle.cap_pool.specs.PoolReference.{referred}
 use Rattle.cap_pool.proofs.OwnMethods.{own-told}
 use Rattle.cap_renewal.specs.PoolEdits.{own_offset, own_method, renewed_entry}

@@ -2,9 +2,9 @@
 use Rattle.std.specs.Prelude.{◌+◌, ℕ, List, [], ◌∷◌, Option, Some, None, slice_index}
 use Rattle.byteorder.specs.Endian.{big_bytes}
 use Rattle.cap_pool.specs.PoolFormat.{Entry}
-use Rattle.cap_pool.specs.declared.pool_reference.PoolReference.{PoolReference}
-use Rattle.cap_pool.specs.declared.pool_reference.PoolReference.TheVariants.{StaticMethod}
-use Rattle.cap_pool.specs.declared.pool_reference.StaticReference.TheVariants.{Internal}
+use Rattle.cap_pool.specs.declared.pool_record.PoolReference.{PoolReference}
+use Rattle.cap_pool.specs.declared.pool_record.PoolReference.TheVariants.{StaticMethod}
+use Rattle.cap_pool.specs.declared.pool_record.StaticReference.TheVariants.{Internal}
 use Rattle.cap_pool.specs.PoolReference.{referred}
 use Rattle.cap_bytes.specs.Edit.{Edit}
 use Rattle.cap_renewal.specs.Along.{along}

@@ -4,9 +4,9 @@ use Rattle.std.proofs.Common.{option_and_then, is_some, IfSome, refl, sym, ap, s
 use Rattle.std.proofs.lemmas.List.{length-map}
 use Rattle.cap_bytes.specs.declared.class_reference.ClassReference.{ClassReference}
 use Rattle.cap_pool.specs.PoolFormat.{Entry}
-use Rattle.cap_pool.specs.declared.pool_reference.PoolReference.{PoolReference}
-use Rattle.cap_pool.specs.declared.pool_reference.PoolReference.TheVariants.{InstanceField}
-use Rattle.cap_pool.specs.declared.pool_reference.StaticReference.{StaticReference}
+use Rattle.cap_pool.specs.declared.pool_record.PoolReference.{PoolReference}
+use Rattle.cap_pool.specs.declared.pool_record.PoolReference.TheVariants.{InstanceField}
+use Rattle.cap_pool.specs.declared.pool_record.StaticReference.{StaticReference}
 use Rattle.cap_pool.specs.PoolReference.{referred}
 use Rattle.cap_package.specs.PackageRecord.{PackageRecord}
 use Rattle.jc_base.specs.declared.record.Member.{Member}

@@ -6,11 +6,11 @@ use Rattle.std.proofs.lemmas.Bool.{ltb-true, eqb-true, eq-eqb, lt-ltb, or_cases,
 use Rattle.std.proofs.lemmas.Option.{same_Some}
 use Rattle.cap_bytes.specs.declared.class_reference.ClassReference.{ClassReference}
 use Rattle.cap_pool.specs.PoolFormat.{Entry}
-use Rattle.cap_pool.specs.declared.pool_reference.PoolReference.{PoolReference}
-use Rattle.cap_pool.specs.declared.pool_reference.PoolReference.TheVariants.{Class, InstanceField, VirtualMethod}
-use Rattle.cap_pool.specs.declared.pool_reference.PoolReference.TheVariants.{SuperMethod, StaticField, StaticMethod}
-use Rattle.cap_pool.specs.declared.pool_reference.StaticReference.{StaticReference}
-use Rattle.cap_pool.specs.declared.pool_reference.StaticReference.TheVariants.{Internal, External}
+use Rattle.cap_pool.specs.declared.pool_record.PoolReference.{PoolReference}
+use Rattle.cap_pool.specs.declared.pool_record.PoolReference.TheVariants.{Class, InstanceField, VirtualMethod}
+use Rattle.cap_pool.specs.declared.pool_record.PoolReference.TheVariants.{SuperMethod, StaticField, StaticMethod}
+use Rattle.cap_pool.specs.declared.pool_record.StaticReference.{StaticReference}
+use Rattle.cap_pool.specs.declared.pool_record.StaticReference.TheVariants.{Internal, External}
 use Rattle.cap_pool.specs.PoolReference.{referred}
 use Rattle.cap_package.specs.PackageRecord.{PackageRecord}
 use Rattle.jc_base.specs.declared.record.Member.{Member}

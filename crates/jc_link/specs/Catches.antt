@@ -3,8 +3,8 @@ use Rattle.std.specs.Prelude.{ℕ, ◌+◌, Bool, false, List, [], ◌∷◌, �
 use Rattle.std.specs.Prelude.{◌||◌, if◌then◌else◌, slice_get}
 use Rattle.cap_method.specs.declared.handler.HandlerInfo.{HandlerInfo}
 use Rattle.cap_pool.specs.PoolFormat.{Entry}
-use Rattle.cap_pool.specs.declared.pool_reference.PoolReference.{PoolReference}
-use Rattle.cap_pool.specs.declared.pool_reference.PoolReference.TheVariants.{Class as ClassEntry}
+use Rattle.cap_pool.specs.declared.pool_record.PoolReference.{PoolReference}
+use Rattle.cap_pool.specs.declared.pool_record.PoolReference.TheVariants.{Class as ClassEntry}
 use Rattle.cap_pool.specs.PoolReference.{referred}
 use Rattle.cap_package.specs.PackageRecord.{PackageRecord}
 use Rattle.jc_base.specs.declared.ty.Ty.TheVariants.{Class}

@@ -1,7 +1,7 @@
 -- Where the static fields and the methods without dispatch stand that a constant pool names (JCVM 2.2, section 6.7.3).
 use Rattle.std.specs.Prelude.{ℕ, Option, Some, option_map, option_and_then, List}
-use Rattle.cap_pool.specs.declared.pool_reference.StaticReference.{StaticReference}
-use Rattle.cap_pool.specs.declared.pool_reference.StaticReference.TheVariants.{Internal, External}
+use Rattle.cap_pool.specs.declared.pool_record.StaticReference.{StaticReference}
+use Rattle.cap_pool.specs.declared.pool_record.StaticReference.TheVariants.{Internal, External}
 use Rattle.cap_package.specs.PackageRecord.{PackageRecord}
 use Rattle.jc_resolve.specs.declared.place.RecordPlace.{RecordPlace}
 use Rattle.jc_resolve.specs.References.{met_by}

@@ -4,10 +4,10 @@ use Rattle.std.specs.Prelude.{◌||◌, if◌then◌else◌}
 use Rattle.std.specs.Option.{option_flatten}
 use Rattle.cap_bytes.specs.declared.class_reference.ClassReference.{ClassReference}
 use Rattle.cap_pool.specs.PoolFormat.{Entry}
-use Rattle.cap_pool.specs.declared.pool_reference.PoolReference.{PoolReference}
-use Rattle.cap_pool.specs.declared.pool_reference.PoolReference.TheVariants.{Class, InstanceField, VirtualMethod, SuperMethod, StaticField}
-use Rattle.cap_pool.specs.declared.pool_reference.PoolReference.TheVariants.{StaticMethod}
-use Rattle.cap_pool.specs.declared.pool_reference.StaticReference.{StaticReference}
+use Rattle.cap_pool.specs.declared.pool_record.PoolReference.{PoolReference}
+use Rattle.cap_pool.specs.declared.pool_record.PoolReference.TheVariants.{Class, InstanceField, VirtualMethod, SuperMethod, StaticField}
+use Rattle.cap_pool.specs.declared.pool_record.PoolReference.TheVariants.{StaticMethod}
+use Rattle.cap_pool.specs.declared.pool_record.StaticReference.{StaticReference}
 use Rattle.cap_pool.specs.PoolReference.{referred}
 use Rattle.cap_package.specs.PackageRecord.{PackageRecord}
 use Rattle.jc_base.specs.declared.record.Member.{Member}

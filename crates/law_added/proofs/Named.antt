@@ -8,8 +8,8 @@ use Rattle.cap_package.specs.PackageRecord.{PackageRecord}
 use Rattle.cap_class.specs.ClassFormat.{Class}
 use Rattle.cap_pool.specs.PoolFormat.{Entry}
 use Rattle.cap_pool.specs.PoolReference.{referred}
-use Rattle.cap_pool.specs.declared.pool_reference.PoolReference.{PoolReference}
-use Rattle.cap_pool.specs.declared.pool_reference.PoolReference.TheVariants as refs
+use Rattle.cap_pool.specs.declared.pool_record.PoolReference.{PoolReference}
+use Rattle.cap_pool.specs.declared.pool_record.PoolReference.TheVariants as refs
 use Rattle.jc_base.specs.declared.record.Member.{Member}
 use Rattle.jc_base.specs.declared.record.Member.TheVariants.{ClassOf, Virtual, Super}
 use Rattle.jc_base.specs.declared.record.StaticRec.{StaticRec}

@@ -7,8 +7,8 @@ use Rattle.byteorder.specs.Endian.{big_bytes}
 use Rattle.cap_desc.specs.DescriptorFormat.{ClassDescriptor, MethodDescriptor}
 use Rattle.cap_desc.specs.Members.{methods_but}
 use Rattle.cap_pool.specs.PoolFormat.{Entry}
-use Rattle.cap_pool.specs.declared.pool_reference.PoolReference.{PoolReference}
-use Rattle.cap_pool.specs.declared.pool_reference.StaticReference.TheVariants.{Internal}
+use Rattle.cap_pool.specs.declared.pool_record.PoolReference.{PoolReference}
+use Rattle.cap_pool.specs.declared.pool_record.StaticReference.TheVariants.{Internal}
 use Rattle.cap_pool.specs.PoolReference.{referred}
 use Rattle.cap_package.specs.PackageRecord.{PackageRecord, names_interface}
 use Rattle.cap_package.specs.Parts.{Lent}

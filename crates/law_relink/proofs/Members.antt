@@ -7,10 +7,10 @@ use Rattle.cap_class.specs.ClassFormat.{Class, is_interface}
 use Rattle.cap_desc.specs.declared.type_item.TypeItem.{TypeItem}
 use Rattle.cap_desc.specs.DescriptorFormat as described
 use Rattle.cap_pool.specs.PoolFormat.{Entry}
-use Rattle.cap_pool.specs.declared.pool_reference.PoolReference.{PoolReference}
-use Rattle.cap_pool.specs.declared.pool_reference.PoolReference.TheVariants.{StaticMethod}
-use Rattle.cap_pool.specs.declared.pool_reference.StaticReference.{StaticReference}
-use Rattle.cap_pool.specs.declared.pool_reference.StaticReference.TheVariants.{External}
+use Rattle.cap_pool.specs.declared.pool_record.PoolReference.{PoolReference}
+use Rattle.cap_pool.specs.declared.pool_record.PoolReference.TheVariants.{StaticMethod}
+use Rattle.cap_pool.specs.declared.pool_record.StaticReference.{StaticReference}
+use Rattle.cap_pool.specs.declared.pool_record.StaticReference.TheVariants.{External}
 use Rattle.cap_pool.specs.PoolReference.{referred}
 use Rattle.cap_package.specs.Descriptions.{Description, field_type}
 use Rattle.cap_package.specs.HeaderChecks.{is_static}
