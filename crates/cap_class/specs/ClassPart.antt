@@ -8,8 +8,8 @@ use Rattle.cap_bytes.specs.Taking.{Taken, TakingFails, given}
 use Rattle.cap_class.specs.declared.class_info.Instance.{Instance}
 use Rattle.cap_class.specs.declared.class_info.DispatchTables.{DispatchTables}
 use Rattle.cap_class.specs.declared.class_info.ClassInfo.{ClassInfo}
-use Rattle.cap_class.specs.declared.class_list.ClassInfos.{ClassInfos}
-use Rattle.cap_class.specs.declared.class_part.ClassPart.{ClassPart}
+use Rattle.cap_class.specs.declared.class_info.ClassInfos.{ClassInfos}
+use Rattle.cap_class.specs.declared.class_info.ClassPart.{ClassPart}
 use Rattle.cap_class.specs.ClassFormat as format
 use Rattle.cap_class.specs.ClassFormat.{any_record, record_info, is_after}
 use Rattle.cap_class.specs.Lists.{interfaces_left}

@@ -2,8 +2,8 @@
 use Rattle.std.specs.Prelude.{List, []}
 use Rattle.cap_bytes.specs.Grammar.{repeat}
 use Rattle.cap_bytes.specs.Taking.{given}
-use Rattle.cap_class.specs.declared.implemented.Implemented.{Implemented}
-use Rattle.cap_class.specs.declared.interfaces.Interfaces.{Interfaces}
+use Rattle.cap_class.specs.declared.class_info.Implemented.{Implemented}
+use Rattle.cap_class.specs.declared.class_info.Interfaces.{Interfaces}
 use Rattle.cap_class.specs.ClassFormat.{Interface, interface_info}
 
 abbrev pub interface_seen : Implemented → Interface

@@ -3,19 +3,8 @@
 //! the words of the format and on `bitflags` for flags, and takes no memory.
 #![tactic(auto)]
 
-mod class_flags;
 mod class_info;
-mod class_list;
-mod class_part;
-mod implemented;
-mod interfaces;
-mod read_classes;
-mod read_record;
+mod reading;
 
-pub use class_flags::ClassFlags;
-pub use class_info::ClassInfo;
-pub use class_list::ClassInfos;
-pub use class_part::ClassPart;
-pub use implemented::Implemented;
-pub use interfaces::Interfaces;
-pub use read_classes::classes;
+pub use class_info::{ClassFlags, ClassInfo, ClassInfos, ClassPart, Implemented, Interfaces};
+pub use reading::classes;

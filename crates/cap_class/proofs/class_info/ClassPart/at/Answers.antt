@@ -1,6 +1,6 @@
 use Rattle.std.proofs.lemmas.Iterator.Consumers.{nth_from_yields_List, YieldsList-from_first}
 use Rattle.cap_class.specs.ClassPart.{class_seen, classes_left, records}
-use Rattle.cap_class.proofs.class_part.ClassPart.at.Goals as goal
+use Rattle.cap_class.proofs.class_info.ClassPart.at.Goals as goal
 
 pub returns : goal.returns
 returns c =

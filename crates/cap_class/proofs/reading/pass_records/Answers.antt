@@ -2,7 +2,7 @@ use Rattle.std.proofs.Common.{◌<◌, ◌≤◌, length, arith}
 use Rattle.cap_bytes.proofs.UntilLoops.{until_more, until_all}
 use Rattle.cap_class.specs.ClassFormat.{record_info, is_after}
 use Rattle.cap_class.proofs.Records.{advances, counted}
-use Rattle.cap_class.proofs.read_classes.pass_records.Goals as goal
+use Rattle.cap_class.proofs.reading.pass_records.Goals as goal
 
 pub records-preserved : goal.records-preserved
 records-preserved c =

@@ -1,6 +1,6 @@
 -- The bits that the table names are 14.
 use Rattle.bitflags.proofs.OnLiterals.{bitflags_on_literals}
-use Rattle.cap_class.proofs.class_flags.ClassFlags.of.Goals as goal
+use Rattle.cap_class.proofs.class_info.ClassFlags.of.Goals as goal
 
 pub returns : goal.returns
 unfolding bitflags_on_literals

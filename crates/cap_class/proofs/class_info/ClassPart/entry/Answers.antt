@@ -2,7 +2,7 @@ use Rattle.std.proofs.Common.{◌==◌, rules}
 use Rattle.std.proofs.lemmas.Iterator.Search.{find_from_yields_List}
 use Rattle.std.proofs.lemmas.Iterator.Consumers.{YieldsList-from_first}
 use Rattle.cap_class.specs.ClassPart.{class_seen, classes_left, records}
-use Rattle.cap_class.proofs.class_part.ClassPart.entry.Goals as goal
+use Rattle.cap_class.proofs.class_info.ClassPart.entry.Goals as goal
 
 pub returns : goal.returns
 returns c =
