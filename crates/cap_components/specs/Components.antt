@@ -8,7 +8,7 @@ use Rattle.cap_bytes.specs.Reading.{reading}
 use Rattle.cap_frame.specs.Frame.{component}
 use Rattle.cap_frame.specs.HeaderFormat.{header_info}
 use Rattle.cap_frame.specs.DirectoryFormat.{DirectoryItems, directory_info}
-use Rattle.cap_method.specs.declared.handler.HandlerInfo.{HandlerInfo}
+use Rattle.cap_method.specs.declared.read_methods.HandlerInfo.{HandlerInfo}
 use Rattle.cap_method.specs.MethodFormat.{methods_info}
 use Rattle.cap_desc.specs.DescriptorFormat.{descriptor_info}
 use Rattle.cap_components.specs.declared.fault.PackFault.{PackFault}

@@ -10,7 +10,7 @@ use Rattle.cap_pool.specs.ExportFormat.{Exported}
 use Rattle.cap_pool.specs.LocationFormat.{LocationItems}
 use Rattle.cap_class.specs.ClassFormat.{Class, is_interface}
 use Rattle.cap_method.specs.StaticFormat.{Statics, Array}
-use Rattle.cap_method.specs.declared.handler.HandlerInfo.{HandlerInfo}
+use Rattle.cap_method.specs.declared.read_methods.HandlerInfo.{HandlerInfo}
 use Rattle.cap_desc.specs.DescriptorFormat.{MethodDescriptor, FieldDescriptor}
 use Rattle.cap_desc.specs.Members.{methods_in, methods_but, fields_of}
 use Rattle.cap_components.specs.MethodPlaces.{code_start}

@@ -2,7 +2,7 @@
 use Rattle.std.proofs.Common.{◌≡◌, ◌<◌, ◌+◌, ℕ, List, [], map, take, drop, length, refl, sym, ap, ◌∙◌, arith, get_or}
 use Rattle.std.specs.List.{range_with_len}
 use Rattle.std.proofs.lemmas.List.FromFn.{get_or-map-range_with_len}
-use Rattle.cap_method.specs.declared.handler.HandlerInfo.{HandlerInfo}
+use Rattle.cap_method.specs.declared.read_methods.HandlerInfo.{HandlerInfo}
 use Rattle.cap_gen.specs.Methods.{each_method, method_bytes, entry_table, method_info, method_offset, code_size_of_kind}
 use Rattle.cap_gen.specs.Handlers.{entries, entries_of_kind, handlers}
 use Rattle.cap_gen.specs.Methods.{handler_index}

@@ -1,7 +1,7 @@
 -- The handlers of the generated package's methods, and the entries of the handler table that stand for them (JCVM 2.2, section 6.9).
 use Rattle.std.specs.Prelude.{◌≡◌, refl, true, false, ℕ, ◌%◌, List, [], ◌∷◌}
 use Rattle.jc_decode.specs.declared.symbols.LaidHandler.{LaidHandler}
-use Rattle.cap_method.specs.declared.handler.HandlerInfo.{HandlerInfo}
+use Rattle.cap_method.specs.declared.read_methods.HandlerInfo.{HandlerInfo}
 use Rattle.cap_laying.specs.HandlerTable.{entries_at}
 use Rattle.cap_gen.specs.Shape.{handlers_of_kind}
 use Rattle.cap_gen.specs.Methods.{code_offset, each_method}

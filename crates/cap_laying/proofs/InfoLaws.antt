@@ -6,7 +6,7 @@ use Rattle.std.proofs.lemmas.List.{drop_at, take_at, append-nil}
 use Rattle.byteorder.specs.Endian.{big_bytes}
 use Rattle.cap_bytes.specs.Grammar.{u1, u2, any, give, repeat, rest, counted, ◌>>=◌}
 use Rattle.cap_bytes.specs.Spelling.{Spells, Stands}
-use Rattle.cap_method.specs.declared.handler.HandlerInfo.{HandlerInfo}
+use Rattle.cap_method.specs.declared.read_methods.HandlerInfo.{HandlerInfo}
 use Rattle.cap_method.specs.MethodFormat.{handler_info, methods_info}
 use Rattle.cap_bytes.specs.Writing.{SpellsInPlace}
 use Rattle.cap_bytes.proofs.Written.{writes_give, writes_number, writes_piece, writes_then, writes_stands}

@@ -11,7 +11,7 @@ use Rattle.cap_laying.specs.declared.member.WrittenMember.{WrittenMember}
 use Rattle.cap_laying.specs.Member.{bodies, put_member, placed, by_offset, size_if, body_size, handlers_of, methods_end_from, AreWithin}
 use Rattle.cap_laying.specs.NewPlaces.{new_method, news_from, AreSmallBodies}
 use Rattle.jc_decode.specs.declared.symbols.LaidHandler.{LaidHandler}
-use Rattle.cap_method.specs.declared.handler.HandlerInfo.{HandlerInfo}
+use Rattle.cap_method.specs.declared.read_methods.HandlerInfo.{HandlerInfo}
 use Rattle.cap_laying.specs.HandlerTable.{entries_at, table_bytes}
 use Rattle.cap_laying.specs.Blocks.{entries_of_blocks, put_by, put_firsts, firsts, had_none, blocks, IsPlacedBody, ArePlacedBodies}
 use Rattle.cap_laying.specs.Blocks.{total_handlers}

@@ -3,7 +3,7 @@ use Rattle.std.specs.Prelude.{◌≡◌, ◌≤◌, ◌<◌, ◌+◌, ℕ, Bool,
 use Rattle.std.specs.Prelude.{◌&&◌, if◌then◌else◌, refl}
 use Rattle.std.specs.List.{list_any, flat_map}
 use Rattle.byteorder.specs.Endian.{big_bytes}
-use Rattle.cap_method.specs.declared.handler.HandlerInfo.{HandlerInfo}
+use Rattle.cap_method.specs.declared.read_methods.HandlerInfo.{HandlerInfo}
 use Rattle.jc_decode.specs.declared.symbols.LaidHandler.{LaidHandler}
 
 -- the range of a handler lies in that of another

@@ -4,7 +4,7 @@ use Rattle.std.proofs.Common.{Option, refl, inl, inr, arith}
 use Rattle.std.specs.Prelude.{All}
 use Rattle.std.proofs.lemmas.List.Elements.{All-nil, All-append, All-map, All-weaker}
 use Rattle.cap_method.specs.MethodFormat.{Header}
-use Rattle.cap_method.specs.declared.handler.HandlerInfo.{HandlerInfo}
+use Rattle.cap_method.specs.declared.read_methods.HandlerInfo.{HandlerInfo}
 use Rattle.cap_desc.specs.DescriptorFormat.{MethodDescriptor, ClassDescriptor}
 use Rattle.cap_components.specs.MethodPlaces.{code_start, code_end}
 use Rattle.cap_components.specs.PackageRecord.{PackageRecord, names_interface, handlers_of}

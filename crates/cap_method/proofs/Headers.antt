@@ -8,7 +8,7 @@ use Rattle.cap_bytes.specs.declared.cursor.Cursor.{Cursor}
 use Rattle.cap_bytes.specs.Spelling.{Spells, info_of}
 use Rattle.cap_bytes.specs.Taking.{Takes}
 use Rattle.cap_bytes.proofs.Laws.{spelled-read, read-spells, Spells-one}
-use Rattle.cap_method.specs.declared.header.MethodHeader.{MethodHeader}
+use Rattle.cap_method.specs.declared.read_methods.MethodHeader.{MethodHeader}
 use Rattle.cap_method.specs.MethodFormat.{Header, method_header}
 use Rattle.cap_method.specs.MethodPart.{header_seen, HeaderAt}
 use Rattle.cap_bytes.proofs.Wide.{reaches}

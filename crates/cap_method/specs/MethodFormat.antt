@@ -3,7 +3,7 @@
 use Rattle.std.specs.Prelude.{ℕ, ◌/◌, ◌%◌, ◌^◌, Bool, true, false, List, nat_le}
 use Rattle.std.specs.Int.RustNames.{bit_and}
 use Rattle.cap_bytes.specs.Grammar.{Grammar, u1, u2, counted, rest, give, ◌>>=◌}
-use Rattle.cap_method.specs.declared.handler.HandlerInfo.{HandlerInfo}
+use Rattle.cap_method.specs.declared.read_methods.HandlerInfo.{HandlerInfo}
 
 -- exception_handler_info: the stop bit stands above a length of 15 bits
 abbrev pub handler_info : Grammar HandlerInfo

@@ -3,9 +3,9 @@ use Rattle.std.specs.Prelude.{ℕ, List, []}
 use Rattle.cap_bytes.specs.Grammar.{repeat}
 use Rattle.cap_bytes.specs.Taking.{given}
 use Rattle.cap_bytes.specs.Spelling.{Spells}
-use Rattle.cap_method.specs.declared.handler.HandlerInfo.{HandlerInfo}
-use Rattle.cap_method.specs.declared.handlers.HandlerEntries.{HandlerEntries}
-use Rattle.cap_method.specs.declared.header.MethodHeader.{MethodHeader}
+use Rattle.cap_method.specs.declared.read_methods.HandlerInfo.{HandlerInfo}
+use Rattle.cap_method.specs.declared.method_part.HandlerEntries.{HandlerEntries}
+use Rattle.cap_method.specs.declared.read_methods.MethodHeader.{MethodHeader}
 use Rattle.cap_method.specs.declared.method_part.MethodPart.{MethodPart}
 use Rattle.cap_method.specs.MethodFormat.{Header, handler_info, method_header}
 

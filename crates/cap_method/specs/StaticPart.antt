@@ -2,8 +2,8 @@
 use Rattle.std.specs.Prelude.{List, []}
 use Rattle.cap_bytes.specs.Grammar.{repeat}
 use Rattle.cap_bytes.specs.Taking.{given}
-use Rattle.cap_method.specs.declared.array_init.ArrayInit.{ArrayInit}
-use Rattle.cap_method.specs.declared.arrays.ArrayInits.{ArrayInits}
+use Rattle.cap_method.specs.declared.read_statics.ArrayInit.{ArrayInit}
+use Rattle.cap_method.specs.declared.static_part.ArrayInits.{ArrayInits}
 use Rattle.cap_method.specs.declared.static_part.StaticPart.{StaticPart}
 use Rattle.cap_method.specs.StaticFormat.{Array, Statics, array_init_info}
 

@@ -1,4 +1,5 @@
-ghost use Rattle.std.specs.Prelude.{◌≡◌, ◌≤◌, length, IfOk, IfErr, IfSome, IfNone, slice_get};
+ghost use Rattle.std.specs.Prelude.{⊤, ◌≡◌, ◌==◌, ◌/◌, [], ◌∷◌, codes, ◌≤◌, length, IfOk, IfErr, IfSome, IfNone, slice_get};
+ghost use Rattle.std.specs.Int.RustNames.{bit_and};
 ghost use Rattle.std.specs.Iterator.{YieldsFirst, item_count};
 ghost use Rattle.cap_bytes.specs.Exact.{IsExact};
 ghost use Rattle.cap_bytes.specs.Spelling.{info_of, Stands, Breaks};
@@ -7,12 +8,107 @@ ghost use Rattle.cap_bytes.specs.Grammar.{repeat};
 ghost use Rattle.cap_method.specs.MethodFormat.{Header, handler_info, methods_info, method_header};
 ghost use Rattle.cap_method.specs.MethodPart.{handlers, handlers_left, header_seen, HeaderAt};
 
-use crate::handler::HandlerInfo;
-use crate::handlers::HandlerEntries;
-use crate::header::MethodHeader;
-use crate::method_flags::MethodFlags;
-use crate::method_part::MethodPart;
+use crate::method_part::{HandlerEntries, MethodPart};
+use bitflags::{Flag, Flags};
 use cap_bytes::{Cursor, FormFault, View};
+
+/// A method's header (section 6.9.2 of the specification).
+#[derive(Clone, Copy)]
+pub struct MethodHeader {
+    pub flags: MethodFlags,
+    /// The number of the header's bytes, 2 or 4.
+    pub size: u8,
+    /// The most words on the operand stack.
+    pub max_stack: u8,
+    /// The words of the arguments, `this` among them.
+    pub nargs: u8,
+    /// The words of the local variables without the arguments.
+    pub max_locals: u8,
+}
+
+/// The flags of a method's header (section 6.9.2 of the specification), as the nibble that they
+/// stand in.
+#[derive(Clone, Copy)]
+pub struct MethodFlags(pub u8);
+
+impl MethodFlags {
+    /// The header has four bytes.
+    pub const EXTENDED: MethodFlags = MethodFlags(8);
+    /// The method has no code.
+    pub const ABSTRACT: MethodFlags = MethodFlags(4);
+
+    const FLAGS: &'static [Flag<MethodFlags>] = &[
+        Flag {
+            name: "EXTENDED",
+            value: MethodFlags::EXTENDED,
+        },
+        Flag {
+            name: "ABSTRACT",
+            value: MethodFlags::ABSTRACT,
+        },
+    ];
+}
+
+impl Flags for MethodFlags {
+    type Bits = u8;
+
+    ghost exact = { ⊤ };
+
+    ghost table = { (codes "EXTENDED", 8) ∷ (codes "ABSTRACT", 4) ∷ [] };
+
+    ghost set_of = { λ flags. flags.0 };
+
+    fn flags<'a>() -> &'a [Flag<MethodFlags>] {
+        MethodFlags::FLAGS
+    }
+
+    fn bits(&self) -> u8 {
+        self.0
+    }
+
+    fn from_bits_retain(bits: u8) -> MethodFlags {
+        MethodFlags(bits)
+    }
+}
+
+impl MethodFlags {
+    /// The flags in the high nibble of a header's first byte.
+    pub(crate) fn of(byte: u8) -> MethodFlags
+        ensures { result.0 ≡ bit_and (byte / 16) 12 }
+    {
+        MethodFlags::from_bits_truncate(byte / 16)
+    }
+
+    /// Whether the header has four bytes.
+    pub fn is_extended(self) -> bool
+        ensures { result ≡ (bit_and self.0 8 == 8) }
+    {
+        self.contains(MethodFlags::EXTENDED)
+    }
+
+    /// Whether the method has no code.
+    pub fn is_abstract(self) -> bool
+        ensures { result ≡ (bit_and self.0 4 == 4) }
+    {
+        self.contains(MethodFlags::ABSTRACT)
+    }
+}
+
+/// An entry of the table of exception handlers (section 6.9.1 of the specification). Offsets count
+/// from the first byte of the component's info.
+#[derive(Clone, Copy)]
+pub struct HandlerInfo {
+    /// The offset at which the range begins.
+    pub start: u16,
+    /// Whether no later entry of the method has a range that contains this one's.
+    pub stop: bool,
+    /// The number of the range's bytes, at most 32,767.
+    pub length: u16,
+    /// The offset of the handler's code.
+    pub entry: u16,
+    /// The pool number of the class that is caught, and 0 where every class is.
+    pub index: u16,
+}
 
 /// The tag of the component.
 const METHOD: u8 = 7;

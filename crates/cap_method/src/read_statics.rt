@@ -6,10 +6,17 @@ ghost use Rattle.cap_bytes.specs.Taking.{Takes, Reads, bytes};
 ghost use Rattle.cap_method.specs.StaticFormat.{is_whole, array_init_info, array_inits, non_default_values, statics_info};
 ghost use Rattle.cap_method.specs.StaticPart.{array_seen, arrays_left, statics_seen};
 
-use crate::array_init::ArrayInit;
-use crate::arrays::ArrayInits;
-use crate::static_part::StaticPart;
+use crate::static_part::{ArrayInits, StaticPart};
 use cap_bytes::{Cursor, FormFault, FormKind, View};
+
+/// The values of an array that a static field holds at first (section 6.10 of the specification).
+#[derive(Clone, Copy)]
+pub struct ArrayInit<'a> {
+    /// The type of the elements: 2 boolean, 3 byte, 4 short, 5 int.
+    pub kind: u8,
+    /// The elements, one after the other, the highest byte of each first.
+    pub values: &'a [u8],
+}
 
 /// The tag of the component.
 const STATIC_FIELD: u8 = 8;

@@ -7,7 +7,7 @@ use Rattle.cap_bytes.specs.Spelling.{Origin, Spells}
 use Rattle.cap_bytes.specs.Reading.{Reading, read, is_read, value_or}
 use Rattle.cap_bytes.specs.Taking.{gives, given}
 use Rattle.cap_bytes.proofs.Laws.{then_ok, read-spells, pair_ok}
-use Rattle.cap_method.specs.declared.arrays.ArrayInits.{ArrayInits}
+use Rattle.cap_method.specs.declared.static_part.ArrayInits.{ArrayInits}
 use Rattle.cap_method.specs.StaticFormat.{Array, array_init_info}
 use Rattle.cap_method.specs.StaticPart.{arrays_left}
 use Rattle.cap_package.specs.CountChecks.{array_bytes}

@@ -5,7 +5,7 @@ use Rattle.std.specs.Option.{option_map}
 use Rattle.cap_bytes.specs.Spelling.{info_of}
 use Rattle.cap_bytes.specs.Reading.{Reading, read}
 use Rattle.cap_bytes.proofs.Laws.{spelled-read, read-spells}
-use Rattle.cap_method.specs.declared.header.MethodHeader.{MethodHeader}
+use Rattle.cap_method.specs.declared.read_methods.MethodHeader.{MethodHeader}
 use Rattle.cap_method.specs.MethodFormat.{Header, method_header}
 use Rattle.cap_method.specs.MethodPart.{header_seen, HeaderAt}
 use Rattle.cap_package.specs.HeaderChecks.{header_in}

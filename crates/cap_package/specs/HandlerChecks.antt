@@ -1,7 +1,7 @@
 -- The entries of the handler table and the methods that own them (JCVM 2.2, section 6.9.1).
 use Rattle.std.specs.Prelude.{ℕ, ◌+◌, Bool, false, List, [], ◌∷◌, Option, Some, None, filter, max, nat_lt, nat_le, ◌==◌}
 use Rattle.std.specs.Prelude.{◌&&◌, not, if◌then◌else◌}
-use Rattle.cap_method.specs.declared.handler.HandlerInfo.{HandlerInfo}
+use Rattle.cap_method.specs.declared.read_methods.HandlerInfo.{HandlerInfo}
 use Rattle.cap_desc.specs.DescriptorFormat.{MethodDescriptor}
 use Rattle.cap_package.specs.MethodChecks.{code_start, code_end}
 use Rattle.cap_components.specs.declared.fault.PackFault.{PackFault}

@@ -3,7 +3,7 @@ use Rattle.std.specs.Prelude.{◌≡◌, refl, false, ℕ, Bool, List, Option, S
 use Rattle.offset_set.specs.Bits.{holds}
 use Rattle.offset_set.specs.Sets.{nowhere, also}
 use Rattle.offset_set.specs.Tallies.{Tallied, tallied, none_counted, with_one, once}
-use Rattle.cap_method.specs.declared.handler.HandlerInfo.{HandlerInfo}
+use Rattle.cap_method.specs.declared.read_methods.HandlerInfo.{HandlerInfo}
 use Rattle.cap_desc.specs.DescriptorFormat.{MethodDescriptor}
 use Rattle.cap_components.specs.declared.fault.PackFault.{PackFault}
 use Rattle.cap_components.specs.declared.fault.PackFault.TheVariants.{HandlerOutside}

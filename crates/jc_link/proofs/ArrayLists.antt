@@ -10,7 +10,7 @@ use Rattle.jc_base.specs.declared.record.ArrayRec.{ArrayRec}
 use Rattle.jc_base.specs.Cell.{IsByteWord, AreElementsOf}
 use Rattle.cap_bytes.specs.Grammar.{that}
 use Rattle.cap_bytes.specs.Spelling.{Spells}
-use Rattle.cap_method.specs.declared.arrays.ArrayInits.{ArrayInits}
+use Rattle.cap_method.specs.declared.static_part.ArrayInits.{ArrayInits}
 use Rattle.cap_method.specs.StaticFormat.{Array, Statics, array_init_info, is_primitive, is_whole}
 use Rattle.cap_method.specs.declared.static_part.StaticPart.{StaticPart}
 use Rattle.cap_method.specs.StaticPart.{arrays_left, statics_seen}

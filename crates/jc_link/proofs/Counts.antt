@@ -8,7 +8,7 @@ use Rattle.std.proofs.lemmas.List.Sums.{sum_by-cons, sum_by-append}
 use Rattle.jc_base.specs.declared.ty.Kind.{Kind}
 use Rattle.jc_base.specs.declared.record.ArrayRec.{ArrayRec}
 use Rattle.jc_base.specs.Cell.{width}
-use Rattle.cap_method.specs.declared.arrays.ArrayInits.{ArrayInits}
+use Rattle.cap_method.specs.declared.static_part.ArrayInits.{ArrayInits}
 use Rattle.cap_method.specs.StaticFormat.{Array}
 use Rattle.cap_method.specs.StaticPart.{arrays_left}
 use Rattle.cap_package.specs.declared.places.StaticPlaces.{StaticPlaces}

@@ -1,7 +1,7 @@
 -- The classes that handlers catch (JCVM 2.2, section 6.9.1): those named by a Classref, below throwable; index 0 catches all.
 use Rattle.std.specs.Prelude.{ℕ, ◌+◌, Bool, false, List, [], ◌∷◌, ◌++◌, Option, Some, None, not, ◌==◌, ◌&&◌}
 use Rattle.std.specs.Prelude.{◌||◌, if◌then◌else◌, slice_get}
-use Rattle.cap_method.specs.declared.handler.HandlerInfo.{HandlerInfo}
+use Rattle.cap_method.specs.declared.read_methods.HandlerInfo.{HandlerInfo}
 use Rattle.cap_pool.specs.PoolFormat.{Entry}
 use Rattle.cap_pool.specs.declared.pool_record.PoolReference.{PoolReference}
 use Rattle.cap_pool.specs.declared.pool_record.PoolReference.TheVariants.{Class as ClassEntry}

@@ -6,7 +6,7 @@ use Rattle.cap_pool.specs.PoolFormat.{Entry}
 use Rattle.cap_pool.specs.declared.pool_record.PoolReference.{PoolReference}
 use Rattle.cap_pool.specs.declared.pool_record.PoolReference.TheVariants.{Class as ClassEntry}
 use Rattle.cap_pool.specs.PoolReference.{referred}
-use Rattle.cap_method.specs.declared.handler.HandlerInfo.{HandlerInfo}
+use Rattle.cap_method.specs.declared.read_methods.HandlerInfo.{HandlerInfo}
 use Rattle.cap_method.specs.MethodFormat.{Header}
 use Rattle.cap_package.specs.HeaderChecks.{header_in, is_abstract, is_static}
 use Rattle.cap_package.specs.PackageRecord.{PackageRecord, handlers_of}

@@ -6,7 +6,7 @@ use Rattle.std.specs.List.{flat_map}
 use Rattle.cap_class.specs.ClassFormat.{Interface, is_interface as is_interface_flags}
 use Rattle.cap_desc.specs.declared.type_item.TypeItem.{TypeItem}
 use Rattle.cap_desc.specs.DescriptorFormat.{ClassDescriptor, MethodDescriptor, FieldDescriptor}
-use Rattle.cap_method.specs.declared.handler.HandlerInfo.{HandlerInfo}
+use Rattle.cap_method.specs.declared.read_methods.HandlerInfo.{HandlerInfo}
 use Rattle.cap_method.specs.MethodFormat.{Header}
 use Rattle.cap_package.specs.Descriptions.{Description, field_type}
 use Rattle.cap_package.specs.HeaderChecks.{header_in}

@@ -7,7 +7,7 @@ use Rattle.std.specs.Prelude.{if◌then◌else◌, ◌==◌, slice_set, slice_in
 use Rattle.std.proofs.lemmas.List.Sums.{sum_by-cons}
 use Rattle.std.proofs.lemmas.Option.{same_Some}
 use Rattle.std.proofs.Math.Seq.{take-append_seam, drop-append_seam}
-use Rattle.cap_method.specs.declared.handler.HandlerInfo.{HandlerInfo}
+use Rattle.cap_method.specs.declared.read_methods.HandlerInfo.{HandlerInfo}
 use Rattle.cap_renewal.specs.declared.new_methods.NewMethod.{NewMethod}
 use Rattle.cap_renewal.specs.NewMethods.{to}
 use Rattle.cap_laying.specs.declared.member.WrittenMember.{WrittenMember}

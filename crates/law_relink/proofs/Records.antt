@@ -5,7 +5,7 @@ use Rattle.std.proofs.Common.{slice_index, refl, ap}
 use Rattle.std.specs.Prelude.{if◌then◌else◌, unwrap_or, ◌==◌}
 use Rattle.cap_desc.specs.declared.type_item.TypeItem.{TypeItem}
 use Rattle.cap_desc.specs.DescriptorFormat.{ClassDescriptor, MethodDescriptor}
-use Rattle.cap_method.specs.declared.handler.HandlerInfo.{HandlerInfo}
+use Rattle.cap_method.specs.declared.read_methods.HandlerInfo.{HandlerInfo}
 use Rattle.cap_method.specs.MethodFormat.{Header}
 use Rattle.cap_package.specs.Descriptions.{Description}
 use Rattle.cap_package.specs.HeaderChecks.{header_in}

@@ -7,7 +7,7 @@ use Rattle.std.proofs.lemmas.Option.{slice_get-map}
 use Rattle.cap_bytes.specs.Number.{number_at}
 use Rattle.cap_components.specs.MethodPlaces.{size_by, code_start, code_end}
 use Rattle.cap_desc.specs.DescriptorFormat.{MethodDescriptor}
-use Rattle.cap_method.specs.declared.handler.HandlerInfo.{HandlerInfo}
+use Rattle.cap_method.specs.declared.read_methods.HandlerInfo.{HandlerInfo}
 use Rattle.cap_method.specs.MethodFormat.{Header}
 use Rattle.cap_pool.specs.PoolFormat.{Entry}
 use Rattle.cap_renewal.proofs.RenewedEntries.{asked-same}
