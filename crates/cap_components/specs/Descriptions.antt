@@ -1,8 +1,8 @@
 -- The Descriptor with its info, in which type descriptors stand.
 use Rattle.std.specs.Prelude.{ℕ, ◌+◌, ◌-◌, List, [], ◌∷◌, Option, Some, None, option_map, option_and_then, nat_le, ◌==◌}
 use Rattle.std.specs.Prelude.{◌&&◌, if◌then◌else◌}
-use Rattle.cap_desc.specs.declared.desc_part.DescPart.{DescPart}
-use Rattle.cap_desc.specs.declared.type_item.TypeItem.{TypeItem}
+use Rattle.cap_desc.specs.declared.records.DescPart.{DescPart}
+use Rattle.cap_desc.specs.declared.type_list.TypeItem.{TypeItem}
 use Rattle.cap_desc.specs.DescriptorFormat.{Descriptor}
 use Rattle.cap_desc.specs.Descriptors.{descriptor_seen}
 use Rattle.cap_desc.specs.TypeFormat.{types_at, type_at}

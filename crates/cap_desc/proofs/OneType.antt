@@ -6,7 +6,7 @@ use Rattle.std.specs.Option.{option_map}
 use Rattle.std.proofs.lemmas.Bool.{le-leb, lt-leb}
 use Rattle.cap_bytes.specs.Grammar.{finish, give, ◌>>=◌}
 use Rattle.cap_bytes.specs.Reading.{Reading, and_then}
-use Rattle.cap_desc.specs.declared.type_item.TypeItem.{TypeItem}
+use Rattle.cap_desc.specs.declared.type_list.TypeItem.{TypeItem}
 use Rattle.cap_desc.specs.TypeFormat.{type_item, nibbles_read, one_type_in}
 use Rattle.cap_desc.proofs.Counting.{read_where}
 

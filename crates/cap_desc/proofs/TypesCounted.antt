@@ -4,7 +4,7 @@ use Rattle.cap_bytes.specs.Grammar.{repeat}
 use Rattle.cap_bytes.specs.Spelling.{info_of}
 use Rattle.cap_bytes.specs.Reading.{Reading, is_read, value_or}
 use Rattle.cap_bytes.proofs.Loops.{length-repeat}
-use Rattle.cap_desc.specs.declared.type_item.TypeItem.{TypeItem}
+use Rattle.cap_desc.specs.declared.type_list.TypeItem.{TypeItem}
 use Rattle.cap_desc.specs.TypeFormat.{type_item, nibbles_read, gives_types, given_types}
 
 count_value : (n : ℕ) (r : Reading (List TypeItem)) → ((xs : List TypeItem) (after : ℕ) → r ≡ Ok (xs, after) → length xs ≡ n)

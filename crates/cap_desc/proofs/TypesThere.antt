@@ -10,7 +10,7 @@ use Rattle.cap_bytes.specs.Grammar.{any, piece, give, ◌>>=◌, when}
 use Rattle.cap_bytes.specs.Spelling.{Spells, Stands, info_of}
 use Rattle.cap_bytes.specs.Reading.{Reading, and_then, number_read, read}
 use Rattle.cap_bytes.proofs.Laws.{spelled-read, read-spells}
-use Rattle.cap_desc.specs.declared.type_item.TypeItem.{TypeItem}
+use Rattle.cap_desc.specs.declared.type_list.TypeItem.{TypeItem}
 use Rattle.cap_desc.specs.TypeFormat.{nibbles, class_nibbles, type_item, type_items, nibbles_read, types_in, one_type_in, nibbles_at}
 use Rattle.cap_desc.specs.TypeFormat.{descriptor_nibbles, types_at, type_at}
 use Rattle.cap_desc.specs.TypeDescriptor.{type_descriptor, TypesAt}

@@ -3,8 +3,8 @@ use Rattle.std.specs.Prelude.{List, []}
 use Rattle.cap_bytes.specs.Grammar.{repeat}
 use Rattle.cap_bytes.specs.Table.{numbers}
 use Rattle.cap_bytes.specs.Taking.{given}
-use Rattle.cap_desc.specs.declared.class.DescClass.{DescClass}
-use Rattle.cap_desc.specs.declared.lists.DescClasses.{DescClasses}
+use Rattle.cap_desc.specs.declared.records.DescClass.{DescClass}
+use Rattle.cap_desc.specs.declared.records.DescClasses.{DescClasses}
 use Rattle.cap_desc.specs.DescriptorFormat.{ClassDescriptor, class_descriptor_info}
 use Rattle.cap_desc.specs.MemberLists.{fields_left, methods_left}
 

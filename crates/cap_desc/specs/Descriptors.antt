@@ -1,7 +1,7 @@
 -- The Descriptor component as a value of the program.
 use Rattle.std.specs.Prelude.{ℕ, ◌+◌, List}
-use Rattle.cap_desc.specs.declared.desc_part.DescPart.{DescPart}
-use Rattle.cap_desc.specs.declared.type_item.TypeItem.{TypeItem}
+use Rattle.cap_desc.specs.declared.records.DescPart.{DescPart}
+use Rattle.cap_desc.specs.declared.type_list.TypeItem.{TypeItem}
 use Rattle.cap_desc.specs.DescriptorFormat.{Descriptor}
 use Rattle.cap_desc.specs.TypeDescriptor.{TypesAt}
 use Rattle.cap_bytes.specs.Table.{numbers}

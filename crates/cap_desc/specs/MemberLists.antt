@@ -2,8 +2,8 @@
 use Rattle.std.specs.Prelude.{List, []}
 use Rattle.cap_bytes.specs.Grammar.{repeat}
 use Rattle.cap_bytes.specs.Taking.{given}
-use Rattle.cap_desc.specs.declared.lists.DescFields.{DescFields}
-use Rattle.cap_desc.specs.declared.lists.DescMethods.{DescMethods}
+use Rattle.cap_desc.specs.declared.records.DescFields.{DescFields}
+use Rattle.cap_desc.specs.declared.records.DescMethods.{DescMethods}
 use Rattle.cap_desc.specs.DescriptorFormat.{FieldDescriptor, MethodDescriptor, field_descriptor_info, method_descriptor_info}
 
 abbrev pub fields_left : DescFields → List FieldDescriptor

@@ -1,9 +1,9 @@
 -- What is left of the fields and methods of several classes.
 use Rattle.std.specs.Prelude.{List, ◌++◌}
 use Rattle.offset_set.specs.Bits.{holds}
-use Rattle.cap_desc.specs.declared.members.MethodsOf.{MethodsOf}
-use Rattle.cap_desc.specs.declared.members.MethodsBut.{MethodsBut}
-use Rattle.cap_desc.specs.declared.members.FieldsOf.{FieldsOf}
+use Rattle.cap_desc.specs.declared.records.MethodsOf.{MethodsOf}
+use Rattle.cap_desc.specs.declared.records.MethodsBut.{MethodsBut}
+use Rattle.cap_desc.specs.declared.records.FieldsOf.{FieldsOf}
 use Rattle.cap_desc.specs.DescriptorFormat.{FieldDescriptor, MethodDescriptor}
 use Rattle.cap_desc.specs.MemberLists.{fields_left, methods_left}
 use Rattle.cap_desc.specs.ClassRecords.{described_left}

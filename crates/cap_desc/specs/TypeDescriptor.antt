@@ -2,7 +2,7 @@
 use Rattle.std.specs.Prelude.{ℕ, ◌+◌, ◌/◌, List, take}
 use Rattle.cap_bytes.specs.Grammar.{Grammar, u1, piece, give, ◌>>=◌}
 use Rattle.cap_bytes.specs.Spelling.{Spells, Stands}
-use Rattle.cap_desc.specs.declared.type_item.TypeItem.{TypeItem}
+use Rattle.cap_desc.specs.declared.type_list.TypeItem.{TypeItem}
 use Rattle.cap_desc.specs.TypeFormat.{nibbles, type_items}
 
 -- the nibbles of a type_descriptor: their count, and the bytes that hold so many

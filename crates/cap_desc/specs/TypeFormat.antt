@@ -8,7 +8,7 @@ use Rattle.cap_bytes.specs.Number.{number_at}
 use Rattle.cap_bytes.specs.Grammar.{Grammar, number, any, that, when, repeat, until_end, finish, give, ◌>>=◌}
 use Rattle.cap_bytes.specs.Spelling.{info_of}
 use Rattle.cap_bytes.specs.Reading.{Reading, read, is_read, value_or}
-use Rattle.cap_desc.specs.declared.type_item.TypeItem.{TypeItem}
+use Rattle.cap_desc.specs.declared.type_list.TypeItem.{TypeItem}
 
 -- the nibbles of bytes
 abbrev pub nibbles : List ℕ → List ℕ

@@ -1,7 +1,7 @@
 -- A list of types as a value of the program.
 use Rattle.std.specs.Prelude.{List}
 use Rattle.cap_desc.specs.declared.types.Types.{Types}
-use Rattle.cap_desc.specs.declared.type_item.TypeItem.{TypeItem}
+use Rattle.cap_desc.specs.declared.type_list.TypeItem.{TypeItem}
 use Rattle.cap_desc.specs.TypeFormat.{given_types}
 use Rattle.cap_desc.specs.Nibbles.{nibbles_in}
 

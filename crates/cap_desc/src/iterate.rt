@@ -2,11 +2,13 @@ ghost use Rattle.std.specs.Iterator.{YieldsFirstBy, item_count};
 ghost use Rattle.cap_desc.specs.ClassRecords.{described_class_seen, described_left};
 ghost use Rattle.cap_desc.specs.MemberRecords.{field_seen, method_seen};
 ghost use Rattle.cap_desc.specs.MemberLists.{fields_left, methods_left};
+ghost use Rattle.cap_desc.specs.MembersLeft.{methods_of_left, methods_but_left, fields_of_left};
 
-use crate::class::DescClass;
-use crate::lists::{DescClasses, DescFields, DescMethods};
-use crate::records::{FieldInfo, MethodInfo};
-use crate::take;
+use crate::reading;
+use crate::records::{
+    DescClass, DescClasses, DescFields, DescMethods, FieldInfo, FieldsOf, MethodInfo, MethodsBut,
+    MethodsOf,
+};
 
 impl Iterator for DescFields<'_> {
     type Item = FieldInfo;
@@ -20,7 +22,7 @@ impl Iterator for DescFields<'_> {
     fn next(&mut self) -> Option<FieldInfo> {
         let left = self.left.checked_sub(1)?;
         let mut items = self.items;
-        let field = take::field_descriptor_info(&mut items).ok()?;
+        let field = reading::field_descriptor_info(&mut items).ok()?;
         *self = DescFields { items, left };
         Some(field)
     }
@@ -38,7 +40,7 @@ impl Iterator for DescMethods<'_> {
     fn next(&mut self) -> Option<MethodInfo> {
         let left = self.left.checked_sub(1)?;
         let mut items = self.items;
-        let method = take::method_descriptor_info(&mut items).ok()?;
+        let method = reading::method_descriptor_info(&mut items).ok()?;
         *self = DescMethods { items, left };
         Some(method)
     }
@@ -56,8 +58,67 @@ impl<'a> Iterator for DescClasses<'a> {
     fn next(&mut self) -> Option<DescClass<'a>> {
         let left = self.left.checked_sub(1)?;
         let mut items = self.items;
-        let class = take::class_descriptor_info(&mut items).ok()?;
+        let class = reading::class_descriptor_info(&mut items).ok()?;
         *self = DescClasses { items, left };
         Some(class)
+    }
+}
+
+impl Iterator for MethodsOf<'_> {
+    type Item = MethodInfo;
+
+    ghost next_gives = { YieldsFirstBy method_seen methods_of_left };
+
+    ghost remaining = { item_count methods_of_left };
+
+    #[inline(always)]
+    fn next(&mut self) -> Option<MethodInfo> {
+        'classes: loop {
+            if let Some(method) = self.methods.next() {
+                return Some(method);
+            }
+            let class = self.classes.next()?;
+            self.methods = class.methods();
+        }
+    }
+}
+
+impl Iterator for MethodsBut<'_, '_> {
+    type Item = MethodInfo;
+
+    ghost next_gives = { YieldsFirstBy method_seen methods_but_left };
+
+    ghost remaining = { item_count methods_but_left };
+
+    #[inline(always)]
+    fn next(&mut self) -> Option<MethodInfo> {
+        'classes: loop {
+            if let Some(method) = self.methods.next() {
+                return Some(method);
+            }
+            let class = self.classes.next()?;
+            if !self.set.has(class.class_ref()) {
+                self.methods = class.methods();
+            }
+        }
+    }
+}
+
+impl Iterator for FieldsOf<'_> {
+    type Item = FieldInfo;
+
+    ghost next_gives = { YieldsFirstBy field_seen fields_of_left };
+
+    ghost remaining = { item_count fields_of_left };
+
+    #[inline(always)]
+    fn next(&mut self) -> Option<FieldInfo> {
+        'classes: loop {
+            if let Some(field) = self.fields.next() {
+                return Some(field);
+            }
+            let class = self.classes.next()?;
+            self.fields = class.fields();
+        }
     }
 }

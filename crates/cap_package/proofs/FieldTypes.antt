@@ -8,7 +8,7 @@ use Rattle.cap_bytes.specs.Grammar.{◌>>=◌}
 use Rattle.cap_bytes.specs.Reading.{Reading}
 use Rattle.cap_bytes.specs.Spelling.{Spells}
 use Rattle.cap_bytes.proofs.Laws.{read-spells}
-use Rattle.cap_desc.specs.declared.type_item.TypeItem.{TypeItem}
+use Rattle.cap_desc.specs.declared.type_list.TypeItem.{TypeItem}
 use Rattle.cap_desc.specs.TypeFormat.{is_type, one_type_in}
 use Rattle.cap_components.specs.Descriptions.{Description, no_void, field_type}
 

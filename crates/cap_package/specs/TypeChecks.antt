@@ -1,6 +1,6 @@
 -- The type descriptors that fields and methods name (JCVM 2.2, section 6.13).
 use Rattle.std.specs.Prelude.{ℕ, Option, Some, None, nat_lt, if◌then◌else◌}
-use Rattle.cap_desc.specs.declared.type_item.TypeItem.{TypeItem}
+use Rattle.cap_desc.specs.declared.type_list.TypeItem.{TypeItem}
 use Rattle.cap_desc.specs.DescriptorFormat.{MethodDescriptor, FieldDescriptor}
 use Rattle.cap_components.specs.Descriptions.{Description, field_type, argument_words}
 use Rattle.cap_components.specs.declared.fault.PackFault.{PackFault}

@@ -18,7 +18,7 @@ use Rattle.jc_base.proofs.Lists.{All-slice_get, slice_get-front, slice_get-farth
 use Rattle.jc_base.specs.Cell.{IsDeclared, IsInitialHandle, AreInitialWords}
 use Rattle.jc_base.specs.Linked.{IsStatic}
 use Rattle.cap_method.specs.StaticFormat.{Array, Statics}
-use Rattle.cap_desc.specs.declared.type_item.TypeItem.{TypeItem}
+use Rattle.cap_desc.specs.declared.type_list.TypeItem.{TypeItem}
 use Rattle.cap_desc.specs.TypeFormat.{is_type}
 use Rattle.cap_package.specs.StaticChecks.{ImagePlace, is_in_image}
 use Rattle.cap_package.specs.PackageRecord.{PackageRecord}

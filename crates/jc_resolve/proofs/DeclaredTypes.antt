@@ -9,7 +9,7 @@ use Rattle.jc_base.specs.declared.ty.Ty.{Ty}
 use Rattle.jc_base.specs.Cell.{IsNoHalf, AreWhole, no_cells, whole_int, one_cell, IsFirstCell}
 use Rattle.cap_bytes.specs.ClassReference.{reference_of}
 use Rattle.cap_class.specs.ClassFormat as format
-use Rattle.cap_desc.specs.declared.type_item.TypeItem.{TypeItem}
+use Rattle.cap_desc.specs.declared.type_list.TypeItem.{TypeItem}
 use Rattle.cap_package.specs.Descriptions.{Description}
 use Rattle.cap_package.specs.PackageRecord.{PackageRecord}
 use Rattle.jc_resolve.specs.declared.named.NamedClass.{NamedClass}

@@ -4,8 +4,8 @@ use Rattle.std.specs.Prelude.{sum_by}
 use Rattle.std.proofs.lemmas.List.Sums.{sum_by-cons}
 use Rattle.cap_bytes.specs.Grammar.{Grammar, u1, u2, table, repeat, give, ◌>>=◌}
 use Rattle.cap_bytes.specs.Spelling.{Spells}
-use Rattle.cap_desc.specs.declared.lists.DescClasses.{DescClasses}
-use Rattle.cap_desc.specs.declared.lists.DescFields.{DescFields}
+use Rattle.cap_desc.specs.declared.records.DescClasses.{DescClasses}
+use Rattle.cap_desc.specs.declared.records.DescFields.{DescFields}
 use Rattle.cap_desc.specs.ClassRecords.{described_left}
 use Rattle.cap_desc.specs.MemberLists.{fields_left}
 use Rattle.cap_desc.specs.DescriptorFormat.{ClassDescriptor, FieldDescriptor, field_descriptor_info}

@@ -5,8 +5,8 @@ use Rattle.std.specs.Prelude.{filter, flat_map}
 use Rattle.std.specs.List.{range_with_len}
 use Rattle.std.proofs.lemmas.Bool.{cases_eq, ne_eqb}
 use Rattle.jc_base.specs.declared.ty.Ty.{Ty}
-use Rattle.cap_desc.specs.declared.desc_part.DescPart.{DescPart}
-use Rattle.cap_desc.specs.declared.type_item.TypeItem.{TypeItem}
+use Rattle.cap_desc.specs.declared.records.DescPart.{DescPart}
+use Rattle.cap_desc.specs.declared.type_list.TypeItem.{TypeItem}
 use Rattle.cap_desc.specs.DescriptorFormat.{ClassDescriptor, FieldDescriptor, instance_token}
 use Rattle.cap_desc.specs.Members.{fields_of}
 use Rattle.cap_package.specs.Descriptions.{Description, description}

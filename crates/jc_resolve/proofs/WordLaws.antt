@@ -3,7 +3,7 @@ use Rattle.std.proofs.Common.{◌≡◌, ℕ, ◌+◌, Bool, true, false, eqb, c
 use Rattle.std.proofs.Common.{◌∷◌, length, length-append, Option, Some, None, refl, sym, arith}
 use Rattle.std.proofs.Common.{ap₂, ◌∙◌}
 use Rattle.std.specs.Prelude.{option_map, option_and_then}
-use Rattle.cap_desc.specs.declared.type_item.TypeItem.{TypeItem}
+use Rattle.cap_desc.specs.declared.type_list.TypeItem.{TypeItem}
 use Rattle.cap_desc.specs.TypeFormat.{types_at}
 use Rattle.cap_package.specs.Agreement.{or_none}
 use Rattle.cap_package.specs.Descriptions.{Description, words_of, words_before, words_in, argument_words}

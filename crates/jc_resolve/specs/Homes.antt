@@ -1,7 +1,7 @@
 -- What a package with its number sees: classes by number over all packages, the roles of classes, and its own records.
 use Rattle.std.specs.Prelude.{ℕ, Bool, List, Option, map, slice_index}
 use Rattle.cap_class.specs.ClassFormat.{Class}
-use Rattle.cap_desc.specs.declared.type_item.TypeItem.{TypeItem}
+use Rattle.cap_desc.specs.declared.type_list.TypeItem.{TypeItem}
 use Rattle.cap_desc.specs.DescriptorFormat as described
 use Rattle.cap_desc.specs.DescriptorFormat.{FieldDescriptor, MethodDescriptor}
 use Rattle.cap_method.specs.declared.read_methods.HandlerInfo.{HandlerInfo}

@@ -3,7 +3,7 @@ use Rattle.std.specs.Prelude.{ℕ, ◌+◌, Bool, List, [], ◌∷◌, Option, N
 use Rattle.std.specs.Prelude.{◌==◌, if◌then◌else◌}
 use Rattle.std.specs.List.{range_with_len}
 use Rattle.cap_class.specs.ClassFormat.{Class, is_interface}
-use Rattle.cap_desc.specs.declared.type_item.TypeItem.{TypeItem}
+use Rattle.cap_desc.specs.declared.type_list.TypeItem.{TypeItem}
 use Rattle.cap_desc.specs.DescriptorFormat as described
 use Rattle.cap_package.specs.Descriptions.{Description, field_type}
 use Rattle.cap_package.specs.HeaderChecks.{is_static}

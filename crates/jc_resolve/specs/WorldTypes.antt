@@ -2,7 +2,7 @@
 -- boolean, byte and short are Short, an interface is class object, and an array of an interface an
 -- array of object.
 use Rattle.std.specs.Prelude.{ℕ, ◌+◌, List, [], ◌∷◌, ◌++◌, Option, Some, None, ◌==◌, ◌||◌, if◌then◌else◌}
-use Rattle.cap_desc.specs.declared.type_item.TypeItem.{TypeItem}
+use Rattle.cap_desc.specs.declared.type_list.TypeItem.{TypeItem}
 use Rattle.cap_desc.specs.TypeFormat.{types_at}
 use Rattle.cap_package.specs.Descriptions.{Description}
 use Rattle.cap_package.specs.Agreement.{or_none}

@@ -5,7 +5,7 @@ use Rattle.std.proofs.Common.{length-append}
 use Rattle.std.specs.Prelude.{if◌then◌else◌, ◌==◌, ◌&&◌, is_some, filter_map, flat_map}
 use Rattle.cap_bytes.specs.declared.class_reference.ClassReference.{ClassReference}
 use Rattle.cap_class.specs.ClassFormat.{Class, is_interface as is_interface_flags}
-use Rattle.cap_desc.specs.declared.type_item.TypeItem.{TypeItem}
+use Rattle.cap_desc.specs.declared.type_list.TypeItem.{TypeItem}
 use Rattle.cap_desc.specs.DescriptorFormat.{ClassDescriptor, FieldDescriptor}
 use Rattle.cap_package.specs.Descriptions.{Description, field_type}
 use Rattle.cap_package.specs.HeaderChecks.{is_static}

@@ -3,7 +3,7 @@ use Rattle.std.proofs.Common.{arith}
 use Rattle.std.proofs.Common.{◌≡◌, ◌+◌, ℕ, List, [], ◌∷◌, Bool, true, false, not, Option, Some, None, slice_get}
 use Rattle.std.proofs.Common.{slice_index, refl, ap}
 use Rattle.std.specs.Prelude.{if◌then◌else◌, unwrap_or, ◌==◌}
-use Rattle.cap_desc.specs.declared.type_item.TypeItem.{TypeItem}
+use Rattle.cap_desc.specs.declared.type_list.TypeItem.{TypeItem}
 use Rattle.cap_desc.specs.DescriptorFormat.{ClassDescriptor, MethodDescriptor}
 use Rattle.cap_method.specs.declared.read_methods.HandlerInfo.{HandlerInfo}
 use Rattle.cap_method.specs.MethodFormat.{Header}

@@ -1,7 +1,7 @@
 -- The static fields and the initial arrays are the same.
 use Rattle.std.proofs.Common.{arith}
 use Rattle.std.proofs.Common.{◌≡◌, ◌+◌, ℕ, List, [], ◌∷◌, length, map, filter_map, sum_by, Option, refl, ap, ◌∙◌}
-use Rattle.cap_desc.specs.declared.type_item.TypeItem.{TypeItem}
+use Rattle.cap_desc.specs.declared.type_list.TypeItem.{TypeItem}
 use Rattle.cap_desc.specs.DescriptorFormat.{FieldDescriptor}
 use Rattle.cap_method.specs.StaticFormat.{Statics}
 use Rattle.cap_package.specs.Descriptions.{Description}

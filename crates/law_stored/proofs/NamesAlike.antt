@@ -10,7 +10,7 @@ use Rattle.first_fault.specs.First.{at_fault}
 use Rattle.cap_bytes.specs.declared.class_reference.ClassReference.{ClassReference}
 use Rattle.cap_bytes.specs.ClassReference.{reference_of}
 use Rattle.cap_class.specs.ClassFormat.{Class, Interface, is_interface}
-use Rattle.cap_desc.specs.declared.type_item.TypeItem.{TypeItem}
+use Rattle.cap_desc.specs.declared.type_list.TypeItem.{TypeItem}
 use Rattle.cap_desc.specs.DescriptorFormat as described
 use Rattle.cap_desc.specs.DescriptorFormat.{FieldDescriptor}
 use Rattle.cap_frame.specs.PackageFormat.{Package}

@@ -1,7 +1,7 @@
 -- The flags that are set are those of the static fields so far.
 use Rattle.std.proofs.Common.{ℕ, Bool, List, ap, sym, ◌∙◌, rules}
 use Rattle.offset_set.specs.Bits.{holds}
-use Rattle.cap_desc.specs.declared.members.FieldsOf.{FieldsOf}
+use Rattle.cap_desc.specs.declared.records.FieldsOf.{FieldsOf}
 use Rattle.cap_desc.specs.DescriptorFormat.{FieldDescriptor}
 use Rattle.cap_desc.specs.MemberRecords.{field_seen}
 use Rattle.cap_desc.specs.MembersLeft.{fields_of_left}

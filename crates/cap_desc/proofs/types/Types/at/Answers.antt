@@ -1,7 +1,7 @@
 -- The n-th type is what `nth` gives.
 use Rattle.std.proofs.Common.{sym, ◌∙◌, refl}
 use Rattle.std.proofs.lemmas.Iterator.Consumers.{nth_from_yields_List, YieldsList-from_first}
-use Rattle.cap_desc.specs.declared.type_item.TypeItem.{TypeItem}
+use Rattle.cap_desc.specs.declared.type_list.TypeItem.{TypeItem}
 use Rattle.cap_desc.specs.TypeLists.{types_left}
 use Rattle.cap_desc.proofs.types.Types.at.Goals as goal
 

@@ -1,0 +1,10 @@
+use Rattle.std.proofs.Common.{◌≡◌, length}
+use Rattle.cap_desc.specs.ClassRecords.{described_left}
+use Rattle.cap_desc.specs.MembersLeft.{methods_of_left}
+use Rattle.cap_desc.proofs.iterate.MethodsOfIterator.next.Given as goal
+
+abbrev pub invariant-classes : goal.invariant-classes
+invariant-classes l = methods_of_left l.self ≡ methods_of_left l.initial.self
+
+abbrev pub decreases-classes : goal.decreases-classes
+decreases-classes l = length (described_left l.self.classes)
