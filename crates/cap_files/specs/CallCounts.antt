@@ -1,6 +1,6 @@
 -- The calls of one kind to a device in memory.
 use Rattle.std.specs.Prelude.{ℕ, List}
-use Rattle.cap_files.specs.declared.calls.Failure.{Failure}
+use Rattle.cap_files.specs.declared.disk.Failure.{Failure}
 
 -- how many calls were made and how many failed, and the calls that are to fail, in the order in which they were listed
 pub record Counted : Type 0 where

@@ -1,6 +1,6 @@
 -- Which calls to a device in memory fail.
 use Rattle.std.specs.Prelude.{ℕ, ◌==◌, List, [], ◌∷◌, ◌++◌, Option, option_map, find}
-use Rattle.cap_files.specs.declared.calls.Failure.{Failure}
+use Rattle.cap_files.specs.declared.disk.Failure.{Failure}
 use Rattle.cap_files.specs.CallCounts.{Counted}
 use Rattle.cap_files.specs.Counts.{one_more}
 

@@ -3,7 +3,7 @@
 use Rattle.std.specs.Prelude.{ℕ, nat_lt, ◌==◌, List, [], ◌∷◌, ◌++◌, codes, decimal, slice_index_or, Option, Some, None}
 use Rattle.std.specs.Prelude.{if◌then◌else◌}
 use Rattle.std.specs.List.{concat}
-use Rattle.cap_files.specs.declared.name.FileName.{FileName}
+use Rattle.cap_files.specs.declared.path.FileName.{FileName}
 
 -- the components by their tags, before them the file of roles, and after them the Load file and the listing
 abbrev pub standard_names : List (List ℕ)

@@ -4,7 +4,7 @@ use Rattle.std.specs.Prelude.{if◌then◌else◌}
 use Rattle.cap_files.specs.declared.folder.LoadEnd.{LoadEnd}
 use Rattle.cap_files.specs.declared.folder.LoadEnd.TheVariants.{Failed, TooLong, Memory}
 use Rattle.cap_files.specs.declared.mem_folder.MemFolder.{MemFolder}
-use Rattle.cap_files.specs.declared.mem_sink.MemSink.{MemSink}
+use Rattle.cap_files.specs.declared.sink.MemSink.{MemSink}
 use Rattle.cap_files.specs.Folder.{Folders}
 use Rattle.cap_files.specs.CallCounts.{Counted}
 use Rattle.cap_files.specs.Calls.{next_keep, one_more_call, faulted, with_failure}

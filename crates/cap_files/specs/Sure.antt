@@ -1,7 +1,7 @@
 -- Devices in memory that never fail: what goes beyond their room is taken, and from then on they do not tell what they have.
 use Rattle.std.specs.Prelude.{ℕ, false, List, Option, Some, None, if◌then◌else◌}
-use Rattle.cap_files.specs.declared.sure_folder.SureFolder.{SureFolder}
-use Rattle.cap_files.specs.declared.sure_sink.SureSink.{SureSink}
+use Rattle.cap_files.specs.declared.sure.SureFolder.{SureFolder}
+use Rattle.cap_files.specs.declared.sure.SureSink.{SureSink}
 use Rattle.cap_files.specs.Folder.{Folders}
 use Rattle.cap_files.specs.Shelf as shelf
 use Rattle.cap_files.specs.Tape as tape

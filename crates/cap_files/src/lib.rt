@@ -4,26 +4,17 @@
 //! `cap_bytes` and `itoa`.
 #![tactic(auto)]
 
-mod calls;
 mod dir_folder;
 mod disk;
 mod file_system;
 mod folder;
-mod load;
 mod mem_folder;
-mod mem_sink;
-mod name;
-mod out_sink;
 mod output;
 mod path;
-mod piece;
 mod pile;
 mod records;
-mod shelf;
 mod sink;
-mod sure_folder;
-mod sure_sink;
-mod tape;
+mod sure;
 mod transfer;
 mod words;
 
@@ -32,11 +23,8 @@ pub use disk::{Disk, DiskFailed};
 pub use file_system::FileSystem;
 pub use folder::{Folder, LoadEnd, StoreFailed};
 pub use mem_folder::MemFolder;
-pub use mem_sink::MemSink;
-pub use name::{FileName, file_name};
-pub use out_sink::OutSink;
 pub use output::{Output, StandardOutput};
-pub use sink::{Sink, SinkFailed};
-pub use sure_folder::SureFolder;
-pub use sure_sink::SureSink;
+pub use path::{FileName, file_name};
+pub use sink::{MemSink, OutSink, Sink, SinkFailed};
+pub use sure::{SureFolder, SureSink};
 pub use words::{Words, WordsIter};

@@ -1,12 +1,13 @@
-ghost use Rattle.std.specs.Prelude.{◌≡◌, ◌+◌, ◌<◌, ◌≤◌, [], ◌∷◌, ◌++◌, length, take, drop, position, remove, sum_by, find, Option, option_map, IfOk, ◌^◌, nat_lt, nat_le, ◌&&◌};
+ghost use Rattle.std.specs.Prelude.{◌≡◌, ◌+◌, ◌<◌, ◌≤◌, [], ◌∷◌, ◌++◌, length, take, drop, position, remove, sum_by, find, Option};
+ghost use Rattle.std.specs.Prelude.{option_map, IfOk, ◌^◌, nat_lt, nat_le, ◌&&◌, vec_len, vec_capacity};
 ghost use Rattle.std.specs.Option.{ForSome};
-ghost use Rattle.std.specs.Vec.{vec_len, vec_capacity};
 ghost use Rattle.cap_files.specs.Folder.{key_of};
 ghost use Rattle.cap_files.specs.Room.{size_of};
 ghost use Rattle.cap_files.specs.Records.{has_key, has_room_beside, without};
 ghost use Rattle.cap_files.specs.RecordsLeft.{records_left};
+ghost use Rattle.cap_files.specs.Mem.{kept_of};
+ghost use Rattle.cap_files.specs.Tape.{empty_tape, has_room, appended};
 
-use crate::piece::append;
 use crate::records::{Entry, Records};
 use cap_bytes::Part;
 use std::alloc::{AllocError, Global};
@@ -160,4 +161,75 @@ fn cut_out(buffer: &mut Vec<u8>, start: usize, size: usize)
     let left = buffer.len() - size;
     buffer[start..].rotate_left(size);
     buffer.truncate(left);
+}
+
+/// Appends a piece that the room suffices for.
+pub(crate) fn append(buffer: &mut Vec<u8>, piece: &[u8])
+    requires { vec_len buffer.old + length piece.now ≤ vec_capacity buffer.old }
+    ensures items { buffer.new.items ≡ buffer.old.items ++ piece.now }
+    ensures len { vec_len buffer.new ≡ vec_len buffer.old + length piece.now }
+    ensures capacity { vec_capacity buffer.old ≤ vec_capacity buffer.new }
+{
+    let appended = buffer.extend_from_slice(piece).is_ok();
+    prove!(appended);
+}
+
+/// The first bytes, where at most so many are kept, and else all.
+pub(crate) fn kept(bytes: &[u8], most: Option<u32>) -> &[u8]
+    ensures { result.now ≡ kept_of most bytes.now }
+{
+    match most {
+        Some(most) => bytes.get(..most as usize).unwrap_or(bytes),
+        None => bytes,
+    }
+}
+
+/// Bytes in memory, whose room is taken when the tape is made.
+#[derive(Drop)]
+pub(crate) struct Tape {
+    bytes: Vec<u8>,
+    most: usize,
+}
+
+impl Model for Tape {
+    ghost use Rattle.cap_files.specs.Tape.{Taped};
+
+    ghost Value = { Taped };
+
+    ghost use Rattle.std.specs.Prelude.{◌≤◌};
+    ghost use Rattle.std.specs.Vec.{vec_capacity};
+
+    ghost view = { λ t. record { bytes = t.bytes.items; most = t.most } };
+
+    ghost invariant = { λ t. t.most ≤ vec_capacity t.bytes };
+}
+
+impl Tape {
+    pub(crate) fn new(alloc: Global, most: u32) -> Result<Tape, AllocError>
+        ensures { IfOk result (λ t. t ≡ empty_tape most) }
+    {
+        Ok(Tape {
+            bytes: Vec::with_capacity(alloc, most as usize)?,
+            most: most as usize,
+        })
+    }
+
+    pub(crate) fn bytes(&self) -> &[u8]
+        ensures { result.now ≡ self.now.bytes }
+    {
+        self.bytes.as_slice()
+    }
+
+    /// Appends a piece that the room suffices for, and answers whether it does.
+    pub(crate) fn append(&mut self, piece: &[u8]) -> bool
+        ensures room { result ≡ has_room self.old piece.now }
+        ensures after { self.new ≡ appended self.old piece.now }
+    {
+        let filled = self.bytes.len();
+        if filled > self.most || piece.len() > self.most - filled {
+            return false;
+        }
+        append(&mut self.bytes, piece);
+        true
+    }
 }

@@ -2,7 +2,7 @@ use Rattle.std.proofs.Common.{◌≡◌, ◌∙◌, refl, sym, true, false}
 use Rattle.cap_files.specs.Folder.{key_of}
 use Rattle.cap_files.specs.Shelf.{has_room}
 use Rattle.cap_files.proofs.Keys.{distinct_put, map_put, suffices_put}
-use Rattle.cap_files.proofs.shelf.Shelf.place.Goals as goal
+use Rattle.cap_files.proofs.mem_folder.Shelf.place.Goals as goal
 
 pub returns-then-not-has_room-clause-room : goal.returns-then-not-has_room-clause-room
 returns-then-not-has_room-clause-room c =

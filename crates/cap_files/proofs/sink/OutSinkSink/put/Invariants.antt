@@ -1,6 +1,6 @@
 use Rattle.std.proofs.Common.{◌≡◌, ℕ, List, ◌++◌, length}
 use Rattle.cap_files.specs.Sink.{TakesWhole}
-use Rattle.cap_files.proofs.out_sink.OutSinkSink.put.Given as goal
+use Rattle.cap_files.proofs.sink.OutSinkSink.put.Given as goal
 
 abbrev pub invariant-pieces : goal.invariant-pieces
 invariant-pieces g l = record {

@@ -1,7 +1,7 @@
 use Rattle.std.proofs.Common.{◌∙◌, arith}
 use Rattle.std.proofs.lemmas.Grind.{common_steps}
 use Rattle.cap_files.proofs.Outputs.{taken_on, taken_no_more}
-use Rattle.cap_files.proofs.out_sink.OutSinkSink.put.Goals as goal
+use Rattle.cap_files.proofs.sink.OutSinkSink.put.Goals as goal
 
 pub pieces-preserved : goal.pieces-preserved
 pieces-preserved g c =
