@@ -1,9 +1,9 @@
 -- What two components count, by the number that tells it: the order in which the counts are compared.
 use Rattle.std.specs.Prelude.{ℕ}
-use Rattle.cap_components.specs.declared.count_kind.CountKind.{CountKind}
-use Rattle.cap_components.specs.declared.count_kind.CountKind.TheVariants.{Imports, Applets, ImageSize, InitialArrays, ArrayBytes}
-use Rattle.cap_components.specs.declared.count_kind.CountKind.TheVariants.{PoolTypes, ArgumentWords, InstanceCells, ImageSegments}
-use Rattle.cap_components.specs.declared.count_kind.CountKind.TheVariants.{AbstractCode}
+use Rattle.cap_components.specs.declared.fault.CountKind.{CountKind}
+use Rattle.cap_components.specs.declared.fault.CountKind.TheVariants.{Imports, Applets, ImageSize, InitialArrays, ArrayBytes}
+use Rattle.cap_components.specs.declared.fault.CountKind.TheVariants.{PoolTypes, ArgumentWords, InstanceCells, ImageSegments}
+use Rattle.cap_components.specs.declared.fault.CountKind.TheVariants.{AbstractCode}
 
 abbrev pub number_of_kind : CountKind → ℕ
 number_of_kind Imports = 1

@@ -5,7 +5,7 @@ use Rattle.cap_frame.specs.HeaderFormat.{header_info}
 use Rattle.cap_frame.specs.Directory.{directory_items}
 use Rattle.cap_frame.specs.DirectoryFormat.{directory_info}
 use Rattle.cap_components.specs.declared.fault.PackFault.{PackFault}
-use Rattle.cap_components.specs.declared.opening.Opening.{Opening}
+use Rattle.cap_components.specs.declared.components.Opening.{Opening}
 use Rattle.cap_components.specs.Parts.{Lent}
 use Rattle.cap_components.specs.Components.{info_in, read_part, read_directory}
 

@@ -22,3 +22,10 @@ pub struct Components<'p, 'a> {
     pub export: Option<Export<'a>>,
     pub descriptor: DescPart<'a>,
 }
+
+/// The Header and the Directory, with which the reading of a package begins.
+#[derive(Clone, Copy)]
+pub struct Opening<'a> {
+    pub header: Header<'a>,
+    pub directory: Directory<'a>,
+}

@@ -1,8 +1,11 @@
 ghost use Rattle.std.specs.Prelude.{◌≡◌, ◌≤◌, IfSome};
 ghost use Rattle.cap_desc.specs.TypeLists.{types_left};
 ghost use Rattle.cap_components.specs.Descriptions.{description, words_of, words_in, argument_words, field_type};
+ghost use Rattle.cap_desc.specs.MemberRecords.{method_seen};
+ghost use Rattle.cap_components.specs.MethodPlaces.{code_start, code_end};
 
-use cap_desc::{DescPart, TypeItem, Types};
+use cap_bytes::View;
+use cap_desc::{DescPart, MethodInfo, TypeItem, Types};
 
 /// The words that a value of a type takes.
 pub fn words_of(item: TypeItem) -> u16
@@ -55,4 +58,25 @@ pub fn field_type(descriptor: &DescPart<'_>, ty: u16) -> Option<TypeItem>
     }
     let item = descriptor.type_at(ty)?;
     (item.nibble != TypeItem::VOID).then_some(item)
+}
+
+/// The offset after a method's header.
+#[tactic(auto, unfolding(crate::specs::MethodPlaces::code_start))]
+pub fn code_start(info: View<'_>, method: &MethodInfo) -> u32
+    ensures value { result ≡ code_start info.entry.bytes.now (method_seen method.now) }
+    ensures near { result ≤ 65539 }
+{
+    let size = match info.u1(method.method_offset as u32) {
+        Some(first) if first >= 0x80 => 4,
+        _ => 2,
+    };
+    method.method_offset as u32 + size
+}
+
+/// The offset after a method's code.
+#[tactic(auto, unfolding(crate::specs::MethodPlaces::code_end))]
+pub fn code_end(info: View<'_>, method: &MethodInfo) -> u32
+    ensures { result ≡ code_end info.entry.bytes.now (method_seen method.now) }
+{
+    code_start(info, method) + method.bytecode_count as u32
 }

@@ -5,24 +5,17 @@
 #![tactic(auto)]
 
 mod components;
-mod count_kind;
 mod description;
 mod fault;
-mod least;
-mod method_places;
-mod opening;
 mod part_checks;
 mod parts;
 mod read;
 mod reading;
 
-pub use components::Components;
-pub use count_kind::CountKind;
-pub use description::{argument_words, field_type, words_of};
-pub use fault::PackFault;
+pub use components::{Components, Opening};
+pub use description::{argument_words, code_end, code_start, field_type, words_of};
+pub use fault::{CountKind, PackFault};
 pub use first_fault::{lesser, refuse};
-pub use method_places::{code_end, code_start};
-pub use opening::Opening;
 pub use part_checks::{customs_formed, sizes_agree};
 pub use parts::{OwnedParts, Parts};
 pub use read::{info_in, opening_in};

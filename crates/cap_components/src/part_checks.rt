@@ -3,10 +3,11 @@ ghost use Rattle.cap_frame.specs.Directory.{directory_items};
 ghost use Rattle.cap_components.specs.Components.{read_directory};
 ghost use Rattle.cap_components.specs.Openings.{GivesOpening};
 ghost use Rattle.cap_components.specs.Order.{least_of, least_from, refused};
-ghost use Rattle.cap_components.specs.PartChecks.{components, optional, custom_tags, absent_fault, sized_fault, missing, form_fault, size_fault};
+ghost use Rattle.cap_components.specs.PartChecks.{components, optional, custom_tags, absent_fault, sized_fault, missing, form_fault};
+ghost use Rattle.cap_components.specs.PartChecks.{size_fault};
 
+use crate::components::Opening;
 use crate::fault::PackFault;
-use crate::opening::Opening;
 use crate::parts::Parts;
 use crate::read::info_in;
 use cap_bytes::Part;

@@ -24,8 +24,8 @@ ghost use Rattle.cap_components.specs.MethodsSeen.{methods_seen};
 ghost use Rattle.cap_components.specs.IfThere.{seen_if};
 ghost use Rattle.cap_components.specs.Openings.{GivesOpening};
 
+use crate::components::Opening;
 use crate::fault::PackFault;
-use crate::opening::Opening;
 use crate::parts::Parts;
 use cap_bytes::{Format, Part, View};
 use cap_class::ClassPart;

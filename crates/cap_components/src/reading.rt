@@ -8,9 +8,8 @@ ghost use Rattle.cap_components.specs.Openings.{IsOpening, GivesOpening};
 ghost use Rattle.cap_components.specs.PackageRecord.{names_interface};
 ghost use Rattle.cap_components.specs.ReadPackage.{read_package, read_whole};
 
-use crate::components::Components;
+use crate::components::{Components, Opening};
 use crate::fault::PackFault;
-use crate::opening::Opening;
 use crate::part_checks::none_missing;
 use crate::parts::Parts;
 use crate::read::{

@@ -6,7 +6,7 @@ use Rattle.cap_pool.specs.ExportFormat.{Exported}
 use Rattle.cap_desc.specs.DescriptorFormat as described
 use Rattle.cap_desc.specs.Members.{methods_of}
 use Rattle.cap_desc.specs.TypeFormat.{types_in}
-use Rattle.cap_components.specs.declared.count_kind.CountKind.TheVariants.{Imports, Applets, ImageSize, InitialArrays, ArrayBytes, PoolTypes, ImageSegments}
+use Rattle.cap_components.specs.declared.fault.CountKind.TheVariants.{Imports, Applets, ImageSize, InitialArrays, ArrayBytes, PoolTypes, ImageSegments}
 use Rattle.cap_components.specs.Descriptions.{argument_words, field_type}
 use Rattle.cap_components.specs.PackageRecord.{described_methods, interface_methods, fields, names_interface}
 use Rattle.cap_components.specs.PartChecks.{form_fault, custom_tags}

@@ -7,8 +7,8 @@ use Rattle.cap_desc.specs.DescriptorFormat as described
 use Rattle.cap_desc.specs.DescriptorFormat.{FieldDescriptor}
 use Rattle.cap_components.specs.Descriptions.{Description, field_type, words_of}
 use Rattle.cap_package.specs.HeaderChecks.{is_static}
-use Rattle.cap_components.specs.declared.count_kind.CountKind.{CountKind}
-use Rattle.cap_components.specs.declared.count_kind.CountKind.TheVariants.{InstanceCells}
+use Rattle.cap_components.specs.declared.fault.CountKind.{CountKind}
+use Rattle.cap_components.specs.declared.fault.CountKind.TheVariants.{InstanceCells}
 use Rattle.cap_components.specs.declared.fault.PackFault.{PackFault}
 use Rattle.cap_components.specs.declared.fault.PackFault.TheVariants.{CountDisagrees}
 

@@ -8,9 +8,9 @@ use Rattle.cap_frame.specs.DirectoryFormat.{DirectoryItems}
 use Rattle.cap_pool.specs.ExportFormat.{Exported}
 use Rattle.cap_desc.specs.DescriptorFormat as described
 use Rattle.cap_desc.specs.Members.{methods_of}
-use Rattle.cap_components.specs.declared.count_kind.CountKind.{CountKind}
-use Rattle.cap_components.specs.declared.count_kind.CountKind.TheVariants.{Imports, Applets, ImageSize, InitialArrays, ArrayBytes}
-use Rattle.cap_components.specs.declared.count_kind.CountKind.TheVariants.{PoolTypes, ImageSegments}
+use Rattle.cap_components.specs.declared.fault.CountKind.{CountKind}
+use Rattle.cap_components.specs.declared.fault.CountKind.TheVariants.{Imports, Applets, ImageSize, InitialArrays, ArrayBytes}
+use Rattle.cap_components.specs.declared.fault.CountKind.TheVariants.{PoolTypes, ImageSegments}
 use Rattle.cap_components.specs.declared.fault.PackFault.{PackFault}
 use Rattle.cap_components.specs.Parts.{Lent}
 use Rattle.cap_components.specs.Order.{pack_place}

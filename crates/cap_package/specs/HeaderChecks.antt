@@ -8,7 +8,7 @@ use Rattle.cap_bytes.specs.Reading.{read}
 use Rattle.cap_method.specs.MethodFormat.{Header, method_header}
 use Rattle.cap_desc.specs.DescriptorFormat.{MethodDescriptor}
 use Rattle.cap_components.specs.Descriptions.{Description, argument_words}
-use Rattle.cap_components.specs.declared.count_kind.CountKind.TheVariants.{ArgumentWords, AbstractCode}
+use Rattle.cap_components.specs.declared.fault.CountKind.TheVariants.{ArgumentWords, AbstractCode}
 use Rattle.cap_components.specs.declared.fault.PackFault.{PackFault}
 use Rattle.cap_components.specs.declared.fault.PackFault.TheVariants.{TooManyRegisters, MethodLength, CountDisagrees}
 

@@ -16,7 +16,7 @@ use Rattle.cap_frame.specs.Directory.{directory_items, size_in, custom_size_in}
 use Rattle.cap_files.specs.Folder.{Parts, Folders, IsTooLong, Loads}
 use Rattle.cap_files.specs.declared.folder.LoadEnd.{LoadEnd}
 use Rattle.cap_components.specs.declared.fault.PackFault.{PackFault}
-use Rattle.cap_components.specs.declared.opening.Opening.{Opening}
+use Rattle.cap_components.specs.declared.components.Opening.{Opening}
 use Rattle.cap_components.specs.Components.{framed, formed, info_in, read_part, read_directory, ◌>>=◌}
 use Rattle.cap_components.specs.Openings.{IsOpening}
 use Rattle.cap_package.specs.Parts.{Lent, held, HasEachOnce}

@@ -18,9 +18,9 @@ use Rattle.cap_package.specs.StaticChecks.{image_fault, image_by, array_kinds, f
 use Rattle.cap_package.specs.StaticChecks.{kind_at, image_offset, is_static_at, no_static_fault}
 use Rattle.cap_package.specs.NameChecks.{exported_fields, undescribed_fault, undescribed_class_fault, not_own_fault}
 use Rattle.cap_package.specs.TypeChecks.{field_type_fault, field_type_by, method_type_fault, method_type_by}
-use Rattle.cap_components.specs.declared.count_kind.CountKind.TheVariants.{Imports, Applets, ImageSize}
-use Rattle.cap_components.specs.declared.count_kind.CountKind.TheVariants.{InitialArrays, ArrayBytes, PoolTypes}
-use Rattle.cap_components.specs.declared.count_kind.CountKind.TheVariants.{ImageSegments}
+use Rattle.cap_components.specs.declared.fault.CountKind.TheVariants.{Imports, Applets, ImageSize}
+use Rattle.cap_components.specs.declared.fault.CountKind.TheVariants.{InitialArrays, ArrayBytes, PoolTypes}
+use Rattle.cap_components.specs.declared.fault.CountKind.TheVariants.{ImageSegments}
 use Rattle.cap_package.specs.CountChecks.{array_bytes, image_bytes, instance_fault, instance_by}
 use Rattle.cap_package.specs.CountChecks.{described_cells, described_cells_by, count_if}
 use Rattle.cap_package.specs.HeaderChecks.{is_static}
