@@ -3,7 +3,7 @@ use Rattle.std.specs.Prelude.{◌≡◌, ℕ, Bool, false, List, Option, find, �
 use Rattle.offset_set.specs.Bits.{holds}
 use Rattle.cap_class.specs.ClassFormat.{Class}
 use Rattle.cap_class.specs.ClassPart.{classes_left, records}
-use Rattle.cap_package.specs.declared.class_search.ClassSearch.{ClassSearch}
+use Rattle.cap_package.specs.declared.classes.ClassSearch.{ClassSearch}
 
 -- the first record at an offset
 abbrev pub record_at : ℕ → List Class → Option Class

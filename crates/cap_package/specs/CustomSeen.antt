@@ -1,5 +1,5 @@
 -- A custom component as a value of the program.
-use Rattle.cap_package.specs.declared.custom.Custom.{Custom}
+use Rattle.cap_package.specs.declared.packages.Custom.{Custom}
 use Rattle.cap_package.specs.Customs.{CustomItems}
 
 abbrev pub custom_items : Custom → CustomItems

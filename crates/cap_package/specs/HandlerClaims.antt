@@ -7,7 +7,7 @@ use Rattle.cap_method.specs.declared.read_methods.HandlerInfo.{HandlerInfo}
 use Rattle.cap_desc.specs.DescriptorFormat.{MethodDescriptor}
 use Rattle.cap_components.specs.declared.fault.PackFault.{PackFault}
 use Rattle.cap_components.specs.declared.fault.PackFault.TheVariants.{HandlerOutside}
-use Rattle.cap_package.specs.declared.handler_claims.HandlerClaims.{HandlerClaims}
+use Rattle.cap_package.specs.declared.handlers.HandlerClaims.{HandlerClaims}
 use Rattle.cap_package.specs.HandlerChecks.{claims, is_within}
 
 -- how often each entry is claimed, and which do not lie in the code of a method that claims them

@@ -1,6 +1,6 @@
 -- The packages that are left, when some are gone over in their order.
 use Rattle.std.specs.Prelude.{List, drop}
-use Rattle.cap_package.specs.declared.packages_iter.PackagesIter.{PackagesIter}
+use Rattle.cap_package.specs.declared.packages.PackagesIter.{PackagesIter}
 use Rattle.cap_package.specs.PackageRecord.{PackageRecord}
 
 abbrev pub packages_left : PackagesIter → List PackageRecord

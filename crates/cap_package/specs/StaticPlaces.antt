@@ -4,7 +4,7 @@ use Rattle.std.specs.List.{filter_map}
 use Rattle.cap_method.specs.StaticFormat.{Array, Statics}
 use Rattle.cap_desc.specs.TypeFormat.{is_type}
 use Rattle.cap_desc.specs.MembersLeft.{fields_of_left}
-use Rattle.cap_package.specs.declared.places.StaticPlaces.{StaticPlaces}
+use Rattle.cap_package.specs.declared.statics.StaticPlaces.{StaticPlaces}
 use Rattle.cap_components.specs.Descriptions.{description}
 use Rattle.cap_package.specs.StaticChecks.{ImagePlace, place_in, is_in_image}
 use Rattle.cap_components.specs.PackageRecord.{PackageRecord, fields}

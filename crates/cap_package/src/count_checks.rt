@@ -7,7 +7,7 @@ ghost use Rattle.cap_components.specs.Order.{least_of, refused};
 ghost use Rattle.cap_components.specs.Descriptions.{description};
 ghost use Rattle.cap_package.specs.CountChecks.{differ, array_bytes, described_cells, own_instance_cells, instance_by, instance_fault};
 
-use crate::class_search::ClassSearch;
+use crate::classes::ClassSearch;
 use cap_class::{ClassInfo, ClassPart};
 use cap_components::{CountKind, PackFault, field_type, refuse, words_of};
 use cap_desc::{DescClass, DescPart, FieldInfo};

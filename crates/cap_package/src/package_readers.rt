@@ -28,9 +28,8 @@ ghost use Rattle.cap_package.specs.StandsFor.{StandsFor};
 ghost use Rattle.cap_package.specs.Agreement.{package_from};
 ghost use Rattle.cap_package.specs.StaticPlaces.{places_left, static_places, AreApart, IsStaticPlace};
 
-use crate::custom::Custom;
-use crate::package_type::Package;
-use crate::places::StaticPlaces;
+use crate::packages::{Custom, Package};
+use crate::statics::StaticPlaces;
 use cap_bytes::View;
 use cap_class::ClassPart;
 use cap_components::{Components, Parts, info_in};

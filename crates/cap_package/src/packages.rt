@@ -1,9 +1,10 @@
 ghost use Rattle.std.specs.Prelude.{◌≡◌, ◌<◌, ◌≤◌, ◌-◌, [], ◌∷◌, ◌++◌, List, IfOk, OnOk, OnErr, Some, length, slice_get, take};
 ghost use Rattle.cap_components.specs.PackageRecord.{PackageRecord};
 ghost use Rattle.cap_package.specs.PackagesLeft.{packages_left};
+ghost use Rattle.std.specs.Iterator.{YieldsFirstRef, item_count};
 
-use crate::package_type::Package;
-use crate::packages_iter::PackagesIter;
+use cap_bytes::View;
+use cap_components::Components;
 use std::alloc::{AllocError, Global};
 use std::marker::Model;
 
@@ -94,4 +95,57 @@ impl<'p, 'a> Packages<'p, 'a> {
         }
         Ok(libraries)
     }
+}
+
+/// Packages in order: those that are left.
+#[derive(Clone, Copy)]
+pub struct PackagesIter<'x, 'p, 'a> {
+    pub(crate) packages: &'x [Package<'p, 'a>],
+    /// How many were given.
+    pub(crate) given: usize,
+}
+
+impl<'x, 'p, 'a> Iterator for PackagesIter<'x, 'p, 'a> {
+    type Item = &'x Package<'p, 'a>;
+
+    ghost next_gives = { YieldsFirstRef packages_left };
+
+    ghost remaining = { item_count packages_left };
+
+    #[tactic(auto, using(crate::proofs::Given::giving))]
+    fn next(&mut self) -> Option<&'x Package<'p, 'a>> {
+        let packages = self.packages;
+        let package = packages.get(self.given)?;
+        self.given += 1;
+        Some(package)
+    }
+}
+
+/// A custom component of a package.
+#[derive(Clone, Copy)]
+pub struct Custom<'a> {
+    /// 5 to 16 bytes.
+    pub aid: &'a [u8],
+    /// Its info, which is empty where the Directory gives it the size 0 and it is absent.
+    pub info: View<'a>,
+}
+
+/// A package whose parts agree (chapter 6 of the specification). It borrows its parts.
+#[derive(Drop)]
+pub struct Package<'p, 'a> {
+    pub(crate) all: Components<'p, 'a>,
+}
+
+impl<'p, 'a> Model for Package<'p, 'a> {
+    ghost use Rattle.cap_components.specs.PackageRecord.{PackageRecord};
+
+    ghost Value = { PackageRecord };
+
+    ghost use Rattle.cap_components.specs.ComponentsSeen.{components_seen};
+    ghost use Rattle.cap_components.specs.Infos.{HaveInfos};
+    ghost use Rattle.cap_package.specs.Agreement.{IsPackage};
+
+    ghost view = { λ p. components_seen p.all };
+
+    ghost invariant = { λ p. IsPackage (components_seen p.all) × HaveInfos p.all };
 }

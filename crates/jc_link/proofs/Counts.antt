@@ -11,7 +11,7 @@ use Rattle.jc_base.specs.Cell.{width}
 use Rattle.cap_method.specs.declared.static_part.ArrayInits.{ArrayInits}
 use Rattle.cap_method.specs.StaticFormat.{Array}
 use Rattle.cap_method.specs.StaticPart.{arrays_left}
-use Rattle.cap_package.specs.declared.places.StaticPlaces.{StaticPlaces}
+use Rattle.cap_package.specs.declared.statics.StaticPlaces.{StaticPlaces}
 use Rattle.cap_package.specs.StaticChecks.{ImagePlace}
 use Rattle.cap_package.specs.CountChecks.{array_bytes}
 use Rattle.cap_package.specs.PackageRecord.{PackageRecord}

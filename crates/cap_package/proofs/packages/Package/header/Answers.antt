@@ -1,0 +1,13 @@
+-- The info among the parts is the one that was read.
+use Rattle.std.proofs.Common.{subst}
+use Rattle.cap_frame.specs.HeaderFormat.{header_info}
+use Rattle.cap_components.specs.PackageRecord.{PackageRecord}
+use Rattle.cap_components.specs.Saying.{HoldsComponent}
+use Rattle.cap_package.proofs.OneRecord.{answer_is, holds-info}
+use Rattle.cap_package.proofs.packages.Package.header.Goals as goal
+
+pub returns-clause-info : goal.returns-clause-info
+returns-clause-info c =
+    let all = c.self.inside.all in
+    let P : PackageRecord → Type 0 = λ p. HoldsComponent p.parts 1 header_info all.header.info.bytes.now p.header in
+    subst P c.self.view_is (holds-info _ 1 header_info _ _ (answer_is _ _ c.self.invariant.0).said.header c.self.invariant.1.header)
