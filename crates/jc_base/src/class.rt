@@ -1,10 +1,13 @@
-ghost use Rattle.std.specs.Prelude.{◌≡◌, ◌<◌, ◌^◌, ◌↔◌, length, IsTrue, IfSome, IfNone, slice_get, slice_index};
+ghost use Rattle.std.specs.Prelude.{◌≡◌, ◌<◌, ◌^◌, ◌↔◌, length, IsTrue, IfSome, IfNone, slice_get, slice_index, ◌++◌, ◌∷◌, [], List};
+ghost use Rattle.std.specs.Prelude.{OnOk, OnErr, ◌+◌};
 ghost use Rattle.jc_base.specs.Class.{AreClasses, IsClass, IsNextOnChain, IsEndOfChain, parent_of, is_interface};
 ghost use Rattle.jc_base.specs.Dispatch.{entry_at, public_of, visible_of};
 
 use crate::list::ClassRecs;
 use crate::record::ClassRec;
+use std::alloc::{AllocError, Global};
 use std::marker::Model;
+use std::sync::ledger::{Blank, Book, Ledger, Share};
 
 /// The classes and interfaces of all packages by number, with the classes of the eight roles.
 #[derive(Drop)]
@@ -128,5 +131,91 @@ impl Classes {
         ensures { result ≡ self.now.roles }
     {
         self.roles
+    }
+}
+
+/// The infos of the Method components of a world's packages, in order, borrowed from the packages.
+#[derive(Drop)]
+pub struct Infos<'a> {
+    items: Vec<&'a [u8]>,
+}
+
+impl<'a> Model for Infos<'a> {
+    ghost use Rattle.std.specs.Prelude.{List, ℕ, map};
+
+    ghost Value = { List (List ℕ) };
+
+    ghost view = { λ a. map (λ b. b.now) a.items.items };
+}
+
+impl<'a> Infos<'a> {
+    /// No info yet.
+    pub fn new(alloc: Global) -> Infos<'a>
+        ensures { result ≡ [] }
+    {
+        Infos {
+            items: Vec::new(alloc),
+        }
+    }
+
+    /// Appends the info of the next package. Out of memory, the list is as before.
+    pub fn push(&mut self, info: &'a [u8]) -> Result<(), AllocError>
+        ensures ok { OnOk result (self.new ≡ self.old ++ info.now ∷ []) }
+        ensures err { OnErr result (self.new ≡ self.old) }
+    {
+        self.items.push(info)?;
+        Ok(())
+    }
+
+    /// How many packages there are.
+    pub fn len(&self) -> usize
+        ensures { result ≡ length self.now }
+    {
+        self.items.len()
+    }
+
+    /// The info of a package, by its number.
+    pub fn at(&self, n: usize) -> &'a [u8]
+        requires { n < length self.now }
+        ensures { slice_get self.now n ≡ Some result.now }
+    {
+        self.items[n]
+    }
+}
+
+/// How many steps were taken, a number that takes no bytes. Only `tick` changes it.
+#[derive(Drop)]
+pub struct Steps<L: Ledger> {
+    book: Book<L>,
+    share: Share<L>,
+}
+
+impl<L: Ledger> Model for Steps<L> {
+    ghost use Rattle.std.specs.Prelude.{ℕ, ◌<◌};
+
+    ghost Value = { ℕ };
+
+    ghost view = { λ s. s.book.total };
+
+    ghost invariant = { λ s. 0 < s.share.parts };
+}
+
+impl<L: Ledger> Steps<L> {
+    /// No step yet, in a new ledger of one part.
+    pub fn none(blank: Blank) -> Steps<L>
+        requires name { blank.name ≡ L.name }
+        requires parts { blank.parts ≡ L.parts }
+        requires one { blank.parts ≡ 1 }
+        ensures { result ≡ 0 }
+    {
+        let (book, share) = blank.open::<L>();
+        Steps { book, share }
+    }
+
+    /// Counts one step more.
+    pub fn tick(&mut self)
+        ensures { self.new ≡ self.old + 1 }
+    {
+        self.book.add(&mut self.share, 1);
     }
 }

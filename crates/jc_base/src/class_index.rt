@@ -4,10 +4,9 @@ ghost use Rattle.jc_base.specs.Linked.{AreLinkedClasses};
 ghost use Rattle.jc_base.specs.ByClass.{AreFilledBelow, IsIndexOf};
 
 use crate::class::Classes;
-use crate::concrete::public_have_bodies;
 use crate::list::{Indexes, Methods};
 use crate::method_bounds::{MethodBounds, method_bounds};
-use crate::visible_bodies::{VisibleBodies, known_at, visible_bodies};
+use crate::visible_bodies::{VisibleBodies, known_at, public_have_bodies, visible_bodies};
 use std::alloc::{AllocError, Global};
 use std::marker::Model;
 

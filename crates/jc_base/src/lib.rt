@@ -5,23 +5,18 @@
 
 mod class;
 mod class_index;
-mod concrete;
-mod infos;
 mod laws;
 mod list;
 mod method_bounds;
 mod order;
 mod record;
-mod steps;
 mod target_index;
 mod ty;
 mod visible_bodies;
 mod world;
 
-pub use class::Classes;
+pub use class::{Classes, Infos, Steps};
 pub use class_index::{ClassIndex, Lookups};
-pub use concrete::is_concrete;
-pub use infos::Infos;
 pub use laws::{
     concrete_decides, interfaces_decide, public_methods_run, subclasses_extend, types_are_ordered,
 };
@@ -32,7 +27,7 @@ pub use list::{
 pub use method_bounds::MethodBounds;
 pub use order::{below, is_reference, join};
 pub use record::{ArrayRec, ClassRec, Handler, Iface, Member, MethodRec, Sig, StaticRec};
-pub use steps::Steps;
 pub use target_index::TargetIndex;
 pub use ty::{Kind, Ty, same_type};
+pub use visible_bodies::is_concrete;
 pub use world::World;

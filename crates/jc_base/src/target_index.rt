@@ -1,7 +1,7 @@
 ghost use Rattle.std.specs.Prelude.{◌≡◌, ◌+◌, ◌≤◌, length, slice_get};
 ghost use Rattle.jc_base.specs.Index.{words_of_bytes};
 
-use crate::steps::Steps;
+use crate::class::Steps;
 use byteorder::{BigEndian, ByteOrder};
 use std::marker::Model;
 use std::sync::ledger::Ledger;

@@ -6,9 +6,8 @@ ghost use Rattle.jc_base.specs.ByClass.{AreBounds, IsIndexOf, listed};
 ghost use Rattle.jc_base.specs.Linked.{AreDispatched, IsMember, IsLinkedClass, IsMethod, IsStatic, list_at};
 ghost use Rattle.jc_base.specs.World.{IsWorld, IsThrown, member_at, code_of, index_of, has_numbers, method_numbered};
 
-use crate::class::Classes;
+use crate::class::{Classes, Infos};
 use crate::class_index::{ClassIndex, Lookups};
-use crate::infos::Infos;
 use crate::list::{Arrays, Indexes, Members, Methods, Pools, Statics};
 use crate::method_bounds::MethodBounds;
 use crate::record::{ArrayRec, ClassRec, Member, MethodRec, StaticRec};

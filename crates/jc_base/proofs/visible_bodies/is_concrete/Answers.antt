@@ -1,7 +1,7 @@
 use Rattle.std.proofs.Common.{◌↔◌, IsTrue, false, arith}
 use Rattle.jc_base.specs.Dispatch.{IsConcrete}
 use Rattle.jc_base.proofs.Concreteness.{concrete-is}
-use Rattle.jc_base.proofs.concrete.is_concrete.Goals as goal
+use Rattle.jc_base.proofs.visible_bodies.is_concrete.Goals as goal
 
 pub returns-then-is_interface-clause-computed : goal.returns-then-is_interface-clause-computed
 returns-then-is_interface-clause-computed c =

@@ -1,7 +1,7 @@
 use Rattle.std.proofs.Common.{◌↔◌, IsTrue, All, subst, sym, ◌∙◌}
 use Rattle.jc_base.specs.Dispatch.{HasBody}
 use Rattle.jc_base.proofs.Dispatches.{visible_read}
-use Rattle.jc_base.proofs.concrete.is_met.Goals as goal
+use Rattle.jc_base.proofs.visible_bodies.is_met.Goals as goal
 
 pub returns-else-seen : goal.returns-else-seen
 returns-else-seen c =

@@ -1,7 +1,7 @@
 use Rattle.std.proofs.Common.{◌↔◌, IsTrue, All, subst, sym, ◌∙◌}
 use Rattle.jc_base.specs.Dispatch.{HasBody}
 use Rattle.jc_base.proofs.Dispatches.{public_read}
-use Rattle.jc_base.proofs.concrete.public_have_bodies.Goals as goal
+use Rattle.jc_base.proofs.visible_bodies.public_have_bodies.Goals as goal
 
 pub returns : goal.returns
 returns c =

@@ -3,7 +3,7 @@ use Rattle.std.proofs.lemmas.List.{length-set}
 use Rattle.std.proofs.lemmas.Bool.{true≢false}
 use Rattle.jc_base.specs.Class.{IsNextOnChain, IsEndOfChain}
 use Rattle.jc_base.proofs.Bodies.{Climbs-refuses, Climbs-step, Climbs-end, Met-read}
-use Rattle.jc_base.proofs.concrete.visible_have_bodies.Goals as goal
+use Rattle.jc_base.proofs.visible_bodies.visible_have_bodies.Goals as goal
 
 pub returns-then-not-is_met : goal.returns-then-not-is_met
 returns-then-not-is_met c =

@@ -1,6 +1,6 @@
 use Rattle.std.proofs.Common.{◌<◌, length, refl, arith}
 use Rattle.jc_base.proofs.Bodies.{bodies-none, bodies-more, bodies-all}
-use Rattle.jc_base.proofs.concrete.all_have_bodies.Goals as goal
+use Rattle.jc_base.proofs.visible_bodies.all_have_bodies.Goals as goal
 
 pub returns-then-at : goal.returns-then-at
 returns-then-at c =

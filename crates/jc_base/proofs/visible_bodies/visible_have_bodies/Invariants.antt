@@ -1,7 +1,7 @@
 use Rattle.std.proofs.Common.{◌≡◌, length}
 use Rattle.jc_base.specs.Class.{IsClass, chain}
 use Rattle.jc_base.proofs.Bodies.{Climbs}
-use Rattle.jc_base.proofs.concrete.visible_have_bodies.Given as goal
+use Rattle.jc_base.proofs.visible_bodies.visible_have_bodies.Given as goal
 
 abbrev pub invariant-climb : goal.invariant-climb
 invariant-climb l = record {

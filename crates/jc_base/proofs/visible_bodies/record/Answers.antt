@@ -1,7 +1,7 @@
 use Rattle.std.proofs.Common.{subst}
 use Rattle.std.specs.Prelude.{IfSome}
 use Rattle.jc_base.specs.Linked.{IsLinkedClass}
-use Rattle.jc_base.proofs.concrete.record.Goals as goal
+use Rattle.jc_base.proofs.visible_bodies.record.Goals as goal
 
 pub returns-clause-links : goal.returns-clause-links
 returns-clause-links c =
