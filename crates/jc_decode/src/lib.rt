@@ -5,7 +5,6 @@
 #![tactic(auto)]
 
 mod cases;
-mod code_size;
 mod decoding;
 mod encoding;
 mod forms;
@@ -18,13 +17,11 @@ mod layout;
 mod names;
 mod pool_index;
 mod reading;
-mod renewed;
 mod setting;
 mod sizes;
 mod symbols;
 
 pub use cases::{case, target};
-pub use code_size::plain_code_size;
 pub use decoding::decode;
 pub use encoding::encode;
 pub use insn::{Case, CodeEnd, Insn, Placed};
@@ -39,5 +36,5 @@ pub use layout::{Cases, Layout, Operand};
 pub use names::{names_are_apart, opcode_name, opcode_named};
 pub use pool_index::{IndexWidth, PoolIndex};
 pub use setting::set_case;
-pub use sizes::plain_size;
+pub use sizes::{plain_code_size, plain_size};
 pub use symbols::{Item, Labels, Laid, LaidHandler, Range, Sequence, Symbols};

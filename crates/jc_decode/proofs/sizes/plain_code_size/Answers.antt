@@ -1,7 +1,7 @@
 use Rattle.std.proofs.Common.{ap, ◌∙◌, arith}
 use Rattle.jc_decode.specs.CodeSize.{plain_sum}
 use Rattle.jc_decode.proofs.PlainLengths.{plain_known, plain_is}
-use Rattle.jc_decode.proofs.code_size.plain_code_size.Goals as goal
+use Rattle.jc_decode.proofs.sizes.plain_code_size.Goals as goal
 
 pub overflow_add-size : goal.overflow_add-size
 overflow_add-size c =
