@@ -13,8 +13,8 @@ use Rattle.jc_base.specs.Order.{Below, same, anything, null_object}
 use Rattle.jc_base.specs.World.{Linked}
 use Rattle.jc_decode.specs.declared.insn.Placed.{Placed}
 use Rattle.jc_decode.specs.Listing.{listing, listing_end, falls, targets}
-use Rattle.jc_ops.specs.declared.want.Want.{Want}
-use Rattle.jc_ops.specs.declared.want.Want.TheVariants as wants
+use Rattle.jc_ops.specs.declared.operation.Want.{Want}
+use Rattle.jc_ops.specs.declared.operation.Want.TheVariants as wants
 use Rattle.jc_ops.specs.declared.operation.Operation.{Operation}
 use Rattle.jc_ops.specs.Next.{falls_from, ends_at}
 use Rattle.jc_ops.specs.declared.operation.Operation.TheVariants as ops

@@ -5,7 +5,7 @@ use Rattle.jc_base.specs.World.{Linked}
 use Rattle.jc_decode.specs.declared.insn.Insn.{Insn}
 use Rattle.jc_ops.specs.declared.fault.RuleFault.{RuleFault}
 use Rattle.jc_rules.specs.declared.effect.Mode.TheVariants.{Flow}
-use Rattle.jc_ops.specs.declared.site.Site.{Site}
+use Rattle.jc_ops.specs.declared.operation.Site.{Site}
 use Rattle.jc_rules.specs.declared.rule.Outcome.{Outcome}
 use Rattle.jc_rules.specs.Demand.{Frame}
 use Rattle.jc_rules.specs.Apply.{Applies, Refuses}

@@ -2,13 +2,13 @@ ghost use Rattle.std.specs.Prelude.{◌≡◌, ◌<◌, length, IfSome, Some};
 ghost use Rattle.jc_base.specs.declared.record.Member.TheVariants.{Super, StaticCall};
 ghost use Rattle.jc_base.specs.Linked.{lacks_code};
 ghost use Rattle.jc_base.specs.World.{member_at};
-ghost use Rattle.jc_ops.specs.Resolve.{virtual_callee, special_callee, static_callee, interface_callee, is_described, only, described, callee, own_receiver};
+ghost use Rattle.jc_ops.specs.Resolve.{virtual_callee, special_callee, static_callee, interface_callee, is_described, only, described};
+ghost use Rattle.jc_ops.specs.Resolve.{callee, own_receiver};
 
 use crate::fault::RuleFault;
 use crate::named::{byte_of, member, short_of};
-use crate::operation::{Callee, Choice};
+use crate::operation::{Callee, Choice, Want};
 use crate::row::Invocation;
-use crate::want::Want;
 use jc_base::{Member, MethodRec, Ty, World};
 use jc_decode::Insn;
 

@@ -15,15 +15,11 @@ mod named;
 mod operation;
 mod resolving;
 mod row;
-mod site;
-mod want;
 
 pub use fault::RuleFault;
 pub use laws::{entries_are_named, operations_are_sound, operations_go_alike};
 pub use operation::{
     Arithmetic, Branch, Callee, Choice, Constant, Holder, InstanceField, Move, Operation, Operator,
-    Order, Sameness, Sort, StaticField, TypeTest, Width,
+    Order, Sameness, Site, Sort, StaticField, TypeTest, Want, Width,
 };
 pub use resolving::resolve;
-pub use site::Site;
-pub use want::Want;

@@ -1,7 +1,6 @@
 ghost use Rattle.std.specs.Prelude.{◌≡◌};
 ghost use Rattle.jc_ops.specs.Next.{falls_from, jumps_from, ends_at};
 
-use crate::want::Want;
 use jc_base::{Kind, Ty};
 
 /// What an instruction loads, stores or returns, by the letter of its name.
@@ -220,4 +219,28 @@ impl Operation {
     {
         matches!(self, Operation::Return(_) | Operation::Throw)
     }
+}
+
+/// Where an instruction stands: its method, by number, and its offset in the method's code.
+#[derive(Clone, Copy)]
+pub struct Site {
+    pub method: u16,
+    pub place: u16,
+}
+
+/// What is wanted of the type of one cell or register.
+#[derive(Clone, Copy)]
+pub enum Want {
+    /// A value of this type.
+    Value(Ty),
+    /// A reference that may be kept in a register.
+    Storable,
+    /// An array of bytes or of booleans.
+    ByteArray,
+    /// An array of any kind.
+    AnyArray,
+    /// No half of an int.
+    Whole,
+    /// An object of this class, or one that a constructor of the class is yet to make ready.
+    Receiver(u16),
 }

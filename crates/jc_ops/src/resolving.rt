@@ -9,9 +9,8 @@ use crate::named::{
     array_of, array_type, byte_of, instance_field, member, result_returned, short_of, static_field,
     tested_type,
 };
-use crate::operation::{Constant, Move, Operation};
+use crate::operation::{Constant, Move, Operation, Site};
 use crate::row::Row;
-use crate::site::Site;
 use jc_base::{Member, MethodRec, World, concrete_decides};
 use jc_decode::Insn;
 

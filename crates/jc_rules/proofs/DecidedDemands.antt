@@ -7,7 +7,7 @@ use Rattle.jc_base.specs.Class.{ClassTable}
 use Rattle.jc_base.specs.Laws.{IsOrderOfTypes}
 use Rattle.jc_base.specs.Order.{Below, is_below}
 use Rattle.jc_rules.proofs.Types.{below-computed, below-told}
-use Rattle.jc_ops.specs.declared.want.Want.{Want}
+use Rattle.jc_ops.specs.declared.operation.Want.{Want}
 use Rattle.jc_rules.specs.declared.demand.Demand.{Demand}
 use Rattle.jc_rules.specs.Demand.{Frame, Meets, Satisfies}
 use Rattle.jc_rules.specs.Demand.{meets}

@@ -9,7 +9,7 @@ use Rattle.jc_base.specs.World.{Linked}
 use Rattle.jc_decode.specs.declared.insn.Insn.{Insn}
 use Rattle.jc_ops.specs.declared.fault.RuleFault.{RuleFault}
 use Rattle.jc_ops.specs.declared.operation.Operation.{Operation}
-use Rattle.jc_ops.specs.declared.site.Site.{Site}
+use Rattle.jc_ops.specs.declared.operation.Site.{Site}
 use Rattle.jc_ops.specs.Sound.{OperationsAreDecided}
 use Rattle.jc_rules.specs.declared.demand.Demand.{Demand}
 use Rattle.jc_rules.specs.declared.rule.Outcome.{Outcome}

@@ -7,7 +7,7 @@ use Rattle.jc_base.specs.Class.{ClassTable}
 use Rattle.jc_ops.specs.declared.fault.RuleFault.{RuleFault}
 use Rattle.jc_rules.specs.declared.demand.Demand.{Demand}
 use Rattle.jc_rules.specs.declared.demand.Demand.TheVariants.{Cell}
-use Rattle.jc_ops.specs.declared.want.Want.TheVariants.{Value}
+use Rattle.jc_ops.specs.declared.operation.Want.TheVariants.{Value}
 use Rattle.jc_rules.specs.Rule.{cells_wanted}
 use Rattle.jc_rules.specs.Demand.{Frame, Satisfies, SatisfiesAll, IsFirstUnmet, here, later, demand_fault, IsKnownDemand, AreKnownDemands}
 

@@ -11,8 +11,8 @@ use Rattle.jc_base.specs.Order.{Below, same, joined, nothing, anything, null_obj
 use Rattle.jc_base.specs.Order.{null_array, subclass, array_object, array_array, of_booleans, of_bytes}
 use Rattle.jc_base.specs.Order.{of_shorts, of_ints, of_references, is_below}
 use Rattle.jc_rules.proofs.Types.{below-computed, below-told}
-use Rattle.jc_ops.specs.declared.want.Want.{Want}
-use Rattle.jc_ops.specs.declared.want.Want.TheVariants.{Value, Storable, ByteArray, AnyArray, Whole, Receiver}
+use Rattle.jc_ops.specs.declared.operation.Want.{Want}
+use Rattle.jc_ops.specs.declared.operation.Want.TheVariants.{Value, Storable, ByteArray, AnyArray, Whole, Receiver}
 use Rattle.jc_rules.specs.declared.demand.Demand.{Demand}
 use Rattle.jc_rules.specs.declared.demand.Demand.TheVariants.{Registers, Depth, Cell, Cut, Held}
 use Rattle.jc_rules.specs.declared.effect.Cells.{Cells}

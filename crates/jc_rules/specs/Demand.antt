@@ -13,8 +13,8 @@ use Rattle.jc_ops.specs.declared.fault.RuleFault.{RuleFault}
 use Rattle.jc_ops.specs.declared.fault.RuleFault.TheVariants.{Underflow, Mismatch, NoLocal, SplitInt, FreshKept}
 use Rattle.jc_rules.specs.declared.demand.Before.{Before}
 use Rattle.jc_rules.specs.declared.effect.Effect.{Effect}
-use Rattle.jc_ops.specs.declared.want.Want.{Want}
-use Rattle.jc_ops.specs.declared.want.Want.TheVariants.{Value, Storable, ByteArray, AnyArray, Whole, Receiver}
+use Rattle.jc_ops.specs.declared.operation.Want.{Want}
+use Rattle.jc_ops.specs.declared.operation.Want.TheVariants.{Value, Storable, ByteArray, AnyArray, Whole, Receiver}
 use Rattle.jc_ops.specs.Sound.{IsKnownWant}
 use Rattle.jc_rules.specs.declared.demand.Demand.{Demand}
 use Rattle.jc_rules.specs.declared.demand.Demand.TheVariants.{Registers, Depth, Cell, Cut, Held}

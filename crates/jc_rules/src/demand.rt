@@ -2,7 +2,7 @@ ghost use Rattle.std.specs.Prelude.{◌≡◌, ◌↔◌, ◌<◌, reverse, IsTr
 ghost use Rattle.jc_base.specs.Class.{IsClass, object};
 ghost use Rattle.jc_base.specs.Order.{IsKnown};
 ghost use Rattle.jc_base.specs.declared.ty.Ty.TheVariants.{IntLow, IntHigh};
-ghost use Rattle.jc_ops.specs.declared.want.Want.TheVariants.{Value};
+ghost use Rattle.jc_ops.specs.declared.operation.Want.TheVariants.{Value};
 ghost use Rattle.jc_ops.specs.Sound.{IsKnownWant};
 ghost use Rattle.jc_rules.specs.Demand.{SatisfiesAll, AreKnownDemands, AreKnown, frame, Meets, Satisfies, IsFirstUnmet, refusal, demand_fault, IsKnownDemand, IsArrayOrNull, IsHalf, IsFreshOf, Splits, refused_at, is_array_or_null, is_half, is_fresh_of, meets};
 

@@ -2,7 +2,7 @@ ghost use Rattle.std.specs.Prelude.{◌≡◌, ◌+◌, ◌<◌, ◌∷◌, []};
 ghost use Rattle.jc_base.specs.Class.{IsClass, object, throwable};
 ghost use Rattle.jc_base.specs.declared.ty.Ty.TheVariants.{Class};
 ghost use Rattle.jc_base.specs.Order.{IsKnown};
-ghost use Rattle.jc_ops.specs.declared.want.Want.TheVariants.{Value};
+ghost use Rattle.jc_ops.specs.declared.operation.Want.TheVariants.{Value};
 ghost use Rattle.jc_rules.specs.declared.demand.Demand.TheVariants.{Cell};
 ghost use Rattle.jc_rules.specs.Demand.{AreKnown, frame, IsJudged};
 ghost use Rattle.jc_ops.specs.Sound.{IsKnownWant};

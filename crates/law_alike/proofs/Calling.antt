@@ -14,8 +14,8 @@ use Rattle.jc_base.specs.Class.{ClassTable, AreClasses, object}
 use Rattle.jc_base.specs.Dispatch.{dispatched}
 use Rattle.jc_base.specs.World.{Linked}
 use Rattle.jc_base.proofs.Lists.{All-reverse}
-use Rattle.jc_ops.specs.declared.want.Want.{Want}
-use Rattle.jc_ops.specs.declared.want.Want.TheVariants.{Value, Receiver}
+use Rattle.jc_ops.specs.declared.operation.Want.{Want}
+use Rattle.jc_ops.specs.declared.operation.Want.TheVariants.{Value, Receiver}
 use Rattle.jc_ops.specs.declared.operation.Callee.{Callee}
 use Rattle.jc_ops.specs.declared.operation.Choice.{Choice}
 use Rattle.jc_ops.specs.declared.operation.Choice.TheVariants as choices

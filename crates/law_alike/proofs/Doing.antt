@@ -33,7 +33,7 @@ use Rattle.jc_ops.specs.declared.operation.TypeTest.{TypeTest}
 use Rattle.jc_ops.specs.declared.operation.TypeTest.TheVariants as tests
 use Rattle.jc_ops.specs.declared.operation.Operation.{Operation}
 use Rattle.jc_ops.specs.declared.operation.Operation.TheVariants as ops
-use Rattle.jc_ops.specs.declared.want.Want.TheVariants.{Value}
+use Rattle.jc_ops.specs.declared.operation.Want.TheVariants.{Value}
 use Rattle.jc_ops.specs.Next.{falls_from, jumps_from}
 use Rattle.jc_ops.specs.Sound.{IsResult, IsSound}
 use Rattle.jc_rules.specs.declared.demand.Demand.{Demand}

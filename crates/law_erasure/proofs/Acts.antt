@@ -12,7 +12,7 @@ use Rattle.jc_base.specs.Class.{ClassTable}
 use Rattle.jc_base.specs.Cell.{width}
 use Rattle.jc_base.specs.World.{Linked}
 use Rattle.jc_decode.specs.declared.insn.Insn.{Insn}
-use Rattle.jc_ops.specs.declared.want.Want.{Want}
+use Rattle.jc_ops.specs.declared.operation.Want.{Want}
 use Rattle.jc_ops.specs.declared.operation.Sameness.{Sameness}
 use Rattle.jc_ops.specs.declared.operation.StaticField.{StaticField}
 use Rattle.jc_ops.specs.declared.operation.Sort.TheVariants as sorts

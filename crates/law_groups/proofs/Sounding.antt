@@ -13,7 +13,7 @@ use Rattle.jc_base.specs.Linked.{IsMethod}
 use Rattle.jc_base.specs.Dispatch.{HasBody, IsConcrete}
 use Rattle.jc_base.specs.World.{Linked, IsWorld}
 use Rattle.jc_base.proofs.Eaching.{All-from_Each, Each-from_All}
-use Rattle.jc_ops.specs.declared.want.Want.{Want}
+use Rattle.jc_ops.specs.declared.operation.Want.{Want}
 use Rattle.jc_ops.specs.declared.operation.Callee.{Callee}
 use Rattle.jc_ops.specs.declared.operation.Choice.{Choice}
 use Rattle.jc_ops.specs.declared.operation.Operation.{Operation}

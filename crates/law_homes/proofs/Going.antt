@@ -15,7 +15,7 @@ use Rattle.jc_ops.specs.declared.operation.Operation.{Operation}
 use Rattle.jc_ops.specs.declared.operation.Operation.TheVariants.{Load, Store}
 use Rattle.jc_ops.specs.declared.operation.Sort.{Sort}
 use Rattle.jc_ops.specs.declared.operation.Sort.TheVariants as sorts
-use Rattle.jc_ops.specs.declared.want.Want.TheVariants.{Value}
+use Rattle.jc_ops.specs.declared.operation.Want.TheVariants.{Value}
 use Rattle.jc_rules.specs.Demand.{SatisfiesAll, Meets}
 use Rattle.jc_rules.specs.Rule.{demands}
 use Rattle.vm_store.specs.declared.cell.Cell.{Cell}

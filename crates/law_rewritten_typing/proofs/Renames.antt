@@ -13,8 +13,8 @@ use Rattle.jc_base.specs.declared.ty.Ty.TheVariants.{Class, Fresh, Top}
 use Rattle.jc_base.specs.Class.{ClassTable}
 use Rattle.jc_base.specs.Laws.{IsOrderOfTypes}
 use Rattle.jc_base.specs.Order.{Below, anything, is_below}
-use Rattle.jc_ops.specs.declared.want.Want.{Want}
-use Rattle.jc_ops.specs.declared.want.Want.TheVariants.{Value, Receiver}
+use Rattle.jc_ops.specs.declared.operation.Want.{Want}
+use Rattle.jc_ops.specs.declared.operation.Want.TheVariants.{Value, Receiver}
 use Rattle.jc_ops.specs.declared.operation.Operation.{Operation}
 use Rattle.jc_ops.specs.declared.operation.Operation.TheVariants as ops
 use Rattle.jc_ops.specs.declared.operation.Width.TheVariants as widths

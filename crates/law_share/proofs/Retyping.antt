@@ -15,7 +15,7 @@ use Rattle.jc_ops.specs.declared.operation.Sort.{Sort}
 use Rattle.jc_ops.specs.declared.operation.Sort.TheVariants as sorts
 use Rattle.jc_ops.specs.declared.operation.Width.{Width}
 use Rattle.jc_ops.specs.declared.operation.Width.TheVariants as widths
-use Rattle.jc_ops.specs.declared.want.Want.TheVariants.{Value}
+use Rattle.jc_ops.specs.declared.operation.Want.TheVariants.{Value}
 use Rattle.jc_ops.specs.Alike.{IsAlike, equal, loads, stores, increments}
 use Rattle.jc_ops.specs.Next.{falls_from, ends_at}
 use Rattle.jc_rules.specs.declared.demand.Demand.{Demand}

@@ -23,7 +23,7 @@ use Rattle.jc_ops.specs.declared.operation.Operation.TheVariants as ops
 use Rattle.jc_ops.specs.Sound.{IsFieldOf}
 use Rattle.jc_ops.specs.Next.{falls_from}
 use Rattle.jc_rules.specs.declared.demand.Demand.TheVariants.{Cell, Held}
-use Rattle.jc_ops.specs.declared.want.Want.TheVariants.{Value}
+use Rattle.jc_ops.specs.declared.operation.Want.TheVariants.{Value}
 use Rattle.jc_rules.specs.declared.effect.Cells.TheVariants as given
 use Rattle.jc_rules.specs.Demand.{SatisfiesAll}
 use Rattle.jc_rules.specs.Rule.{effect, replacing, value_given, value_wanted, value_size}

@@ -12,8 +12,8 @@ use Rattle.jc_base.specs.Dispatch.{IsConcrete, dispatched}
 use Rattle.jc_base.specs.Linked.{lacks_code}
 use Rattle.jc_base.specs.World.{Linked, IsWorld}
 use Rattle.jc_base.proofs.Subtypes.{is_below-from_Below}
-use Rattle.jc_ops.specs.declared.want.Want.{Want}
-use Rattle.jc_ops.specs.declared.want.Want.TheVariants.{Value, Receiver, Storable, ByteArray, AnyArray, Whole}
+use Rattle.jc_ops.specs.declared.operation.Want.{Want}
+use Rattle.jc_ops.specs.declared.operation.Want.TheVariants.{Value, Receiver, Storable, ByteArray, AnyArray, Whole}
 use Rattle.jc_ops.specs.declared.operation.Choice.{Choice}
 use Rattle.jc_ops.specs.declared.operation.Operation.TheVariants as ops
 use Rattle.jc_ops.specs.Sound.{IsVirtualCall, IsReceiverOf}

@@ -9,7 +9,7 @@ use Rattle.jc_base.specs.Order.{Below}
 use Rattle.jc_base.specs.Cell.{IsDeclared}
 use Rattle.jc_base.specs.World.{Linked, IsWorld}
 use Rattle.jc_ops.specs.declared.operation.Operation.TheVariants as ops
-use Rattle.jc_ops.specs.declared.want.Want.TheVariants.{Value}
+use Rattle.jc_ops.specs.declared.operation.Want.TheVariants.{Value}
 use Rattle.jc_ops.specs.Sound.{IsResult}
 use Rattle.jc_rules.specs.declared.demand.Demand.TheVariants.{Cell as CellAsked}
 use Rattle.jc_rules.specs.Demand.{SatisfiesAll}

@@ -5,7 +5,7 @@ use Rattle.std.proofs.lemmas.List.{length-reverse}
 use Rattle.jc_base.specs.declared.ty.Ty.{Ty}
 use Rattle.jc_base.specs.declared.record.MethodRec.{MethodRec}
 use Rattle.jc_base.specs.World.{Linked}
-use Rattle.jc_ops.specs.declared.want.Want.{Want}
+use Rattle.jc_ops.specs.declared.operation.Want.{Want}
 use Rattle.jc_ops.specs.declared.operation.Callee.{Callee}
 use Rattle.jc_ops.specs.declared.operation.Operation.TheVariants as ops
 use Rattle.jc_ops.specs.Sound.{receiver_count}

@@ -7,8 +7,8 @@ use Rattle.std.proofs.lemmas.Bool.{lt-ltb, le-ltb}
 use Rattle.std.proofs.lemmas.List.{length-reverse, get_or-reverse, drop_more}
 use Rattle.jc_base.specs.declared.ty.Ty.{Ty}
 use Rattle.jc_base.specs.World.{Linked}
-use Rattle.jc_ops.specs.declared.want.Want.{Want}
-use Rattle.jc_ops.specs.declared.want.Want.TheVariants.{Value}
+use Rattle.jc_ops.specs.declared.operation.Want.{Want}
+use Rattle.jc_ops.specs.declared.operation.Want.TheVariants.{Value}
 use Rattle.jc_ops.specs.Sound.{receiver_count}
 use Rattle.jc_rules.specs.declared.demand.Demand.{Demand}
 use Rattle.jc_rules.specs.declared.demand.Demand.TheVariants.{Cell}

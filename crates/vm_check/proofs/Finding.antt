@@ -12,8 +12,8 @@ use Rattle.jc_base.specs.Order.{Below}
 use Rattle.jc_base.specs.Cell.{width, IsOfKind}
 use Rattle.jc_base.specs.World.{Linked, IsWorld}
 use Rattle.jc_decode.specs.declared.insn.Insn.{Insn}
-use Rattle.jc_ops.specs.declared.want.Want.{Want}
-use Rattle.jc_ops.specs.declared.want.Want.TheVariants.{Value, ByteArray, AnyArray}
+use Rattle.jc_ops.specs.declared.operation.Want.{Want}
+use Rattle.jc_ops.specs.declared.operation.Want.TheVariants.{Value, ByteArray, AnyArray}
 use Rattle.jc_ops.specs.declared.operation.Choice.{Choice}
 use Rattle.jc_ops.specs.declared.operation.Choice.TheVariants as choices
 use Rattle.jc_ops.specs.declared.operation.Callee.{Callee}

@@ -2,7 +2,7 @@
 ghost use Rattle.std.specs.Prelude.{◌≡◌, ◌+◌, ◌-◌, ◌<◌, ◌&&◌, ◌∷◌, [], nat_lt, slice_get, IfSome};
 ghost use Rattle.std.specs.List.{list_all};
 ghost use Rattle.jc_base.specs.Order.{IsKnown};
-ghost use Rattle.jc_ops.specs.declared.want.Want.TheVariants as wants;
+ghost use Rattle.jc_ops.specs.declared.operation.Want.TheVariants as wants;
 ghost use Rattle.jc_rules.specs.Demand.{AreKnownDemands, IsKnownDemand, satisfies, met_at, is_low, is_high};
 ghost use Rattle.jc_rules.specs.Footprint.{registers_asked, cells_asked};
 ghost use Rattle.jc_ops.specs.Sound.{IsKnownWant};

@@ -12,7 +12,7 @@ use Rattle.jc_base.specs.World.{Linked}
 use Rattle.jc_decode.specs.declared.insn.Insn.{Insn}
 use Rattle.jc_decode.specs.Cases.{cases}
 use Rattle.jc_decode.specs.Layout.{opcode, layout_of}
-use Rattle.jc_ops.specs.declared.want.Want.TheVariants.{Receiver}
+use Rattle.jc_ops.specs.declared.operation.Want.TheVariants.{Receiver}
 use Rattle.jc_ops.specs.declared.operation.Choice.TheVariants as choices
 use Rattle.jc_ops.specs.declared.operation.Width.TheVariants as widths
 use Rattle.vm_store.specs.declared.cell.Cell.{Cell}

@@ -8,8 +8,8 @@ use Rattle.jc_base.specs.World.{Linked}
 use Rattle.jc_base.specs.Each.{IsAmong}
 use Rattle.jc_base.proofs.Eaching.{Contains-from_IsAmong, IsAmong-from_Contains}
 use Rattle.jc_base.specs.declared.ty.Kind.{Kind}
-use Rattle.jc_ops.specs.declared.want.Want.{Want}
-use Rattle.jc_ops.specs.declared.want.Want.TheVariants.{Value}
+use Rattle.jc_ops.specs.declared.operation.Want.{Want}
+use Rattle.jc_ops.specs.declared.operation.Want.TheVariants.{Value}
 use Rattle.jc_ops.specs.declared.operation.Move.{Move}
 use Rattle.jc_ops.specs.declared.operation.Arithmetic.{Arithmetic}
 use Rattle.jc_ops.specs.declared.operation.Branch.{Branch}
