@@ -25,8 +25,8 @@ use Rattle.card_typing.specs.Place.{IsTarget, IsEntry, IsFallenInto, fallen_firs
 use Rattle.card_typing.specs.Typing.{frame_at, CardTypingOver}
 use Rattle.card_typing.specs.Met.{Arrives, arrives_falling, arrives_empty, arrives_caught, arrives_full, GoesTo, goes_there, goes_again, IsMetAfter, IsMet}
 use Rattle.card_typing.specs.Met.{met_start, met_next}
-use Rattle.jc_control.specs.declared.flaw.Flaw.{Flaw}
-use Rattle.jc_control.specs.declared.flaw.Flaw.TheVariants as flaws
+use Rattle.jc_control.specs.declared.control.Flaw.{Flaw}
+use Rattle.jc_control.specs.declared.control.Flaw.TheVariants as flaws
 use Rattle.card_typing.specs.Refusal.{fault_of, IsFlawKind, IsWrong, wrong_entry, wrong_room, wrong_mark, wrong_rule, wrong_branch, wrong_end, IsRefusedAfter}
 use Rattle.card_typing.specs.Refusal.{refused_at, IsRefusedState, refused_flaw, refused_state}
 use Rattle.card_typing.specs.Laws.{MetIsBelow, RefusalDenies, FlawsAreTold}

@@ -7,7 +7,7 @@ use Rattle.jc_decode.specs.declared.insn.Placed.{Placed}
 use Rattle.jc_decode.specs.Listing.{listing, targets}
 use Rattle.jc_control.specs.Method.{Method, IsMethodOf}
 use Rattle.jc_control.specs.FirstFailing.{IsFirstFailing}
-use Rattle.jc_control.specs.declared.flaw.Flaw.{Flaw}
+use Rattle.jc_control.specs.declared.control.Flaw.{Flaw}
 use Rattle.jc_control.specs.Laws.{FirstFlawIsOne}
 use Rattle.jc_control.proofs.Elements.{taken-in}
 use Rattle.jc_control.proofs.FlawLaws.{first-flaw-refuses}

@@ -5,7 +5,7 @@ use Rattle.jc_base.specs.declared.record.MethodRec.{MethodRec}
 use Rattle.jc_base.specs.World.{Linked}
 use Rattle.jc_control.specs.Method.{Method, method_with}
 use Rattle.jc_control.specs.Flaw.{IsFirstFlaw}
-use Rattle.jc_control.specs.declared.flaw.Flaw.{Flaw}
+use Rattle.jc_control.specs.declared.control.Flaw.{Flaw}
 use Rattle.jc_rules.specs.Demand.{Frame}
 use Rattle.jc_rules.specs.Flow.{HasFlowTyping}
 use Rattle.card_typing.specs.declared.fault.CardFault.{CardFault}

@@ -8,7 +8,7 @@ use Rattle.jc_control.specs.Method.{Method}
 use Rattle.jc_control.specs.WellFormed.{IsPlace, IsWellFormed}
 use Rattle.jc_control.specs.FirstFailing.{IsFirstFailing}
 use Rattle.jc_control.specs.Flaw.{IsFirstFlaw}
-use Rattle.jc_control.specs.declared.flaw.Flaw.{Flaw}
+use Rattle.jc_control.specs.declared.control.Flaw.{Flaw}
 use Rattle.jc_rules.specs.Demand.{Frame}
 use Rattle.card_typing.specs.declared.fault.CardFault.{CardFault}
 use Rattle.card_typing.specs.declared.fault.CardKind.{CardKind}

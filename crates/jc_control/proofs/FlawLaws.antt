@@ -12,8 +12,8 @@ use Rattle.jc_decode.specs.Decoding.{decoded}
 use Rattle.jc_decode.specs.Listing.{listing, listing_end, targets}
 use Rattle.jc_control.specs.Method.{Method}
 use Rattle.jc_control.specs.WellFormed.{HasInstruction, IsPlace, IsTargetPlace, IsBoundary, IsHandlerOf, IsWellFormed}
-use Rattle.jc_control.specs.declared.flaw.Flaw.{Flaw}
-use Rattle.jc_control.specs.declared.flaw.Flaw.TheVariants.{Code, BadTarget, BadHandler}
+use Rattle.jc_control.specs.declared.control.Flaw.{Flaw}
+use Rattle.jc_control.specs.declared.control.Flaw.TheVariants.{Code, BadTarget, BadHandler}
 use Rattle.jc_control.specs.Flaw.{Spot, in_code, in_table, IsFlaw, flaw_target, flaw_end, flaw_handler, IsFirstFlaw}
 use Rattle.jc_decode.specs.Places.{BeginsIn}
 use Rattle.jc_control.specs.Laws.{FlawsDecide, FirstFlawIsOne}

@@ -4,8 +4,8 @@ use Rattle.jc_base.specs.declared.record.Handler.{Handler}
 use Rattle.jc_control.specs.Method.{Method}
 use Rattle.jc_control.specs.WellFormed.{IsWellFormed}
 use Rattle.jc_control.specs.Control.{Covers, IsReached, IsLeader}
-use Rattle.jc_control.specs.declared.flaw.ControlEnd.{ControlEnd}
-use Rattle.jc_control.specs.declared.flaw.ControlEnd.TheVariants.{Flawed, Memory}
+use Rattle.jc_control.specs.declared.control.ControlEnd.{ControlEnd}
+use Rattle.jc_control.specs.declared.control.ControlEnd.TheVariants.{Flawed, Memory}
 use Rattle.jc_control.specs.Flags.{IsFlagged, Marks}
 use Rattle.jc_control.specs.Flaw.{IsFirstFlaw}
 use Rattle.jc_control.specs.Listing.{Listed, IsListingOf}

@@ -5,7 +5,7 @@ use Rattle.jc_decode.specs.Decoding.{decoded}
 use Rattle.jc_control.specs.Method.{Method}
 use Rattle.jc_control.specs.WellFormed.{HasInstruction, IsPlace, IsBoundary, IsWellFormed}
 use Rattle.jc_control.specs.Control.{IsReached}
-use Rattle.jc_control.specs.declared.flaw.Flaw.{Flaw}
+use Rattle.jc_control.specs.declared.control.Flaw.{Flaw}
 use Rattle.jc_control.specs.Flaw.{Spot, IsFlaw, IsFirstFlaw}
 
 -- a method is well formed exactly where it has no flaw

@@ -7,8 +7,8 @@ use Rattle.jc_decode.specs.Decoding.{decoded}
 use Rattle.jc_decode.specs.Listing.{listing, listing_end, targets}
 use Rattle.jc_decode.specs.Places.{LeadsInto}
 use Rattle.jc_control.specs.WellFormed.{IsTargetPlace, IsHandlerOf}
-use Rattle.jc_control.specs.declared.flaw.Flaw.{Flaw}
-use Rattle.jc_control.specs.declared.flaw.Flaw.TheVariants.{Code, BadTarget, BadHandler}
+use Rattle.jc_control.specs.declared.control.Flaw.{Flaw}
+use Rattle.jc_control.specs.declared.control.Flaw.TheVariants.{Code, BadTarget, BadHandler}
 use Rattle.jc_control.specs.FirstFailing.{IsFirstFailing}
 
 -- each target of the instruction is the place of an instruction

@@ -5,9 +5,7 @@
 #![tactic(auto)]
 
 mod control;
-mod edge;
 mod flags;
-mod flaw;
 mod laws;
 mod listing;
 mod places;
@@ -18,10 +16,8 @@ mod targets;
 mod traversal;
 mod walk;
 
-pub use control::control_flow;
-pub use edge::{covers, place_of};
+pub use control::{ControlEnd, Flaw, control_flow, covers, place_of};
 pub use flags::Flags;
-pub use flaw::{ControlEnd, Flaw};
 pub use laws::{first_flaw_is_one, flaws_decide, instructions_are_placed};
 pub use listing::Listing;
 pub use places::Places;

@@ -9,8 +9,8 @@ ghost use Rattle.jc_control.specs.Flaw.{IsFirstFlaw};
 ghost use Rattle.jc_control.specs.FirstFailing.{IsFirstFailing};
 ghost use Rattle.jc_control.specs.Scan.{LeadsToPlaces, IsFirstStray, IsEndFlaw, IsFirstBadHandler};
 
+use crate::control::Flaw;
 use crate::flags::Flags;
-use crate::flaw::Flaw;
 use crate::places::Places;
 use crate::subject::Subject;
 use crate::targets::Targets;

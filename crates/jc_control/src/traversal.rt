@@ -1,14 +1,16 @@
-ghost use Rattle.std.specs.Prelude.{◌≡◌, ◌<◌, ◌+◌, length, replicate, slice_set, true, false, [], All, Contains, IsTrue, IfOk, IfSome, IfNone, OnOk};
+ghost use Rattle.std.specs.Prelude.{◌≡◌, ◌<◌, ◌+◌, length, replicate, slice_set, true, false, [], All, Contains, IsTrue, IfOk, IfSome};
+ghost use Rattle.std.specs.Prelude.{IfNone, OnOk};
 ghost use Rattle.jc_decode.specs.Listing.{falls, targets};
 ghost use Rattle.jc_control.specs.WellFormed.{HasInstruction, IsTargetPlace, IsHandlerOf, IsWellFormed};
 ghost use Rattle.jc_control.specs.Control.{IsReached};
 ghost use Rattle.jc_control.specs.Flags.{IsFlagged};
 ghost use Rattle.jc_control.specs.Subject.{method};
-ghost use Rattle.jc_control.specs.Traversal.{ReachesPlace, TakesUp, Grows, IsSoundTraversal, IsLedTo, IsCaught, IsClosedAt, IsDone, found};
+ghost use Rattle.jc_control.specs.Traversal.{ReachesPlace, TakesUp, Grows, IsSoundTraversal, IsLedTo, IsCaught, IsClosedAt, IsDone};
+ghost use Rattle.jc_control.specs.Traversal.{found};
 ghost use Rattle.jc_control.specs.ControlFlow.{IsControlFlow};
 ghost use Rattle.jc_control.specs.Listing.{IsListingOf};
 
-use crate::edge::{covers, place_of};
+use crate::control::{covers, place_of};
 use crate::flags::Flags;
 use crate::listing::Listing;
 use crate::subject::Subject;

@@ -8,9 +8,9 @@ use Rattle.jc_rules.specs.FlowLaws.{AreRules, TopIsBottom}
 use Rattle.jc_control.specs.Method.{Method, IsMethodOf}
 use Rattle.jc_rules.specs.Demand.{Frame}
 use Rattle.jc_rules.specs.Flow.{HasFlowTyping, IsLeastTyping}
-use Rattle.jc_control.specs.declared.flaw.Flaw.{Flaw}
-use Rattle.jc_control.specs.declared.flaw.Flaw.TheVariants as flaws
-use Rattle.jc_control.specs.declared.flaw.ControlEnd.{ControlEnd}
+use Rattle.jc_control.specs.declared.control.Flaw.{Flaw}
+use Rattle.jc_control.specs.declared.control.Flaw.TheVariants as flaws
+use Rattle.jc_control.specs.declared.control.ControlEnd.{ControlEnd}
 use Rattle.jc_control.specs.Flaw.{IsFirstFlaw}
 use Rattle.jc_control.specs.ControlFlow.{TellsFlaw}
 use Rattle.jc_control.specs.Laws.{FlawsDecide}

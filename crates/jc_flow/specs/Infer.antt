@@ -9,9 +9,9 @@ use Rattle.jc_control.specs.Control.{IsReached}
 use Rattle.jc_rules.specs.Flow.{IsDerived, HasFlowTyping}
 use Rattle.jc_rules.specs.Typing.{state_at}
 use Rattle.jc_control.specs.Flaw.{IsFirstFlaw}
-use Rattle.jc_control.specs.declared.flaw.Flaw.TheVariants as flaws
-use Rattle.jc_control.specs.declared.flaw.ControlEnd.{ControlEnd}
-use Rattle.jc_control.specs.declared.flaw.ControlEnd.TheVariants.{Flawed, Memory as NoControl}
+use Rattle.jc_control.specs.declared.control.Flaw.TheVariants as flaws
+use Rattle.jc_control.specs.declared.control.ControlEnd.{ControlEnd}
+use Rattle.jc_control.specs.declared.control.ControlEnd.TheVariants.{Flawed, Memory as NoControl}
 use Rattle.jc_flow.specs.declared.end.FlowEnd.{FlowEnd}
 use Rattle.jc_flow.specs.declared.end.FlowEnd.TheVariants.{NoTyping, Code, BadTarget, FallsOff, BadHandler, Memory}
 use Rattle.jc_flow.specs.Fails.{FailsAt, FallsPast}

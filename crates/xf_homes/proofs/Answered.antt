@@ -14,9 +14,9 @@ use Rattle.jc_control.specs.Method.{Method, IsMethodOf}
 use Rattle.jc_control.specs.WellFormed.{IsPlace, IsBoundary, IsTargetPlace, IsHandlerOf, HasInstruction}
 use Rattle.jc_control.specs.Control.{IsSuccessor, IsReached, begins, follows, caught, falls_through, jumped}
 use Rattle.jc_control.specs.ControlFlow.{Marked, IsControlFlow, TellsFlaw}
-use Rattle.jc_control.specs.declared.flaw.Flaw.{Flaw}
-use Rattle.jc_control.specs.declared.flaw.ControlEnd.{ControlEnd}
-use Rattle.jc_control.specs.declared.flaw.ControlEnd.TheVariants.{Flawed}
+use Rattle.jc_control.specs.declared.control.Flaw.{Flaw}
+use Rattle.jc_control.specs.declared.control.ControlEnd.{ControlEnd}
+use Rattle.jc_control.specs.declared.control.ControlEnd.TheVariants.{Flawed}
 use Rattle.jc_decode.specs.Laws.{AreListed}
 use Rattle.jc_control.specs.Laws.{FlawsDecide, ArePlaced}
 use Rattle.jc_rules.specs.Demand.{Frame}

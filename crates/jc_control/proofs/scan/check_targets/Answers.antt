@@ -6,7 +6,7 @@ use Rattle.std.proofs.lemmas.Int.{to_z-of_z}
 use Rattle.jc_control.specs.Walk.{rest_of}
 use Rattle.jc_decode.specs.Listing.{listing, targets}
 use Rattle.jc_control.specs.WellFormed.{IsTargetPlace}
-use Rattle.jc_control.specs.declared.flaw.Flaw.TheVariants.{BadTarget}
+use Rattle.jc_control.specs.declared.control.Flaw.TheVariants.{BadTarget}
 use Rattle.jc_control.specs.Scan.{LeadsToPlaces}
 use Rattle.jc_control.proofs.Elements.{at-next, go-on, contained-in, first-failing}
 use Rattle.jc_control.proofs.PlacesWithin.{next-within, next-end}
