@@ -4,7 +4,7 @@ use Rattle.std.specs.Prelude.{option_map, slice_get}
 use Rattle.jc_base.specs.declared.ty.Ty.{Ty}
 use Rattle.jc_rules.specs.Demand.{Frame}
 use Rattle.jc_rules.specs.Typing.{flat}
-use Rattle.jc_rules.specs.declared.held.HeldFrame.{HeldFrame}
+use Rattle.jc_rules.specs.declared.demand.HeldFrame.{HeldFrame}
 use Rattle.jc_rules.specs.declared.typing.Span.{Span}
 
 -- the frame of so many registers

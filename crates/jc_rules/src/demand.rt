@@ -1,13 +1,24 @@
-ghost use Rattle.std.specs.Prelude.{◌≡◌, ◌↔◌, ◌<◌, reverse, IsTrue, slice_get, MatchOption, MatchResult, IfSome, IsSomeAnd};
+ghost use Rattle.std.specs.Prelude.{◌≤◌, length, ◌≡◌, ◌↔◌, ◌<◌, reverse, IsTrue, slice_get, MatchOption, MatchResult, IfSome, IsSomeAnd};
 ghost use Rattle.jc_base.specs.Class.{IsClass, object};
 ghost use Rattle.jc_base.specs.Order.{IsKnown};
 ghost use Rattle.jc_base.specs.declared.ty.Ty.TheVariants.{IntLow, IntHigh};
 ghost use Rattle.jc_ops.specs.declared.operation.Want.TheVariants.{Value};
 ghost use Rattle.jc_ops.specs.Sound.{IsKnownWant};
-ghost use Rattle.jc_rules.specs.Demand.{SatisfiesAll, AreKnownDemands, AreKnown, frame, Meets, Satisfies, IsFirstUnmet, refusal, demand_fault, IsKnownDemand, IsArrayOrNull, IsHalf, IsFreshOf, Splits, refused_at, is_array_or_null, is_half, is_fresh_of, meets};
+ghost use Rattle.jc_rules.specs.Demand.{SatisfiesAll, AreKnownDemands, AreKnown, frame, Meets, Satisfies, IsFirstUnmet, refusal};
+ghost use Rattle.jc_rules.specs.Demand.{demand_fault, IsKnownDemand, IsArrayOrNull, IsHalf, IsFreshOf, Splits, refused_at};
+ghost use Rattle.jc_rules.specs.Demand.{is_array_or_null, is_half, is_fresh_of, meets};
 
 use jc_base::{Classes, Ty, World, below, same_type};
 use jc_ops::{RuleFault, Want};
+
+/// The types of a method's registers and of its operand stack before the instruction at a place.
+#[derive(Clone, Copy)]
+pub struct HeldFrame<'a> {
+    pub(crate) regs: &'a [Ty],
+    /// With its top last.
+    pub(crate) stack: &'a [Ty],
+    ghost few: { length stack.now ≤ 255 },
+}
 
 /// One thing that an instruction asks before it changes anything. Cells are counted from the top of
 /// the stack, from 0.

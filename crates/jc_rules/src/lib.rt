@@ -8,21 +8,17 @@
 
 #![tactic(auto)]
 
-mod calls;
 mod demand;
 mod effect;
-mod held;
 mod laws;
 mod objects;
 mod rule;
-mod same_types;
 mod state;
 mod typing;
 mod values;
 
-pub use demand::{Before, Demand, meets};
+pub use demand::{Before, Demand, HeldFrame, meets};
 pub use effect::{Cells, Change, Effect, Mode, RegisterStore};
-pub use held::HeldFrame;
 pub use jc_ops::{RuleFault, Site};
 pub use laws::{
     demands_are_decided, footprint_laws, operation_laws, rule_falls, rule_laws, rule_raises,

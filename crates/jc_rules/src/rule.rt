@@ -1,4 +1,4 @@
-ghost use Rattle.std.specs.Prelude.{◌≡◌, ◌<◌, ◌≤◌, length, reverse, sum_by, All, MatchBool, IfOk, IfErr, IfSome, OnErr, IsSomeAnd, slice_get};
+ghost use Rattle.std.specs.Prelude.{◌≡◌, ◌<◌, ◌≤◌, length, reverse, sum_by, All, MatchBool, IfOk, IfErr, OnErr, IsSomeAnd, slice_get};
 ghost use Rattle.jc_base.specs.Order.{IsKnown, rises_left};
 ghost use Rattle.jc_base.specs.World.{IsWorld};
 ghost use Rattle.jc_rules.specs.declared.demand.Before.{Before};
@@ -6,9 +6,9 @@ ghost use Rattle.jc_rules.specs.declared.effect.Mode.TheVariants.{Card};
 ghost use Rattle.jc_rules.specs.Stack.{cells};
 ghost use Rattle.jc_rules.specs.Effect.{depth_after};
 ghost use Rattle.jc_rules.specs.Demand.{AreKnown, frame, IsJudged};
-ghost use Rattle.jc_rules.specs.Rule.{demands, effect, return_demands, return_effect, seen, wrote};
+ghost use Rattle.jc_rules.specs.Rule.{demands, effect, seen, wrote};
 ghost use Rattle.jc_base.specs.Class.{class_in_types};
-ghost use Rattle.jc_rules.specs.Known.{IsKnownCallee, IsKnownOperation, IsValue};
+ghost use Rattle.jc_rules.specs.Known.{IsKnownOperation};
 ghost use Rattle.jc_rules.specs.Apply.{frame_of, HasDeclaredLengths, Applies, Refuses, PlansEffect};
 ghost use Rattle.jc_ops.specs.declared.operation.Operation.TheVariants.{Call};
 ghost use Rattle.jc_ops.specs.Sound.{IsNamedType};

@@ -1,10 +1,11 @@
-ghost use Rattle.std.specs.Prelude.{◌≡◌, ◌≤◌, ◌<◌, length, take, drop, reverse, sum_by, All, MatchBool, if◌then◌else◌, ◌||◌};
+ghost use Rattle.std.specs.Prelude.{◌≡◌, ◌≤◌, ◌<◌, length, take, drop, reverse, sum_by, All, MatchBool, if◌then◌else◌, ◌||◌, ◌↔◌, IsTrue};
 ghost use Rattle.jc_base.specs.Order.{IsKnown, rises_left};
 ghost use Rattle.jc_rules.specs.Flow.{CellsJoin, IsNotTop};
 ghost use Rattle.jc_rules.specs.Held.{IsParted, parted, lent};
 ghost use Rattle.jc_rules.specs.Typing.{IsMerged, RaisesOrStays};
+ghost use Rattle.jc_rules.specs.Variant.{variant_of, has_names};
 
-use crate::held::HeldFrame;
+use crate::demand::HeldFrame;
 use jc_base::{Classes, Ty, below, join, same_type, types_are_ordered};
 
 /// What became of a state that another was merged into.
@@ -166,4 +167,54 @@ fn raise(classes: &Classes, cells: &mut [Ty], others: &[Ty]) -> bool
         }
     }
     rises
+}
+
+/// The number of a type's variant, in the order in which they are declared.
+fn variant_of(ty: &Ty) -> u8
+    ensures { result ≡ variant_of ty.now }
+{
+    match ty {
+        Ty::Bottom => 0,
+        Ty::Short => 1,
+        Ty::IntHigh => 2,
+        Ty::IntLow => 3,
+        Ty::Null => 4,
+        Ty::Class(_) => 5,
+        Ty::ArrBool => 6,
+        Ty::ArrByte => 7,
+        Ty::ArrShort => 8,
+        Ty::ArrInt => 9,
+        Ty::ArrRef(_) => 10,
+        Ty::Fresh { .. } => 11,
+        Ty::Top => 12,
+    }
+}
+
+/// Whether a type names a class or a place.
+fn has_names(ty: &Ty) -> bool
+    ensures { result ≡ has_names (variant_of ty.now) }
+{
+    matches!(ty, Ty::Class(_) | Ty::ArrRef(_) | Ty::Fresh { .. })
+}
+
+/// Whether two types are the same. Their variants are compared first, since most types have nothing else.
+fn is_same(a: &Ty, b: &Ty) -> bool
+    ensures { IsTrue result ↔ (a.now ≡ b.now) }
+{
+    variant_of(a) == variant_of(b) && (!has_names(a) || same_type(*a, *b))
+}
+
+/// Whether two lists of types are the same.
+pub(crate) fn same_types(a: &[Ty], b: &[Ty]) -> bool
+    ensures { IsTrue result ↔ (a.now ≡ b.now) }
+{
+    if a.len() != b.len() {
+        return false;
+    }
+    'cells: for n in 0..a.len() {
+        if !is_same(&a[n], &b[n]) {
+            return false;
+        }
+    }
+    true
 }

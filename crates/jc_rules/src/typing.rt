@@ -1,12 +1,12 @@
-ghost use Rattle.std.specs.Prelude.{◌≡◌, ◌↔◌, ◌+◌, ◌<◌, ◌≤◌, ◌⊎◌, ◌++◌, ℕ, ⊤, List, Some, None, length, take, drop, reverse, replicate, All, IfOk, OnOk, OnErr, IsSomeAnd, is_some, option_map, slice_get, slice_set, IsTrue, IfSome};
+ghost use Rattle.std.specs.Prelude.{◌≡◌, ◌↔◌, ◌+◌, ◌<◌, ◌≤◌, ◌⊎◌, ◌++◌, ℕ, ⊤, List, Some, None, length, take, drop, reverse, replicate};
+ghost use Rattle.std.specs.Prelude.{All, IfOk, OnOk, OnErr, IsSomeAnd, is_some, option_map, slice_get, slice_set, IsTrue, IfSome};
 ghost use Rattle.jc_base.specs.Order.{IsKnown};
 ghost use Rattle.jc_rules.specs.Flow.{At};
 ghost use Rattle.jc_rules.specs.Held.{AreSpans, TellRegisters, AreOfOneGroup, IsGroupAt, lent, span_end, frame_of_span, span_at};
 ghost use Rattle.jc_rules.specs.Typing.{state_at, HaveSameRegisters, IsMerged, IsMergedAt};
 
-use crate::held::HeldFrame;
-use crate::same_types::same_types;
-use crate::state::{Merged, merge_cells};
+use crate::demand::HeldFrame;
+use crate::state::{Merged, merge_cells, same_types};
 use jc_base::{Classes, Ty};
 use std::alloc::{AllocError, Global};
 use std::marker::Model;
