@@ -24,7 +24,7 @@ use Rattle.jc_resolve.specs.Numbering.{class_at, is_interface_number, method_at}
 use Rattle.jc_resolve.specs.References.{met_by, class_referred, class_named}
 use Rattle.jc_resolve.specs.WorldTypes.{type_of, kind_of, declared_signature}
 use Rattle.jc_classes.specs.Ancestor.{superclass, extended, is_above}
-use Rattle.jc_resolve.specs.declared.named.NamedClass.{NamedClass}
+use Rattle.jc_resolve.specs.declared.naming.NamedClass.{NamedClass}
 use Rattle.jc_classes.specs.LineConditions.{numbered, is_class_number, super_fault, cycle_fault, role_fault, root_fault, not_interface_fault}
 use Rattle.jc_classes.specs.Outline.{chain as line_chain, chain_over as line_chain_over, is_on_chain as on_line_chain, parent_of as line_parent}
 use Rattle.jc_classes.specs.Outline.{package_of as line_package}

@@ -5,7 +5,7 @@ use Rattle.std.proofs.lemmas.List.Elements.{All-contains, All-map, All-nil}
 use Rattle.std.proofs.lemmas.Option.{slice_get_within}
 use Rattle.jc_base.proofs.Lists.{All-slice_get}
 use Rattle.jc_base.specs.declared.record.Iface.{Iface}
-use Rattle.jc_resolve.specs.declared.named.NamedClass.{NamedClass}
+use Rattle.jc_resolve.specs.declared.naming.NamedClass.{NamedClass}
 use Rattle.jc_classes.specs.KnownClasses.{HasKnownLine}
 use Rattle.jc_base.specs.Leads.{Leads}
 use Rattle.jc_classes.specs.Ancestor.{superclass, superclass_in, extended, extended_in, above, is_above, TellsAbove}

@@ -10,7 +10,7 @@ use Rattle.std.proofs.lemmas.List.Elements.{All-cons, Contains-push}
 use Rattle.jc_base.specs.Class.{last}
 use Rattle.jc_base.proofs.Chains.{last-cons}
 use Rattle.jc_base.proofs.Lists.{All-slice_get, IfSome-is}
-use Rattle.jc_resolve.specs.declared.named.NamedClass.{NamedClass}
+use Rattle.jc_resolve.specs.declared.naming.NamedClass.{NamedClass}
 use Rattle.jc_resolve.specs.Named.{is_interface}
 use Rattle.jc_classes.specs.KnownClasses.{HasKnownLine}
 use Rattle.jc_classes.specs.Ancestor.{IsAncestor, superclass, superclass_in, is_above}

@@ -7,7 +7,7 @@ use Rattle.std.proofs.lemmas.List.Elements.{All-nil, All-weaker}
 use Rattle.jc_base.specs.declared.record.Iface.{Iface}
 use Rattle.jc_resolve.specs.declared.fault.LinkFault.{LinkFault}
 use Rattle.jc_resolve.specs.declared.fault.LinkFault.TheVariants.{SuperIsInterface, Cycle, NoSuper, NotInterface}
-use Rattle.jc_resolve.specs.declared.named.NamedClass.{NamedClass}
+use Rattle.jc_resolve.specs.declared.naming.NamedClass.{NamedClass}
 use Rattle.jc_resolve.specs.Named.{is_interface}
 use Rattle.first_fault.specs.First.{AllEmpty}
 use Rattle.first_fault.proofs.LeastFaults.{faultless_first}

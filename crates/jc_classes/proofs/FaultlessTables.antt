@@ -11,7 +11,7 @@ use Rattle.jc_base.specs.declared.record.Iface.{Iface}
 use Rattle.jc_base.specs.declared.record.MethodRec.{MethodRec}
 use Rattle.jc_classes.specs.Outline.{LineTable}
 use Rattle.jc_base.specs.Dispatch.{signature_at}
-use Rattle.jc_resolve.specs.declared.named.NamedClass.{NamedClass}
+use Rattle.jc_resolve.specs.declared.naming.NamedClass.{NamedClass}
 use Rattle.jc_resolve.proofs.Faultless.{both_faultless, flat_faultless}
 use Rattle.jc_classes.specs.Layout.{public_entries, visible_entries}
 use Rattle.jc_classes.specs.Signatures.{entry_method, entry_signature, same_signature}

@@ -13,8 +13,8 @@ use Rattle.jc_classes.proofs.Bare.{on_chain-here}
 use Rattle.first_fault.specs.Least.{lesser, least_from, least_of}
 use Rattle.first_fault.proofs.LeastFaults.{least-at_fault, least-none}
 use Rattle.jc_resolve.specs.declared.fault.LinkFault.{LinkFault}
-use Rattle.jc_resolve.specs.declared.named.DispatchTable.{DispatchTable}
-use Rattle.jc_resolve.specs.declared.named.NamedClass.{NamedClass}
+use Rattle.jc_resolve.specs.declared.naming.DispatchTable.{DispatchTable}
+use Rattle.jc_resolve.specs.declared.naming.NamedClass.{NamedClass}
 use Rattle.jc_resolve.specs.Fault.{link_place}
 use Rattle.jc_resolve.specs.Named.{IsSized}
 use Rattle.jc_resolve.proofs.Faultless.{both_faultless}

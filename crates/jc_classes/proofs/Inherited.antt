@@ -9,7 +9,7 @@ use Rattle.std.proofs.lemmas.List.FromFn.{length-map-range_with_len, get_or-map-
 use Rattle.jc_base.specs.declared.record.MethodRec.{MethodRec}
 use Rattle.first_fault.specs.Least.{lesser, least_from}
 use Rattle.jc_resolve.specs.declared.fault.LinkFault.{LinkFault}
-use Rattle.jc_resolve.specs.declared.named.DispatchTable.{DispatchTable}
+use Rattle.jc_resolve.specs.declared.naming.DispatchTable.{DispatchTable}
 use Rattle.jc_resolve.specs.Fault.{link_place}
 use Rattle.jc_classes.specs.TableConditions.{Replacement, replacements_from, override_fault}
 use Rattle.jc_classes.specs.Entries.{reach, named_by, overlaid, overlaid_at}

@@ -5,7 +5,7 @@ use Rattle.std.specs.Prelude.{IsTrue, Contains, slice_get}
 use Rattle.std.proofs.lemmas.Bool.{false≢true}
 use Rattle.jc_base.specs.Order.{is_on_chain as on_chain_in_table}
 use Rattle.jc_base.proofs.Climbs.{climb, on_alone, on_next, on_chain-parent, on_chain-trans}
-use Rattle.jc_resolve.specs.declared.named.NamedClass.{NamedClass}
+use Rattle.jc_resolve.specs.declared.naming.NamedClass.{NamedClass}
 use Rattle.jc_base.specs.Leads.{Leads, at_once, further}
 use Rattle.jc_classes.specs.Ancestor.{superclass, extended, IsAncestor, above}
 use Rattle.jc_classes.specs.Outline.{AreLines, is_on_chain, parent_of, outline}

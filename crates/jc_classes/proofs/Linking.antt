@@ -23,7 +23,7 @@ use Rattle.jc_classes.proofs.Bare.{next_on_chain, parent_of-class}
 use Rattle.jc_base.proofs.Subtypes.{below_class}
 use Rattle.jc_base.proofs.Lists.{All-slice_get, IfSome-is}
 use Rattle.jc_resolve.specs.declared.fault.LinkEnd.{LinkEnd}
-use Rattle.jc_resolve.specs.declared.named.NamedClass.{NamedClass}
+use Rattle.jc_resolve.specs.declared.naming.NamedClass.{NamedClass}
 use Rattle.jc_resolve.specs.Due.{IsDue}
 use Rattle.jc_resolve.specs.Named as named
 use Rattle.first_fault.specs.First.{AllEmpty}

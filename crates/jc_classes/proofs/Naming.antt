@@ -1,7 +1,7 @@
 -- What holds of named classes is what is asked of them here.
 use Rattle.std.proofs.Common.{ℕ, List, arith}
 use Rattle.std.specs.Prelude.{All}
-use Rattle.jc_resolve.specs.declared.named.NamedClass.{NamedClass}
+use Rattle.jc_resolve.specs.declared.naming.NamedClass.{NamedClass}
 use Rattle.jc_resolve.specs.Named.{IsNamedClass}
 use Rattle.jc_classes.specs.KnownClasses.{HasKnownLine}
 

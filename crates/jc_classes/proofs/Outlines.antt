@@ -5,7 +5,7 @@ use Rattle.std.specs.Prelude.{slice_get, IfSome}
 use Rattle.std.proofs.lemmas.Option.{slice_get-get_or}
 use Rattle.std.proofs.lemmas.List.{map_more}
 use Rattle.jc_base.specs.Class.{list_of}
-use Rattle.jc_resolve.specs.declared.named.NamedClass.{NamedClass}
+use Rattle.jc_resolve.specs.declared.naming.NamedClass.{NamedClass}
 use Rattle.jc_classes.specs.declared.lineage_type.Line.{Line}
 use Rattle.jc_classes.specs.Outline.{LineTable, AreLines, line_of, chain, package_in_line, package_of, parent_in_line, parent_of}
 use Rattle.jc_classes.proofs.Bare.{next_on_chain, parent_of-class, chain-alone}

@@ -7,7 +7,7 @@ use Rattle.std.specs.List.{range_with_len}
 use Rattle.std.proofs.lemmas.Bool.{cases_lt, ltb-false}
 use Rattle.std.proofs.lemmas.Option.{slice_get-get_or, slice_get_past}
 use Rattle.std.proofs.lemmas.List.FromFn.{length-map-range_with_len, get_or-map-range_with_len}
-use Rattle.jc_resolve.specs.declared.named.DispatchTable.{DispatchTable}
+use Rattle.jc_resolve.specs.declared.naming.DispatchTable.{DispatchTable}
 use Rattle.jc_classes.specs.Entries.{reach, reach_of, named_by, method_named, dispatch_list, overlaid, overlaid_at}
 
 pub map-same : {A B : Type 0} (f g : A → B) → ((x : A) → f x ≡ g x) → (xs : List A) → map f xs ≡ map g xs

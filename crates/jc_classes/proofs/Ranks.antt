@@ -3,7 +3,7 @@ use Rattle.std.proofs.Common.{◌≡◌, ℕ, ◌<◌, ◌≤◌, false, List, l
 use Rattle.std.specs.Prelude.{Contains, count_by}
 use Rattle.std.specs.List.{range_with_len}
 use Rattle.jc_base.proofs.Counting.{count-less, count-most, number-among}
-use Rattle.jc_resolve.specs.declared.named.NamedClass.{NamedClass}
+use Rattle.jc_resolve.specs.declared.naming.NamedClass.{NamedClass}
 use Rattle.jc_base.specs.Leads.{at_once, further}
 use Rattle.jc_classes.specs.Ancestor.{superclass, is_above}
 use Rattle.jc_classes.proofs.Above.{is_above-sound, is_above-complete}

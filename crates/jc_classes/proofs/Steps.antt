@@ -10,8 +10,8 @@ use Rattle.std.proofs.lemmas.Bool.{eq-eqb}
 use Rattle.jc_base.specs.Class.{list_of}
 use Rattle.jc_classes.specs.Outline.{LineTable, chain, package_of}
 use Rattle.jc_classes.proofs.Bare.{chain-front}
-use Rattle.jc_resolve.specs.declared.named.NamedClass.{NamedClass}
-use Rattle.jc_resolve.specs.declared.named.DispatchTable.{DispatchTable}
+use Rattle.jc_resolve.specs.declared.naming.NamedClass.{NamedClass}
+use Rattle.jc_resolve.specs.declared.naming.DispatchTable.{DispatchTable}
 use Rattle.jc_classes.specs.declared.layout.ClassLayout.{ClassLayout}
 use Rattle.jc_classes.specs.Entries.{dispatch_list, overlaid}
 use Rattle.jc_classes.specs.Layout.{public_table, visible_table, own_of, home_run}

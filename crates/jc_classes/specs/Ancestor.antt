@@ -5,7 +5,7 @@ use Rattle.std.specs.Prelude.{ℕ, Bool, true, false, if◌then◌else◌, ◌�
 use Rattle.std.specs.Prelude.{slice_get}
 use Rattle.std.specs.Option.{option_to_list}
 use Rattle.jc_base.specs.Leads.{Leads, leads_below}
-use Rattle.jc_resolve.specs.declared.named.NamedClass.{NamedClass}
+use Rattle.jc_resolve.specs.declared.naming.NamedClass.{NamedClass}
 
 abbrev pub superclass_in : Option NamedClass → List ℕ
 superclass_in None = []

@@ -3,7 +3,7 @@ use Rattle.std.specs.Prelude.{ℕ, ◌+◌, ◌-◌, max, nat_lt, if◌then◌el
 use Rattle.std.specs.Prelude.{slice_get}
 use Rattle.std.specs.Option.{option_or, option_flatten}
 use Rattle.std.specs.List.{range_with_len}
-use Rattle.jc_resolve.specs.declared.named.DispatchTable.{DispatchTable}
+use Rattle.jc_resolve.specs.declared.naming.DispatchTable.{DispatchTable}
 
 -- the token after the last entry of a table; a table without entries reaches none
 abbrev pub reach_from : ℕ → List (Option ℕ) → ℕ

@@ -1,7 +1,7 @@
 -- What is asked of the classes by number, before anything is asked of their lines.
 use Rattle.std.specs.Prelude.{◌<◌, ◌≤◌, List, length, IfSome, All}
 use Rattle.jc_base.specs.declared.record.Iface.{Iface}
-use Rattle.jc_resolve.specs.declared.named.NamedClass.{NamedClass}
+use Rattle.jc_resolve.specs.declared.naming.NamedClass.{NamedClass}
 use Rattle.jc_resolve.specs.Named.{package_of}
 
 -- the superclass and the interfaces that a record names are numbers of the list, and the superclass

@@ -2,7 +2,7 @@
 use Rattle.std.specs.Prelude.{◌≡◌, ◌≤◌, ◌<◌, List, length, All}
 use Rattle.jc_base.specs.declared.record.Iface.{Iface}
 use Rattle.jc_classes.specs.Outline.{LineTable}
-use Rattle.jc_resolve.specs.declared.named.NamedClass.{NamedClass}
+use Rattle.jc_resolve.specs.declared.naming.NamedClass.{NamedClass}
 use Rattle.jc_resolve.specs.Named.{IsSized}
 
 -- classes by number, of which the lines have the superclasses

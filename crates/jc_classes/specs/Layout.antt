@@ -5,8 +5,8 @@ use Rattle.std.specs.List.{range_with_len, take_while}
 use Rattle.jc_resolve.specs.NamedClasses.{no_table}
 use Rattle.jc_base.specs.declared.ty.Ty.{Ty}
 use Rattle.jc_classes.specs.Outline.{LineTable, chain, package_of}
-use Rattle.jc_resolve.specs.declared.named.DispatchTable.{DispatchTable}
-use Rattle.jc_resolve.specs.declared.named.NamedClass.{NamedClass}
+use Rattle.jc_resolve.specs.declared.naming.DispatchTable.{DispatchTable}
+use Rattle.jc_resolve.specs.declared.naming.NamedClass.{NamedClass}
 use Rattle.jc_classes.specs.declared.layout.ClassLayout.{ClassLayout}
 use Rattle.jc_classes.specs.Entries.{dispatch_list, overlaid}
 

@@ -4,7 +4,7 @@ use Rattle.std.specs.Prelude.{◌≡◌, ℕ, zero, suc, ◌<◌, Bool, false, i
 use Rattle.std.specs.Prelude.{map, Option, Some, None, All, slice_get, slice_index}
 use Rattle.std.specs.List.{list_any}
 use Rattle.jc_base.specs.Class.{list_of, last}
-use Rattle.jc_resolve.specs.declared.named.NamedClass.{NamedClass}
+use Rattle.jc_resolve.specs.declared.naming.NamedClass.{NamedClass}
 use Rattle.jc_classes.specs.declared.lineage_type.Line.{Line}
 
 -- the lines of all classes and interfaces by number, and by role the number of a class: role 0 is class object, role 1

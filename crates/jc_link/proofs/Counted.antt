@@ -3,7 +3,7 @@ use Rattle.std.proofs.Common.{◌≡◌, ℕ, List, length, ap, ◌∙◌, arith
 use Rattle.std.specs.Prelude.{slice_index}
 use Rattle.std.proofs.lemmas.List.{length-map}
 use Rattle.jc_base.specs.Class.{ClassTable}
-use Rattle.jc_resolve.specs.declared.named.NamedClass.{NamedClass}
+use Rattle.jc_resolve.specs.declared.naming.NamedClass.{NamedClass}
 use Rattle.jc_resolve.specs.Numbering.{numbered_classes}
 use Rattle.jc_resolve.specs.NamedClasses.{named_classes, named_class}
 use Rattle.jc_resolve.specs.Names.{NamesRecord}

@@ -6,7 +6,7 @@ use Rattle.jc_base.specs.Class.{ClassTable}
 use Rattle.jc_classes.specs.Outline.{LineTable}
 use Rattle.jc_base.specs.Interface.{extended, extended_in, NoneExtendsItself}
 use Rattle.jc_base.proofs.Leading.{Leads-along}
-use Rattle.jc_resolve.specs.declared.named.NamedClass.{NamedClass}
+use Rattle.jc_resolve.specs.declared.naming.NamedClass.{NamedClass}
 use Rattle.jc_classes.specs.Ancestor as named
 use Rattle.jc_classes.specs.declared.layout.ClassLayout.{ClassLayout}
 use Rattle.jc_classes.specs.Layout.{class_layout}

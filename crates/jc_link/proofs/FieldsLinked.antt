@@ -32,7 +32,7 @@ use Rattle.jc_resolve.specs.Numbering.{NumberedClass, numbered_classes}
 use Rattle.jc_resolve.specs.NamedClasses.{fields_described, named_classes}
 use Rattle.jc_resolve.specs.OwnFields.{fields_in, own_fields, cells_by_kind, bears_token, own_with_token, cells_over}
 use Rattle.jc_resolve.proofs.ItemKinds.{kind_right}
-use Rattle.jc_resolve.specs.declared.own_field.OwnField.{OwnField}
+use Rattle.jc_resolve.specs.declared.field_records.OwnField.{OwnField}
 use Rattle.jc_link.specs.Sites.{is_there, only, members_standing}
 use Rattle.jc_link.specs.Fields.{cells_before, field_sites, HasCellsOf}
 use Rattle.jc_link.specs.Members.{token_of_class, holder_of, field_of, as_of}

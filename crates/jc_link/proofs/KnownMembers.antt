@@ -13,7 +13,7 @@ use Rattle.jc_base.specs.declared.record.StaticRec.{StaticRec}
 use Rattle.jc_base.specs.Class.{ClassTable}
 use Rattle.jc_base.specs.Dispatch.{public_of, visible_of, entry_at}
 use Rattle.jc_base.specs.Linked.{IsMember}
-use Rattle.jc_resolve.specs.declared.place.RecordPlace.{RecordPlace}
+use Rattle.jc_resolve.specs.declared.fault.RecordPlace.{RecordPlace}
 use Rattle.jc_resolve.specs.Counts.{class_total}
 use Rattle.jc_resolve.proofs.Totals.{classes_total}
 use Rattle.jc_resolve.specs.Numbering.{numbered_classes}

@@ -16,10 +16,10 @@ use Rattle.jc_base.specs.declared.record.StaticRec.{StaticRec}
 use Rattle.jc_base.specs.Class.{ClassTable, AreClasses, IsClass, is_interface, parent_of}
 use Rattle.jc_base.specs.Dispatch.{entry_at}
 use Rattle.jc_base.specs.Linked.{AreLinkedClasses, IsMember}
-use Rattle.jc_resolve.specs.declared.place.RecordPlace.{RecordPlace}
+use Rattle.jc_resolve.specs.declared.fault.RecordPlace.{RecordPlace}
 use Rattle.jc_resolve.specs.Numbering.{numbered_methods, method_at}
 use Rattle.jc_resolve.specs.References.{class_referred}
-use Rattle.jc_resolve.specs.declared.named.NamedClass.{NamedClass}
+use Rattle.jc_resolve.specs.declared.naming.NamedClass.{NamedClass}
 use Rattle.jc_resolve.specs.Names.{NamesRecord}
 use Rattle.jc_resolve.specs.NamedMethods.{named_method, named_methods}
 use Rattle.jc_resolve.specs.NamedClasses.{named_classes}

@@ -18,7 +18,7 @@ use Rattle.jc_base.specs.declared.record.Member.TheVariants.{ClassOf, Virtual, S
 use Rattle.jc_base.specs.declared.record.StaticRec.{StaticRec}
 use Rattle.jc_base.specs.Class.{ClassTable, is_interface, parent_of}
 use Rattle.jc_base.specs.Dispatch.{entry_at}
-use Rattle.jc_resolve.specs.declared.place.RecordPlace.{RecordPlace}
+use Rattle.jc_resolve.specs.declared.fault.RecordPlace.{RecordPlace}
 use Rattle.jc_resolve.specs.Numbering.{method_at}
 use Rattle.jc_resolve.specs.References.{met_by, class_referred}
 use Rattle.jc_resolve.proofs.ReferenceLaws.{computed-refers, refers-computed}

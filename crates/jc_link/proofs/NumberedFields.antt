@@ -11,7 +11,7 @@ use Rattle.jc_base.specs.Class.{ClassTable, parent_of, object}
 use Rattle.jc_base.specs.Linked.{cells_above}
 use Rattle.jc_resolve.specs.OwnFields.{own_with_token}
 use Rattle.jc_resolve.specs.Numbering.{NumberedClass, numbered_class, numbered_classes_of, classes_after, numbered_classes}
-use Rattle.jc_resolve.specs.declared.own_field.OwnField.{OwnField}
+use Rattle.jc_resolve.specs.declared.field_records.OwnField.{OwnField}
 use Rattle.jc_link.specs.declared.sites.Spot.{Spot}
 use Rattle.jc_link.specs.Sites.{MemberSite, only, members_standing, same_spot}
 use Rattle.jc_link.specs.Members.{token_of_class}

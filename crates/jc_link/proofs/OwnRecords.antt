@@ -12,7 +12,7 @@ use Rattle.jc_base.specs.declared.record.MethodRec.{MethodRec}
 use Rattle.jc_base.specs.Class.{ClassTable, object}
 use Rattle.jc_base.specs.Linked.{AreLinkedClasses}
 use Rattle.jc_base.proofs.Lists.{slice_get-front, slice_get-farther}
-use Rattle.jc_resolve.specs.declared.named.NamedClass.{NamedClass}
+use Rattle.jc_resolve.specs.declared.naming.NamedClass.{NamedClass}
 use Rattle.jc_resolve.specs.Numbering.{NumberedClass, numbered_class, numbered_classes_of, classes_after, numbered_classes}
 use Rattle.jc_resolve.specs.Names.{NamesRecord}
 use Rattle.jc_resolve.specs.OwnFields.{cells_over}

@@ -8,7 +8,7 @@ use Rattle.jc_base.specs.declared.record.ClassRec.{ClassRec}
 use Rattle.jc_base.specs.Class.{ClassTable, is_interface, is_interface_record, parent_of, parent_in_record}
 use Rattle.jc_base.specs.Linked.{cells_above}
 use Rattle.jc_base.specs.Cell.{width}
-use Rattle.jc_resolve.specs.declared.own_field.OwnField.{OwnField}
+use Rattle.jc_resolve.specs.declared.field_records.OwnField.{OwnField}
 use Rattle.jc_link.specs.declared.sites.Spot.{Spot}
 use Rattle.jc_link.specs.Sites.{MemberSite, added_entry, all_entered}
 use Rattle.jc_link.specs.Fields.{cells_in_all, cells_before}

@@ -12,7 +12,7 @@ use Rattle.jc_base.specs.Class.{ClassTable, IsClass, AreClasses, is_interface, t
 use Rattle.jc_base.specs.Order.{Below, is_below}
 use Rattle.jc_base.specs.Cell.{IsDeclared}
 use Rattle.jc_base.proofs.Subtypes.{Below-from_is_below}
-use Rattle.jc_resolve.specs.declared.named.NamedClass.{NamedClass}
+use Rattle.jc_resolve.specs.declared.naming.NamedClass.{NamedClass}
 use Rattle.jc_resolve.specs.Named as named
 use Rattle.jc_resolve.specs.Named.{AreNamed, IsNamedClass, IsNamedMethod, IsSized, infos_of}
 use Rattle.jc_classes.specs.Outline.{LineTable, is_on_chain}

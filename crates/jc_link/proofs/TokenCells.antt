@@ -9,7 +9,7 @@ use Rattle.std.proofs.lemmas.List.Sums.{sum_by-cons}
 use Rattle.std.proofs.lemmas.List.Concat.{flat_map-append}
 use Rattle.jc_base.specs.declared.ty.Ty.{Ty}
 use Rattle.jc_base.specs.Cell.{width}
-use Rattle.jc_resolve.specs.declared.own_field.OwnField.{OwnField}
+use Rattle.jc_resolve.specs.declared.field_records.OwnField.{OwnField}
 use Rattle.jc_resolve.specs.OwnFields.{cells_of_own, own_with_token, cells_over}
 use Rattle.jc_link.specs.Fields.{cells_in_all, cells_before}
 use Rattle.jc_link.proofs.Rooms.{taken_before, counted}

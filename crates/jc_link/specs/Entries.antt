@@ -3,7 +3,7 @@ use Rattle.std.specs.Prelude.{ℕ, Option, Some, option_map, option_and_then, Li
 use Rattle.cap_pool.specs.declared.pool_record.StaticReference.{StaticReference}
 use Rattle.cap_pool.specs.declared.pool_record.StaticReference.TheVariants.{Internal, External}
 use Rattle.cap_package.specs.PackageRecord.{PackageRecord}
-use Rattle.jc_resolve.specs.declared.place.RecordPlace.{RecordPlace}
+use Rattle.jc_resolve.specs.declared.fault.RecordPlace.{RecordPlace}
 use Rattle.jc_resolve.specs.References.{met_by}
 pub use Rattle.jc_resolve.specs.References.{exported_field, exported_method}
 

@@ -7,8 +7,8 @@ use Rattle.jc_base.specs.declared.record.ClassRec.{ClassRec}
 use Rattle.jc_base.specs.Cell.{width}
 use Rattle.jc_base.specs.Class.{ClassTable, parent_of, object}
 use Rattle.jc_base.specs.Linked.{cells_above}
-use Rattle.jc_resolve.specs.declared.named.NamedClass.{NamedClass}
-use Rattle.jc_resolve.specs.declared.own_field.OwnField.{OwnField}
+use Rattle.jc_resolve.specs.declared.naming.NamedClass.{NamedClass}
+use Rattle.jc_resolve.specs.declared.field_records.OwnField.{OwnField}
 use Rattle.jc_resolve.specs.OwnFields.{own_fields}
 use Rattle.jc_link.specs.Sites.{MemberSite}
 

@@ -19,7 +19,7 @@ use Rattle.jc_resolve.specs.declared.fault.LinkFault.{LinkFault}
 use Rattle.jc_resolve.specs.declared.fault.LinkFault.TheVariants.{NoMember}
 use Rattle.jc_resolve.specs.declared.fault.LinkEnd.{LinkEnd}
 use Rattle.jc_resolve.specs.declared.fault.LinkEnd.TheVariants.{Fault, Memory}
-use Rattle.jc_resolve.specs.declared.place.RecordPlace.{RecordPlace}
+use Rattle.jc_resolve.specs.declared.fault.RecordPlace.{RecordPlace}
 use Rattle.jc_resolve.specs.Numbering.{method_at}
 use Rattle.jc_resolve.specs.References.{met_by, Refers}
 use Rattle.jc_link.specs.Entries.{place_in, exported_field, exported_method}

@@ -1,5 +1,5 @@
 ghost use Rattle.std.specs.Prelude.{List};
-ghost use Rattle.jc_resolve.specs.declared.named.NamedClass.{NamedClass};
+ghost use Rattle.jc_resolve.specs.declared.naming.NamedClass.{NamedClass};
 ghost use Rattle.jc_classes.specs.Ancestor.{TellsAbove};
 ghost use Rattle.jc_classes.specs.Signatures.{TellsSame};
 ghost use Rattle.jc_link.specs.OneEach.{LinkedNamesAreOne};

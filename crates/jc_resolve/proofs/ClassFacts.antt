@@ -15,8 +15,8 @@ use Rattle.cap_desc.specs.DescriptorFormat.{FieldDescriptor}
 use Rattle.cap_package.specs.Descriptions.{Description, field_type}
 use Rattle.cap_package.specs.PackageRecord.{PackageRecord}
 use Rattle.cap_desc.specs.declared.type_list.TypeItem.{TypeItem}
-use Rattle.jc_resolve.specs.declared.named.NamedClass.{NamedClass}
-use Rattle.jc_resolve.specs.declared.place.RecordPlace.{RecordPlace}
+use Rattle.jc_resolve.specs.declared.naming.NamedClass.{NamedClass}
+use Rattle.jc_resolve.specs.declared.fault.RecordPlace.{RecordPlace}
 use Rattle.jc_resolve.specs.Numbering.{NumberedClass, numbered_class, numbered_classes_of, classes_after}
 use Rattle.jc_resolve.specs.Numbering.{numbered_classes, numbered_methods, same_place}
 use Rattle.jc_resolve.specs.Numbering.{place_of_class, class_places, class_at}

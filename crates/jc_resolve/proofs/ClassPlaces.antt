@@ -12,7 +12,7 @@ use Rattle.cap_bytes.specs.declared.fault.Format.{Format}
 use Rattle.cap_bytes.specs.Spelling.{Spells, Stands}
 use Rattle.cap_class.specs.ClassFormat.{Class, record_info, is_after, beyond_first, is_interface, class_flags, signature_pool, classes_info}
 use Rattle.cap_package.specs.PackageRecord.{PackageRecord}
-use Rattle.jc_resolve.specs.declared.place.RecordPlace.{RecordPlace}
+use Rattle.jc_resolve.specs.declared.fault.RecordPlace.{RecordPlace}
 use Rattle.jc_resolve.specs.Named.{IsAgreed}
 use Rattle.jc_resolve.specs.Numbering.{NumberedClass, numbered_class, numbered_classes_of, classes_after, place_of_class, class_places}
 use Rattle.jc_resolve.proofs.Pairwise.{Pairwise, pairwise-append, one-place}

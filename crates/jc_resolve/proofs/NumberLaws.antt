@@ -14,7 +14,7 @@ use Rattle.cap_class.specs.ClassFormat.{Class, is_interface}
 use Rattle.cap_desc.specs.DescriptorFormat as described
 use Rattle.cap_pool.specs.ExportFormat.{Exported}
 use Rattle.cap_package.specs.PackageRecord.{PackageRecord, names_interface}
-use Rattle.jc_resolve.specs.declared.place.RecordPlace.{RecordPlace}
+use Rattle.jc_resolve.specs.declared.fault.RecordPlace.{RecordPlace}
 use Rattle.jc_resolve.specs.Numbering.{NumberedClass, same_place, is_at, numbered_classes_of}
 use Rattle.jc_resolve.specs.Numbering.{classes_after, numbered_classes, place_of_class}
 use Rattle.jc_resolve.specs.Numbering.{class_at, flagged_interface, is_interface_number, is_placed}

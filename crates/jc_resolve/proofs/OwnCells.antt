@@ -19,8 +19,8 @@ use Rattle.jc_resolve.specs.Numbering.{NumberedClass}
 use Rattle.jc_resolve.specs.NamedClasses.{describes, is_instance_field, fields_described, instance_fields, has_token, with_token, by_token}
 use Rattle.jc_resolve.specs.NamedClasses.{cells_of_field, cells_of_fields, named_interface, named_proper, named_class}
 use Rattle.jc_resolve.specs.WorldTypes.{type_of, kind_of, cells_of_type}
-use Rattle.jc_resolve.specs.declared.own_field.OwnField.{OwnField}
-use Rattle.jc_resolve.specs.declared.package_fields.PackageFields.{PackageFields}
+use Rattle.jc_resolve.specs.declared.field_records.OwnField.{OwnField}
+use Rattle.jc_resolve.specs.declared.field_records.PackageFields.{PackageFields}
 use Rattle.jc_resolve.specs.Described.{IsDescribedOnce}
 use Rattle.jc_resolve.specs.OwnFields.{field_with, own_field, fields_in, own_fields}
 use Rattle.jc_resolve.specs.OwnFields.{cells_by_kind, cells_of_own, own_with_token, cells_over}

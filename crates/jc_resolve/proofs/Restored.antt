@@ -1,7 +1,7 @@
 -- An entry whose value is put back is as it was.
 use Rattle.std.proofs.Common.{◌≡◌, ℕ, Bool, true, false, cond, List, [], ◌∷◌, Some, None, refl, sym, ap}
 use Rattle.indexmap.specs.IndexMap.{insert_entry}
-use Rattle.jc_resolve.specs.declared.place.RecordPlace.{RecordPlace}
+use Rattle.jc_resolve.specs.declared.fault.RecordPlace.{RecordPlace}
 use Rattle.jc_resolve.specs.Numbering.{same_place}
 use Rattle.jc_resolve.specs.Numbers.{number_by_place, added_entry}
 

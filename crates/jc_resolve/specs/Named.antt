@@ -11,8 +11,8 @@ use Rattle.jc_base.specs.declared.record.Iface.{Iface}
 use Rattle.jc_base.specs.declared.record.MethodRec.{MethodRec}
 use Rattle.jc_base.specs.Cell.{AreWhole, IsFirstCell}
 use Rattle.jc_base.specs.Linked.{receiver_words, list_at, IsCodeLength}
-use Rattle.jc_resolve.specs.declared.named.NamedClass.{NamedClass}
-use Rattle.jc_resolve.specs.declared.named.DispatchTable.{DispatchTable}
+use Rattle.jc_resolve.specs.declared.naming.NamedClass.{NamedClass}
+use Rattle.jc_resolve.specs.declared.naming.DispatchTable.{DispatchTable}
 
 -- ---- packages
 

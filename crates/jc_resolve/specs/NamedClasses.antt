@@ -11,8 +11,8 @@ use Rattle.cap_package.specs.HeaderChecks.{is_static}
 use Rattle.cap_package.specs.PackageRecord.{PackageRecord}
 use Rattle.jc_base.specs.declared.ty.Ty.{Ty}
 use Rattle.jc_base.specs.declared.record.Iface.{Iface}
-use Rattle.jc_resolve.specs.declared.named.NamedClass.{NamedClass}
-use Rattle.jc_resolve.specs.declared.named.DispatchTable.{DispatchTable}
+use Rattle.jc_resolve.specs.declared.naming.NamedClass.{NamedClass}
+use Rattle.jc_resolve.specs.declared.naming.DispatchTable.{DispatchTable}
 use Rattle.jc_resolve.specs.Numbering.{NumberedClass, numbered_classes, method_at}
 use Rattle.jc_resolve.specs.References.{class_named, is_internal}
 use Rattle.jc_resolve.specs.WorldTypes.{cells_of_type}

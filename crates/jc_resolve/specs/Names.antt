@@ -5,8 +5,8 @@ use Rattle.jc_base.specs.declared.record.MethodRec.{MethodRec}
 use Rattle.jc_resolve.specs.declared.fault.LinkFault.{LinkFault}
 use Rattle.jc_resolve.specs.declared.fault.LinkEnd.{LinkEnd}
 use Rattle.jc_resolve.specs.declared.fault.LinkEnd.TheVariants.{Fault, Memory}
-use Rattle.jc_resolve.specs.declared.named.NamedClass.{NamedClass}
-use Rattle.jc_resolve.specs.declared.package_fields.PackageFields.{PackageFields}
+use Rattle.jc_resolve.specs.declared.naming.NamedClass.{NamedClass}
+use Rattle.jc_resolve.specs.declared.field_records.PackageFields.{PackageFields}
 use Rattle.jc_resolve.specs.declared.naming.Records.{Records}
 use Rattle.jc_resolve.specs.Fault.{link_place}
 use Rattle.jc_resolve.specs.Named.{IsAgreed}

@@ -8,7 +8,7 @@ use Rattle.cap_desc.specs.DescriptorFormat as described
 use Rattle.cap_pool.specs.ExportFormat.{Exported}
 use Rattle.cap_package.specs.PackageRecord.{PackageRecord, names_interface}
 use Rattle.cap_package.specs.Agreement.{or_none}
-use Rattle.jc_resolve.specs.declared.place.RecordPlace.{RecordPlace}
+use Rattle.jc_resolve.specs.declared.fault.RecordPlace.{RecordPlace}
 use Rattle.jc_resolve.specs.Numbering.{same_place}
 use Rattle.jc_resolve.specs.Counts.{class_total, method_total}
 use Rattle.jc_resolve.specs.Imports.{imports_met}

@@ -13,7 +13,7 @@ use Rattle.jc_base.specs.declared.ty.Ty.TheVariants.{IntLow}
 use Rattle.jc_base.specs.declared.ty.Kind.{Kind}
 use Rattle.jc_base.specs.declared.ty.Kind.TheVariants.{Int}
 use Rattle.cap_desc.specs.DescriptorFormat.{instance_token}
-use Rattle.jc_resolve.specs.declared.own_field.OwnField.{OwnField}
+use Rattle.jc_resolve.specs.declared.field_records.OwnField.{OwnField}
 use Rattle.jc_resolve.specs.NamedClasses.{describes}
 use Rattle.jc_resolve.specs.WorldTypes.{type_of, kind_of}
 

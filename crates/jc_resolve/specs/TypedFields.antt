@@ -13,8 +13,8 @@ use Rattle.cap_package.specs.PackageRecord.{PackageRecord}
 use Rattle.cap_package.specs.StaticChecks.{ImagePlace}
 use Rattle.cap_package.specs.StaticPlaces.{static_places}
 use Rattle.jc_base.specs.declared.ty.Ty.{Ty}
-use Rattle.jc_resolve.specs.declared.own_field.OwnField.{OwnField}
-use Rattle.jc_resolve.specs.declared.package_fields.PackageFields.{PackageFields}
+use Rattle.jc_resolve.specs.declared.field_records.OwnField.{OwnField}
+use Rattle.jc_resolve.specs.declared.field_records.PackageFields.{PackageFields}
 use Rattle.jc_resolve.specs.Described.{place_at, spot_of_record}
 use Rattle.jc_resolve.specs.Numbers.{none_numbered, number_by_place, with_all}
 use Rattle.jc_resolve.specs.OwnFields.{own_field, own_fields}

@@ -5,17 +5,18 @@ ghost use Rattle.cap_pool.specs.Export.{exported_class_seen};
 ghost use Rattle.jc_resolve.specs.Counts.{class_total, method_total};
 ghost use Rattle.jc_resolve.specs.Numbering.{numbered_classes, numbered_methods, class_at, method_at, is_interface_number};
 ghost use Rattle.jc_resolve.specs.Numbers.{spot_of_class, with_all, none_numbered, class_spots, interface_flags};
-ghost use Rattle.jc_resolve.specs.References.{met_by, place_referred, class_referred, class_named, exported_class, exported_field, exported_method};
+ghost use Rattle.jc_resolve.specs.References.{met_by, place_referred, class_referred, class_named, exported_class, exported_field};
+ghost use Rattle.jc_resolve.specs.References.{exported_method};
 
 use crate::counts::class_total;
 use crate::exports::{Exports, exported_classes, exported_in};
+use crate::fault::RecordPlace;
 use crate::imports::{Met, imports_met, met_among};
 use crate::method_index::number_methods;
 use crate::numbers::Numbers;
-use crate::place::RecordPlace;
 use cap_bytes::ClassReference;
 use cap_class::ClassInfos;
-use cap_package::Packages;
+use cap_package::{Package, Packages};
 use cap_pool::ExportedClass;
 use jc_base::Items;
 use std::alloc::{AllocError, Global};
@@ -239,4 +240,13 @@ impl<'n, 'p, 'a> Index<'n, 'p, 'a> {
             None => false,
         }
     }
+}
+
+/// A package with its number, among those that are indexed, and the roles of classes.
+#[derive(Clone, Copy)]
+pub(crate) struct Home<'x, 'n, 'p, 'a> {
+    pub(crate) index: &'x Index<'n, 'p, 'a>,
+    pub(crate) roles: [u8; 8],
+    pub(crate) number: u16,
+    pub(crate) of_package: &'x Package<'p, 'a>,
 }

@@ -1,4 +1,43 @@
+ghost use Rattle.std.specs.Prelude.{◌≡◌};
+ghost use Rattle.jc_resolve.specs.Described.{place_at};
+ghost use Rattle.jc_resolve.specs.Fault.{link_place};
+
+use first_fault::{Fault, Place};
 use std::alloc::AllocError;
+use std::hash::{Hash, Hasher};
+
+/// Where a record stands: its package, and its offset in a component of it.
+#[derive(Clone, Copy, PartialEq, Eq)]
+pub struct RecordPlace {
+    pub package: u16,
+    pub offset: u16,
+}
+
+impl RecordPlace {
+    /// Where a record stands of a package that stands for itself.
+    pub(crate) fn of_own(offset: u16) -> RecordPlace
+        ensures { result ≡ place_at offset }
+    {
+        RecordPlace { package: 0, offset }
+    }
+}
+
+// Both numbers in one write, which takes half the time of two.
+impl Hash for RecordPlace {
+    ghost use Rattle.std.specs.Prelude.{◌+◌, ◌*◌};
+    ghost use Rattle.std.specs.Hash as fed;
+    ghost use Rattle.std.specs.Cmp.Rules.{hashing};
+    ghost use Rattle.std.proofs.Common.{rules};
+    ghost use Rattle.jc_resolve.specs.declared.fault.RecordPlace.{RecordPlace};
+
+    ghost hash_input = { λ (place : RecordPlace). fed.u32 (place.«package» * 65536 + place.offset) };
+
+    ghost respects_eq = { Prim.search (hashing, rules) };
+
+    fn hash<H: Hasher>(&self, state: &mut H) {
+        state.write_u32(self.package as u32 * 65536 + self.offset as u32);
+    }
+}
 
 /// Why packages and roles make no world: the first condition that is broken, at the least thing that
 /// breaks it. Classes and packages are named by their numbers.
@@ -71,5 +110,38 @@ impl From<LinkFault> for LinkEnd {
 
     fn from(fault: LinkFault) -> LinkEnd {
         LinkEnd::Fault(fault)
+    }
+}
+
+impl Fault for LinkFault {
+    ghost place_of = { link_place };
+
+    #[tactic(auto, unfolding(crate::specs::Fault::link_place))]
+    fn place(self) -> Place {
+        match self {
+            LinkFault::TooManyPackages(n) => Place::one(n),
+            LinkFault::TooManyClasses(n) => Place::one(n),
+            LinkFault::TooManyMethods(n) => Place::one(n),
+            LinkFault::NoPackage(package, import) => Place::two(package as u32, import as u32),
+            LinkFault::NoClass(package, reference) => Place::two(package as u32, reference as u32),
+            LinkFault::SuperIsInterface(class) => Place::one(class as u32),
+            LinkFault::Cycle(class) => Place::one(class as u32),
+            LinkFault::NoRole(role) => Place::one(role as u32),
+            LinkFault::NoSuper(class) => Place::one(class as u32),
+            LinkFault::NotInterface(class, interface) => {
+                Place::two(class as u32, interface as u32)
+            }
+            LinkFault::Hole(class, token) => Place::two(class as u32, token as u32),
+            LinkFault::OverrideType(class, token) => Place::two(class as u32, token as u32),
+            LinkFault::InterfaceType(class, interface) => {
+                Place::two(class as u32, interface as u32)
+            }
+            LinkFault::InstanceLong(class, cells) => Place::two(class as u32, cells),
+            LinkFault::TooManyStatics(cells) => Place::one(cells),
+            LinkFault::NoMember(package, entry) => Place::two(package as u32, entry as u32),
+            LinkFault::BadCatch(package, handler) => Place::two(package as u32, handler as u32),
+            LinkFault::NoRoom(n) => Place::one(n),
+            LinkFault::RoleAbstract(role) => Place::one(role as u32),
+        }
     }
 }

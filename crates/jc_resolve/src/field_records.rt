@@ -6,18 +6,27 @@ ghost use Rattle.jc_resolve.specs.Conditions.{references_of_field_type};
 ghost use Rattle.jc_resolve.specs.Described.{spot_of_record};
 ghost use Rattle.jc_resolve.specs.Homes.{description_at, least_at, static_type_at, own_field_at, fields_at, resolved_at};
 ghost use Rattle.jc_resolve.specs.LookedUp.{references_of_field_types};
+ghost use Rattle.cap_class.specs.ClassPart.{class_seen};
+ghost use Rattle.jc_resolve.specs.TypedFields.{own_found, types_kept, own_kept};
 
-use crate::fault::LinkFault;
-use crate::home::Home;
+use crate::class_index::Home;
+use crate::fault::{LinkFault, RecordPlace};
 use crate::numbers::Numbers;
-use crate::own_field::OwnField;
-use crate::package_fields::PackageFields;
-use crate::place::RecordPlace;
 use crate::world_types::{kind_of, type_of};
+use cap_class::ClassInfo;
 use cap_desc::{DescClass, FieldInfo};
 use cap_package::field_type;
-use jc_base::{Items, Ty};
+use jc_base::{Items, Kind, Ty, Tys};
 use std::alloc::{AllocError, Global};
+
+/// An instance field that a class has of its own.
+#[derive(Clone, Copy)]
+pub struct OwnField {
+    pub token: u8,
+    pub kind: Kind,
+    /// The type of its first cell.
+    pub ty: Ty,
+}
 
 /// Where the class of a record stands, in a package that stands for itself.
 fn place_of(described: DescClass<'_>) -> RecordPlace
@@ -119,4 +128,62 @@ pub(crate) fn fields_of_package(
         records: Items::of(records),
         numbers,
     })
+}
+
+/// The fields of a package, each with its type.
+#[derive(Drop)]
+pub(crate) struct PackageFields {
+    /// The types of the static fields, in the order of the Descriptor.
+    pub(crate) statics: Tys,
+    /// By record of the Descriptor the instance fields that it describes.
+    pub(crate) records: Items<Items<OwnField>>,
+    /// By the offsets of the classes where their records stand.
+    pub(crate) numbers: Numbers,
+}
+
+impl PackageFields {
+    /// The instance fields of the first record of the class at an offset.
+    #[tactic(auto, unfolding(crate::specs::TypedFields::own_found))]
+    pub(crate) fn own_at(&self, offset: u16) -> &[OwnField]
+        ensures { result.now ≡ own_found self.now offset }
+    {
+        if offset >= 0x8000 {
+            return &[];
+        }
+        let Some(n) = self.numbers.at(RecordPlace::of_own(offset)) else {
+            return &[];
+        };
+        match self.records.as_slice().get(n as usize) {
+            Some(fields) => fields.as_slice(),
+            None => &[],
+        }
+    }
+}
+
+/// The types of the static fields of a package, in the order of the Descriptor.
+pub(crate) fn types_kept(all: &Items<PackageFields>, package: u16) -> &[Ty]
+    ensures { result.now ≡ types_kept all.now «package» }
+{
+    match all.as_slice().get(package as usize) {
+        Some(fields) => fields.statics.as_slice(),
+        None => &[],
+    }
+}
+
+/// The instance fields that a class of a package has of its own, by the first record of it; an interface has none.
+#[tactic(auto, unfolding(crate::specs::TypedFields::own_kept))]
+pub(crate) fn own_kept<'x>(
+    all: &'x Items<PackageFields>,
+    package: u16,
+    class: ClassInfo<'_>,
+) -> &'x [OwnField]
+    ensures { result.now ≡ own_kept all.now «package» (class_seen class.entry) }
+{
+    if class.flags().is_interface() {
+        return &[];
+    }
+    match all.as_slice().get(package as usize) {
+        Some(fields) => fields.own_at(class.offset()),
+        None => &[],
+    }
 }

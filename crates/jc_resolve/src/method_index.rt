@@ -6,8 +6,8 @@ ghost use Rattle.jc_resolve.specs.Counts.{method_count, method_total};
 ghost use Rattle.jc_resolve.specs.Numbers.{none_numbered, method_spots, spot_of_method, spots_of_classes, with_all};
 
 use crate::counts::method_total;
+use crate::fault::RecordPlace;
 use crate::numbers::Numbers;
-use crate::place::RecordPlace;
 use cap_desc::{DescClasses, DescMethods};
 use cap_package::{Packages, interface_offsets};
 use offset_set::Offsets;

@@ -9,10 +9,9 @@ ghost use Rattle.jc_resolve.specs.References.{met_by, class_referred, exported_f
 ghost use Rattle.jc_resolve.specs.TypedFields.{static_field_types, own_fields_in};
 
 use crate::class_index::Index;
-use crate::named::NamedClasses;
-use crate::own_field::OwnField;
-use crate::package_fields::{PackageFields, own_kept, types_kept};
-use crate::place::RecordPlace;
+use crate::fault::RecordPlace;
+use crate::field_records::{OwnField, PackageFields, own_kept, types_kept};
+use crate::naming::NamedClasses;
 use cap_bytes::ClassReference;
 use cap_class::ClassInfo;
 use cap_package::Packages;

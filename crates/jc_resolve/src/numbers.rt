@@ -1,7 +1,7 @@
 ghost use Rattle.std.specs.Prelude.{◌≡◌, ◌+◌, ◌<◌, IfOk, OnOk};
 ghost use Rattle.jc_resolve.specs.Numbers.{none_numbered, number_by_place, added_entry, with_next};
 
-use crate::place::RecordPlace;
+use crate::fault::RecordPlace;
 use indexmap::IndexMap;
 use std::alloc::{AllocError, Global};
 use std::marker::Model;

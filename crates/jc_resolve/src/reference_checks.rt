@@ -9,9 +9,8 @@ ghost use Rattle.jc_resolve.specs.Fault.{link_place};
 ghost use Rattle.first_fault.specs.Least.{lesser, least_from};
 ghost use Rattle.jc_resolve.specs.Numbering.{numbered_classes};
 
-use crate::class_index::Index;
+use crate::class_index::{Home, Index};
 use crate::fault::LinkFault;
-use crate::home::Home;
 use byteorder::{BigEndian, ByteOrder};
 use cap_bytes::Table;
 use cap_desc::{DescClass, DescClasses, DescFields};

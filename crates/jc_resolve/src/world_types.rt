@@ -4,8 +4,8 @@ ghost use Rattle.jc_resolve.specs.Conditions.{reference_of_type, references_of_t
 ghost use Rattle.jc_resolve.specs.Homes.{object_at, description_at, least_at, type_class_at, type_at};
 ghost use Rattle.jc_resolve.specs.WorldTypes.{cells_with, kind_of, signature_in, declared_signature};
 
+use crate::class_index::Home;
 use crate::fault::LinkFault;
-use crate::home::Home;
 use crate::reference_checks::class_or_fault;
 use cap_desc::{TypeItem, Types};
 use jc_base::{Items, Kind, Sig, Ty};

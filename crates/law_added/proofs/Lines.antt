@@ -12,7 +12,7 @@ use Rattle.cap_class.specs.ClassFormat.{is_interface as is_interface_flags}
 use Rattle.cap_package.specs.PackageRecord.{PackageRecord}
 use Rattle.jc_base.specs.declared.record.ClassRec.{ClassRec}
 use Rattle.jc_base.specs.Class.{list_of}
-use Rattle.jc_resolve.specs.declared.named.NamedClass.{NamedClass}
+use Rattle.jc_resolve.specs.declared.naming.NamedClass.{NamedClass}
 use Rattle.jc_resolve.specs.Numbering.{NumberedClass, numbered_classes}
 use Rattle.jc_resolve.specs.NamedClasses.{named_class, named_classes, named_interface, named_proper}
 use Rattle.jc_resolve.proofs.ClassFacts.{parent_within, parent_earlier, interfaces_within}

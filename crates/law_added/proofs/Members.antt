@@ -20,8 +20,8 @@ use Rattle.jc_base.specs.declared.record.Member.TheVariants.{Virtual, StaticCall
 use Rattle.jc_base.specs.declared.record.StaticRec.{StaticRec}
 use Rattle.jc_base.specs.Class.{ClassTable, chain, object, parent_of}
 use Rattle.jc_base.specs.Linked.{cells_above}
-use Rattle.jc_resolve.specs.declared.place.RecordPlace.{RecordPlace}
-use Rattle.jc_resolve.specs.declared.own_field.OwnField.{OwnField}
+use Rattle.jc_resolve.specs.declared.fault.RecordPlace.{RecordPlace}
+use Rattle.jc_resolve.specs.declared.field_records.OwnField.{OwnField}
 use Rattle.jc_resolve.specs.Numbering.{numbered_class, numbered_classes, classes_after, method_at}
 use Rattle.jc_resolve.specs.References.{class_referred, met_by, exported_field, exported_method}
 use Rattle.jc_resolve.specs.OwnFields.{field_with, own_field, fields_in, own_fields}

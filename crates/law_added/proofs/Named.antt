@@ -16,7 +16,7 @@ use Rattle.jc_base.specs.declared.record.StaticRec.{StaticRec}
 use Rattle.jc_base.specs.Class.{ClassTable, parent_of}
 use Rattle.jc_base.specs.Dispatch.{entry_at}
 use Rattle.jc_base.specs.Linked.{list_at}
-use Rattle.jc_resolve.specs.declared.own_field.OwnField.{OwnField}
+use Rattle.jc_resolve.specs.declared.field_records.OwnField.{OwnField}
 use Rattle.jc_resolve.specs.Numbering.{numbered_classes}
 use Rattle.jc_resolve.specs.References.{class_referred}
 use Rattle.jc_link.specs.Fields.{field_site, sites_of_classes, sites_after, field_sites}

@@ -17,7 +17,7 @@ use Rattle.cap_pool.specs.declared.pool_record.PoolReference.TheVariants.{Class 
 use Rattle.cap_pool.specs.PoolReference.{referred}
 use Rattle.jc_base.specs.declared.record.Sig.{Sig}
 use Rattle.jc_base.specs.declared.record.MethodRec.{MethodRec}
-use Rattle.jc_resolve.specs.declared.named.NamedClass.{NamedClass}
+use Rattle.jc_resolve.specs.declared.naming.NamedClass.{NamedClass}
 use Rattle.jc_resolve.specs.Numbering.{NumberedClass, NumberedMethod, is_placed, numbered_classes, numbered_methods, classes_after, methods_after}
 use Rattle.jc_resolve.specs.References.{class_named}
 use Rattle.jc_resolve.specs.WorldTypes.{class_or_object, type_class, type_of, cells_with, cells_of_type, arguments_before, result_after, signature_in}

@@ -5,7 +5,7 @@ use Rattle.std.proofs.Common.{IfSome, refl, sym, ap, subst, ◌∙◌, All}
 use Rattle.jc_base.specs.declared.record.ClassRec.{ClassRec}
 use Rattle.jc_base.specs.Class.{ClassTable, chain, object, parent_of, parent_in_record, is_interface, is_interface_record}
 use Rattle.jc_base.specs.Dispatch.{of_record, package_of, public_of, visible_of, cell_count, entry_at}
-use Rattle.jc_resolve.specs.declared.named.NamedClass.{NamedClass}
+use Rattle.jc_resolve.specs.declared.naming.NamedClass.{NamedClass}
 use Rattle.jc_classes.specs.Outline.{AreLines, outline}
 use Rattle.jc_classes.specs.Tables.{class_tables}
 use Rattle.jc_classes.proofs.ClassLines.{tables-alike, chain-alike, records-length}

@@ -23,7 +23,7 @@ use Rattle.jc_base.proofs.Eaching.{Each-append}
 use Rattle.jc_decode.specs.declared.symbols.Laid.{Laid}
 use Rattle.jc_link.specs.Entries.{place_in, method_place}
 use Rattle.jc_link.specs.Members.{call_member, member_of}
-use Rattle.jc_resolve.specs.declared.place.RecordPlace.{RecordPlace}
+use Rattle.jc_resolve.specs.declared.fault.RecordPlace.{RecordPlace}
 use Rattle.jc_resolve.specs.Numbering.{NumberedMethod, methods_of_class, methods_of_classes, methods_after, numbered_methods, place_of_method, method_places}
 use Rattle.jc_resolve.specs.Numbering.{is_at, is_placed, method_at}
 use Rattle.law_package.specs.Changes.{Change, changes, now_at}

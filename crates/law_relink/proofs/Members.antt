@@ -25,7 +25,7 @@ use Rattle.jc_resolve.specs.OwnFields.{field_with, own_field, fields_in, own_fie
 use Rattle.jc_link.specs.Fields.{sites_of_classes, sites_after}
 use Rattle.jc_link.specs.Members.{class_member, proper_by, proper_referred, virtual_by, virtual_member, super_of, super_member, static_member}
 use Rattle.jc_link.specs.Members.{call_member, field_member, member_referred, member_of}
-use Rattle.jc_resolve.specs.declared.place.RecordPlace.{RecordPlace}
+use Rattle.jc_resolve.specs.declared.fault.RecordPlace.{RecordPlace}
 use Rattle.jc_resolve.specs.References.{meets_import, import_of, met_by, class_referred}
 use Rattle.jc_resolve.proofs.NumberLaws.{position_below}
 use Rattle.law_package.specs.Rewritten.{bare_class, IsRewritten}

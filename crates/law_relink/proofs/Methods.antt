@@ -11,7 +11,7 @@ use Rattle.jc_base.specs.declared.record.MethodRec.{MethodRec}
 use Rattle.jc_base.specs.Class.{ClassTable}
 use Rattle.jc_base.specs.Dispatch.{has_body_in, is_concrete}
 use Rattle.jc_resolve.specs.declared.fault.LinkFault.TheVariants.{InterfaceType, RoleAbstract}
-use Rattle.jc_resolve.specs.declared.named.NamedClass.{NamedClass}
+use Rattle.jc_resolve.specs.declared.naming.NamedClass.{NamedClass}
 use Rattle.jc_classes.specs.Outline.{LineTable}
 use Rattle.jc_classes.specs.TableConditions.{DispatchEntry, hole_fault, Replacement, override_fault}
 use Rattle.jc_classes.specs.TableConditions.{Implementation, serves, serves_all, interface_type_fault, conditions}

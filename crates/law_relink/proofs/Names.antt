@@ -13,7 +13,7 @@ use Rattle.cap_package.specs.Agreement.{or_none}
 use Rattle.cap_renewal.specs.ClassEdits.{renewed_class}
 use Rattle.cap_renewal.specs.ExportEdits.{renewed_exported}
 use Rattle.jc_decode.specs.declared.symbols.Laid.{Laid}
-use Rattle.jc_resolve.specs.declared.place.RecordPlace.{RecordPlace}
+use Rattle.jc_resolve.specs.declared.fault.RecordPlace.{RecordPlace}
 use Rattle.jc_resolve.specs.Numbering.{NumberedClass, numbered_class, numbered_classes_of, classes_after, class_places}
 use Rattle.jc_resolve.specs.Numbering.{class_at, same_place, flagged_interface, is_interface_number}
 use Rattle.jc_resolve.specs.References.{meets_import, import_of, met_by, exported_offset, exported_place, place_referred, class_referred, class_named}

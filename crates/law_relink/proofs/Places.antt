@@ -10,7 +10,7 @@ use Rattle.cap_package.specs.PackageRecord.{PackageRecord, names_interface}
 use Rattle.cap_package.specs.StandsFor.{StandsFor}
 use Rattle.cap_package.specs.Parts.{Lent}
 use Rattle.jc_decode.specs.declared.symbols.Laid.{Laid}
-use Rattle.jc_resolve.specs.declared.place.RecordPlace.{RecordPlace}
+use Rattle.jc_resolve.specs.declared.fault.RecordPlace.{RecordPlace}
 use Rattle.jc_resolve.specs.Numbering.{NumberedMethod, methods_of_class, methods_of_classes, methods_after, place_of_method, method_places, is_at, method_at}
 use Rattle.law_package.specs.Changes.{Change, changes, stood_at, offset_by, now_at}
 use Rattle.law_package.specs.Written.{IsMethodWritten}

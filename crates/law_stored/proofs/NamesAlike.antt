@@ -25,7 +25,7 @@ use Rattle.cap_package.specs.PackageRecord.{PackageRecord}
 use Rattle.jc_base.specs.declared.record.Sig.{Sig}
 use Rattle.jc_resolve.specs.declared.fault.LinkFault.{LinkFault}
 use Rattle.jc_resolve.specs.declared.fault.LinkFault.TheVariants.{TooManyPackages, TooManyClasses, TooManyMethods, NoPackage, NoClass}
-use Rattle.jc_resolve.specs.declared.place.RecordPlace.{RecordPlace}
+use Rattle.jc_resolve.specs.declared.fault.RecordPlace.{RecordPlace}
 use Rattle.jc_resolve.specs.Conditions.{named_after, import_tokens, no_package_fault, class_references, no_class_fault, conditions}
 use Rattle.jc_resolve.specs.NamedClasses.{by_token, cells_by, cells_of_field, cells_of_fields, dispatch_entry, dispatch_table, interface_named}
 use Rattle.jc_resolve.specs.NamedClasses.{implemented_interfaces, parent_named, interface_with, instance_fields, named_class, named_classes}

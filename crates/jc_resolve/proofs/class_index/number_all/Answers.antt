@@ -3,7 +3,7 @@ use Rattle.std.proofs.lemmas.List.Sums.{sum_by-cons}
 use Rattle.cap_class.specs.ClassFormat.{Class, is_interface}
 use Rattle.cap_package.specs.PackageRecord.{PackageRecord}
 use Rattle.cap_package.specs.PackagesLeft.{packages_left}
-use Rattle.jc_resolve.specs.declared.place.RecordPlace.{RecordPlace}
+use Rattle.jc_resolve.specs.declared.fault.RecordPlace.{RecordPlace}
 use Rattle.jc_resolve.specs.Counts.{class_total}
 use Rattle.jc_resolve.specs.Numbers.{Numbered, with_all, with_next, interface_flags, class_spots, spot_of_class}
 use Rattle.jc_resolve.proofs.class_index.number_all.Goals as goal

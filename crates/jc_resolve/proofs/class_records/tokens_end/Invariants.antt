@@ -1,6 +1,6 @@
 use Rattle.std.proofs.Common.{◌≡◌, ◌+◌, ◌≤◌, fold, drop}
 use Rattle.std.specs.Prelude.{max}
-use Rattle.jc_resolve.specs.declared.own_field.OwnField.{OwnField}
+use Rattle.jc_resolve.specs.declared.field_records.OwnField.{OwnField}
 use Rattle.jc_resolve.proofs.class_records.tokens_end.Given as goal
 
 abbrev pub invariant-fields : goal.invariant-fields

@@ -2,7 +2,7 @@ use Rattle.std.proofs.Common.{ap, sym, subst, slice_get, ◌∙◌}
 use Rattle.std.specs.Prelude.{List, IfSome, slice_index}
 use Rattle.cap_class.specs.ClassPart.{class_seen}
 use Rattle.cap_package.specs.PackageRecord.{PackageRecord}
-use Rattle.jc_resolve.specs.declared.package_fields.PackageFields.{PackageFields}
+use Rattle.jc_resolve.specs.declared.field_records.PackageFields.{PackageFields}
 use Rattle.jc_resolve.specs.Described.{IsDescribedOnce}
 use Rattle.jc_resolve.specs.Names.{NamesRecord}
 use Rattle.jc_resolve.specs.TypedFields.{own_kept, own_fields_in}

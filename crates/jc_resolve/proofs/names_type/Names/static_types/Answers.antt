@@ -1,6 +1,6 @@
 use Rattle.std.proofs.Common.{ap, ◌∙◌}
 use Rattle.std.specs.Prelude.{List, slice_index}
-use Rattle.jc_resolve.specs.declared.package_fields.PackageFields.{PackageFields}
+use Rattle.jc_resolve.specs.declared.field_records.PackageFields.{PackageFields}
 use Rattle.jc_resolve.specs.Names.{NamesRecord}
 use Rattle.jc_resolve.specs.TypedFields.{types_kept, static_field_types}
 use Rattle.jc_resolve.proofs.TypedFields.{static_kept}

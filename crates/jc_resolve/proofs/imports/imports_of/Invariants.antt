@@ -3,7 +3,7 @@ use Rattle.std.specs.List.{range_with_len}
 use Rattle.jc_resolve.specs.Fault.{link_place}
 use Rattle.first_fault.specs.Least.{least_from}
 use Rattle.jc_resolve.specs.Conditions.{import_fault}
-use Rattle.jc_resolve.proofs.import_checks.imports_of.Given as goal
+use Rattle.jc_resolve.proofs.imports.imports_of.Given as goal
 
 abbrev pub invariant-imports : goal.invariant-imports
 invariant-imports l =

@@ -3,7 +3,7 @@ use Rattle.jc_resolve.specs.Fault.{link_place}
 use Rattle.first_fault.specs.Least.{least_from, least_of}
 use Rattle.cap_package.specs.PackagesLeft.{packages_left}
 use Rattle.jc_resolve.specs.Conditions.{no_package_fault, import_tokens, named_after, named_in}
-use Rattle.jc_resolve.proofs.import_checks.check_imports.Given as goal
+use Rattle.jc_resolve.proofs.imports.check_imports.Given as goal
 
 abbrev pub invariant-packages : goal.invariant-packages
 invariant-packages l =
