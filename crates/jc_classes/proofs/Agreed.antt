@@ -17,7 +17,7 @@ use Rattle.first_fault.specs.Least.{◌>>=◌}
 use Rattle.first_fault.specs.First.{IsFirst, AllEmpty}
 use Rattle.jc_resolve.proofs.Faultless.{faultless_at}
 use Rattle.first_fault.proofs.FirstTold.{IsTold, things-told, refused-first, accepted-empty}
-use Rattle.jc_classes.specs.declared.layout.ClassLayout.{ClassLayout}
+use Rattle.jc_classes.specs.declared.overlay.ClassLayout.{ClassLayout}
 use Rattle.jc_classes.specs.Outline.{LineTable, AreLines, outline}
 use Rattle.jc_classes.specs.Layout.{instance_cells, layouts}
 use Rattle.jc_classes.specs.TableConditions.{long_fault}

@@ -12,7 +12,7 @@ use Rattle.jc_base.specs.Class.{is_interface_record}
 use Rattle.jc_base.specs.Order.{is_on_chain}
 use Rattle.jc_base.specs.Dispatch.{package_of, of_record}
 use Rattle.jc_resolve.specs.declared.naming.NamedClass.{NamedClass}
-use Rattle.jc_classes.specs.declared.layout.ClassLayout.{ClassLayout}
+use Rattle.jc_classes.specs.declared.overlay.ClassLayout.{ClassLayout}
 use Rattle.jc_classes.specs.Outline.{LineTable, AreLines, IsClass as IsLineClass, chain as line_chain}
 use Rattle.jc_classes.specs.Outline.{chain_over as line_chain_over, is_on_chain as on_line_chain}
 use Rattle.jc_classes.specs.Outline.{parent_of as line_parent}

@@ -15,7 +15,7 @@ use Rattle.jc_classes.specs.KnownLines.{HaveSuperclasses}
 use Rattle.jc_classes.proofs.Climbs.{chain_from, chain_step, climbed_whole, head_same, tail_same, no_end}
 use Rattle.jc_resolve.specs.declared.naming.NamedClass.{NamedClass}
 use Rattle.jc_resolve.specs.Named.{IsSized}
-use Rattle.jc_classes.specs.declared.layout.ClassLayout.{ClassLayout}
+use Rattle.jc_classes.specs.declared.overlay.ClassLayout.{ClassLayout}
 use Rattle.jc_classes.specs.Layout.{layouts, of_class, own_of, instance_cells, class_layout, class_layout_from, above_or_nothing, at_home}
 use Rattle.jc_classes.specs.Slots.{slot_at, IsFilled, AreLayouts, IsMade, KeepsFilled, IsClimb}
 use Rattle.jc_classes.proofs.Steps.{layout_step}

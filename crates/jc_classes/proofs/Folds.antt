@@ -19,7 +19,7 @@ use Rattle.jc_resolve.specs.Named.{IsByteTable, IsSized}
 use Rattle.jc_resolve.specs.Fault.{link_place}
 use Rattle.first_fault.specs.Least.{least_from, least_of, lesser}
 use Rattle.jc_classes.specs.KnownLines.{HaveSuperclasses}
-use Rattle.jc_classes.specs.declared.layout.ClassLayout.{ClassLayout}
+use Rattle.jc_classes.specs.declared.overlay.ClassLayout.{ClassLayout}
 use Rattle.jc_classes.specs.Entries.{reach, reach_of}
 use Rattle.jc_classes.specs.Layout.{of_class, public_table, visible_table, public_entries}
 use Rattle.jc_classes.specs.Layout.{visible_entries, instance_cells, class_layout, layouts}

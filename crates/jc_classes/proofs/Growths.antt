@@ -18,7 +18,7 @@ use Rattle.jc_resolve.specs.declared.naming.NamedClass.{NamedClass}
 use Rattle.jc_resolve.specs.Fault.{link_place}
 use Rattle.jc_resolve.specs.Named.{IsSized}
 use Rattle.jc_resolve.proofs.Faultless.{both_faultless}
-use Rattle.jc_classes.specs.declared.layout.ClassLayout.{ClassLayout}
+use Rattle.jc_classes.specs.declared.overlay.ClassLayout.{ClassLayout}
 use Rattle.jc_classes.specs.Entries.{reach, overlaid}
 use Rattle.jc_classes.specs.Growth.{is_own, AddsOwn, GrowsLists}
 use Rattle.jc_classes.specs.Layout.{above_or_nothing, at_home, class_layout, public_entries, visible_entries}

@@ -33,7 +33,7 @@ use Rattle.jc_classes.specs.Outline.{object as line_object, parent_of as line_pa
 use Rattle.jc_classes.specs.Outline.{is_interface as line_interface, is_interface_line, package_of as line_package}
 use Rattle.jc_classes.specs.Outline.{package_in_line, line_of, outline}
 use Rattle.jc_classes.specs.KnownLines.{HaveSuperclasses}
-use Rattle.jc_classes.specs.declared.layout.ClassLayout.{ClassLayout}
+use Rattle.jc_classes.specs.declared.overlay.ClassLayout.{ClassLayout}
 use Rattle.jc_classes.specs.Entries.{overlaid}
 use Rattle.jc_classes.specs.Layout.{class_layout, public_entries, visible_entries, instance_cells, above_or_nothing, at_home}
 use Rattle.jc_classes.specs.TableConditions.{may_stand, layout_above, visible_above, implemented_by, serves}

@@ -12,7 +12,7 @@ use Rattle.jc_classes.specs.Outline.{LineTable, chain, package_of}
 use Rattle.jc_classes.proofs.Bare.{chain-front}
 use Rattle.jc_resolve.specs.declared.naming.NamedClass.{NamedClass}
 use Rattle.jc_resolve.specs.declared.naming.DispatchTable.{DispatchTable}
-use Rattle.jc_classes.specs.declared.layout.ClassLayout.{ClassLayout}
+use Rattle.jc_classes.specs.declared.overlay.ClassLayout.{ClassLayout}
 use Rattle.jc_classes.specs.Entries.{dispatch_list, overlaid}
 use Rattle.jc_classes.specs.Layout.{public_table, visible_table, own_of, home_run}
 use Rattle.jc_classes.specs.Layout.{public_entries, visible_entries, instance_cells, class_layout}

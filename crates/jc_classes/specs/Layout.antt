@@ -7,7 +7,7 @@ use Rattle.jc_base.specs.declared.ty.Ty.{Ty}
 use Rattle.jc_classes.specs.Outline.{LineTable, chain, package_of}
 use Rattle.jc_resolve.specs.declared.naming.DispatchTable.{DispatchTable}
 use Rattle.jc_resolve.specs.declared.naming.NamedClass.{NamedClass}
-use Rattle.jc_classes.specs.declared.layout.ClassLayout.{ClassLayout}
+use Rattle.jc_classes.specs.declared.overlay.ClassLayout.{ClassLayout}
 use Rattle.jc_classes.specs.Entries.{dispatch_list, overlaid}
 
 -- what a function gives of the class of a number, and else a default

@@ -4,7 +4,7 @@ use Rattle.std.specs.Option.{option_flatten}
 use Rattle.jc_base.specs.Class.{list_of}
 use Rattle.jc_classes.specs.Outline.{LineTable, chain}
 use Rattle.jc_resolve.specs.declared.naming.NamedClass.{NamedClass}
-use Rattle.jc_classes.specs.declared.layout.ClassLayout.{ClassLayout}
+use Rattle.jc_classes.specs.declared.overlay.ClassLayout.{ClassLayout}
 use Rattle.jc_classes.specs.Layout.{class_layout}
 
 -- the layout in the slot of a class

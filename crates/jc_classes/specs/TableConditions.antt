@@ -10,7 +10,7 @@ use Rattle.jc_resolve.specs.declared.fault.LinkFault.{LinkFault}
 use Rattle.jc_resolve.specs.declared.fault.LinkFault.TheVariants.{Hole, OverrideType, InterfaceType, InstanceLong}
 use Rattle.jc_resolve.specs.declared.naming.NamedClass.{NamedClass}
 use Rattle.first_fault.specs.First.{at_fault}
-use Rattle.jc_classes.specs.declared.layout.ClassLayout.{ClassLayout}
+use Rattle.jc_classes.specs.declared.overlay.ClassLayout.{ClassLayout}
 use Rattle.jc_classes.specs.Layout.{public_entries, visible_entries, instance_cells, class_layout, above_or_nothing, at_home}
 use Rattle.jc_classes.specs.Signatures.{entry_method, entry_signature, same_signature}
 

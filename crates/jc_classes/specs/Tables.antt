@@ -14,7 +14,7 @@ use Rattle.jc_resolve.specs.declared.naming.NamedClass.{NamedClass}
 use Rattle.jc_resolve.specs.Fault.{link_place}
 use Rattle.first_fault.specs.Least.{◌>>=◌, least_of, refused}
 use Rattle.first_fault.specs.First.{IsFirst, AllEmpty}
-use Rattle.jc_classes.specs.declared.layout.ClassLayout.{ClassLayout}
+use Rattle.jc_classes.specs.declared.overlay.ClassLayout.{ClassLayout}
 use Rattle.jc_classes.specs.Layout.{class_layout}
 use Rattle.jc_classes.specs.TableConditions.{hole_fault, entries_in, override_fault, replacements_in, interface_type_fault}
 use Rattle.jc_classes.specs.TableConditions.{implementations_in, long_fault, class_numbers, conditions}

@@ -1,4 +1,5 @@
-ghost use Rattle.std.specs.Prelude.{ℕ, false, slice_index_or, ◌≡◌, ◌≤◌, ◌<◌, ◌+◌, ◌++◌, All, length, map, flat_map, IfSome, IsTrue, Some, None};
+ghost use Rattle.std.specs.Prelude.{ℕ, false, slice_index_or, ◌≡◌, ◌≤◌, ◌<◌, ◌+◌, ◌++◌, All, length, map, flat_map, IfSome, IsTrue, Some};
+ghost use Rattle.std.specs.Prelude.{None};
 ghost use Rattle.std.specs.List.{range_with_len};
 ghost use Rattle.jc_classes.specs.Outline.{is_on_chain};
 ghost use Rattle.jc_resolve.specs.Fault.{link_place};
@@ -10,11 +11,10 @@ ghost use Rattle.jc_classes.specs.Growth.{is_own, AddsOwn, GrowsLists};
 ghost use Rattle.jc_classes.specs.TableConditions.{entries_from, entries_in, hole_fault, class_numbers};
 
 use crate::Lineage;
-use crate::layout::ClassLayout;
 use crate::made_list::{MadeList, public_list, visible_list};
-use crate::overlay::reach;
+use crate::overlay::{ClassLayout, reach};
 use crate::signatures::method_in;
-use jc_base::{MethodRec, Methods};
+use jc_base::Methods;
 use jc_resolve::{LinkFault, NamedClasses, lesser, refuse};
 
 /// A class with a mark for each class that is one of its superclasses or the class itself.

@@ -10,8 +10,7 @@ ghost use Rattle.jc_classes.specs.Groups.{AreGroups};
 
 use crate::Lineage;
 use crate::groups::Group;
-use crate::layout::ClassLayout;
-use crate::overlay::entry_at;
+use crate::overlay::{ClassLayout, entry_at};
 use crate::signatures::{method_in, same_sig};
 use jc_base::{Iface, MethodRec, Methods};
 use jc_resolve::{LinkFault, NamedClass, NamedClasses, lesser, refuse};

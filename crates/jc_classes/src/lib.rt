@@ -5,25 +5,19 @@
 #![tactic(auto)]
 
 mod building;
+mod checks;
 mod climb;
-mod cycle_checks;
 mod groups;
 mod holes;
-mod instances;
 mod interfaces;
-mod layout;
 mod lineage_type;
 mod lines;
 mod made_list;
-mod named_checks;
-mod outlining;
 mod overlay;
 mod overrides;
-mod role_checks;
 mod signatures;
 mod slots;
-mod tabling;
 
 pub use lineage_type::Lineage;
 pub use lines::lineage;
-pub use tabling::tables;
+pub use made_list::tables;

@@ -1,17 +1,39 @@
-ghost use Rattle.std.specs.Prelude.{◌≡◌, ◌≤◌, length, IfOk, All};
+ghost use Rattle.std.specs.Prelude.{◌≡◌, map, IfOk, ◌≤◌, length, All};
+ghost use Rattle.jc_classes.specs.Outline.{line_of, AreLines};
 ghost use Rattle.jc_resolve.specs.Due.{IsDue};
 ghost use Rattle.jc_classes.specs.KnownClasses.{HasKnownLine};
 ghost use Rattle.jc_classes.specs.Ancestor.{TellsAbove};
-ghost use Rattle.jc_classes.specs.Outline.{AreLines};
 ghost use Rattle.jc_classes.specs.Lines.{lines_agree, lineage_of, TellsLines, HaveLines};
 
-use crate::cycle_checks::least_cycle;
-use crate::lineage_type::Lineage;
-use crate::named_checks::{classes_have_supers, named_are_interfaces, supers_are_classes};
-use crate::outlining::outline;
-use crate::role_checks::least_role;
-use jc_resolve::{LinkEnd, NamedClasses, refuse};
-use std::alloc::Global;
+use crate::checks::{
+    classes_have_supers, least_cycle, least_role, named_are_interfaces, supers_are_classes,
+};
+use crate::lineage_type::{Line, Lineage};
+use jc_resolve::{LinkEnd, NamedClass, NamedClasses, refuse};
+use std::alloc::{AllocError, Global};
+
+/// A class or an interface with its superclass alone.
+fn line_of(class: &NamedClass) -> Line
+    ensures { result ≡ line_of class.now }
+{
+    Line {
+        package: class.package,
+        interface: class.interface,
+        parent: class.parent,
+    }
+}
+
+/// All classes, by number.
+#[tactic(auto, using(crate::proofs::Outlines::lined_more))]
+pub(crate) fn outline(alloc: Global, classes: &NamedClasses) -> Result<Vec<Line>, AllocError>
+    ensures { IfOk result (λ lines. lines.items ≡ map line_of classes.now) }
+{
+    let mut lines = Vec::with_capacity(alloc, classes.len())?;
+    'classes: for class in classes.as_slice() {
+        lines.push(line_of(class))?;
+    }
+    Ok(lines)
+}
 
 /// No class and no role is at fault.
 #[tactic(auto, unfolding(crate::specs::Lines::lines_agree))]

@@ -3,10 +3,20 @@ ghost use Rattle.std.specs.Option.{option_flatten};
 ghost use Rattle.jc_resolve.specs.Named.{IsByteTable};
 ghost use Rattle.jc_classes.specs.Entries.{reach, named_by, overlaid_at, overlaid};
 
-use crate::layout::DispatchEntries;
 use jc_base::Items;
 use jc_resolve::DispatchTable;
 use std::alloc::{AllocError, Global};
+
+/// The entries of a dispatch list by token: the number of a method, or `None` where the entry is open.
+pub type DispatchEntries = Items<Option<u16>>;
+
+/// The dispatch lists of a class, and the number of cells of an instance.
+#[derive(Drop)]
+pub struct ClassLayout {
+    pub public: DispatchEntries,
+    pub visible: DispatchEntries,
+    pub cells: u32,
+}
 
 /// The token after the last entry of a table, and 0 where it has none.
 #[tactic(auto, unfolding(crate::specs::Entries::reach))]

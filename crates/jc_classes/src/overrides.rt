@@ -6,9 +6,8 @@ ghost use Rattle.jc_classes.specs.Layout.{layouts};
 ghost use Rattle.jc_classes.specs.TableConditions.{override_fault, replacements_from, replacements_in, class_numbers};
 
 use crate::Lineage;
-use crate::layout::ClassLayout;
 use crate::made_list::{MadeList, public_list, visible_list};
-use crate::overlay::reach;
+use crate::overlay::{ClassLayout, reach};
 use crate::signatures::same_signature;
 use jc_base::Methods;
 use jc_resolve::{LinkFault, NamedClasses, lesser, refuse};

@@ -8,8 +8,7 @@ ghost use Rattle.jc_classes.specs.Layout.{layouts, class_layout_from, above_or_n
 ghost use Rattle.jc_classes.specs.Slots.{IsFilled, AreLayouts, IsMade, IsClimb, slot_at};
 
 use crate::Lineage;
-use crate::layout::ClassLayout;
-use crate::overlay::overlay;
+use crate::overlay::{ClassLayout, overlay};
 use jc_resolve::{NamedClass, NamedClasses};
 use std::alloc::{AllocError, Global};
 

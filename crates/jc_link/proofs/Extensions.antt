@@ -8,7 +8,7 @@ use Rattle.jc_base.specs.Interface.{extended, extended_in, NoneExtendsItself}
 use Rattle.jc_base.proofs.Leading.{Leads-along}
 use Rattle.jc_resolve.specs.declared.naming.NamedClass.{NamedClass}
 use Rattle.jc_classes.specs.Ancestor as named
-use Rattle.jc_classes.specs.declared.layout.ClassLayout.{ClassLayout}
+use Rattle.jc_classes.specs.declared.overlay.ClassLayout.{ClassLayout}
 use Rattle.jc_classes.specs.Layout.{class_layout}
 use Rattle.jc_classes.specs.Tables.{record_from, records_from, class_tables}
 use Rattle.jc_link.specs.World.{classes_of, lineage_of, table_of}

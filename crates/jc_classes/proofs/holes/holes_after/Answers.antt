@@ -4,7 +4,7 @@ use Rattle.jc_base.specs.Class.{list_of}
 use Rattle.jc_classes.specs.Outline.{chain}
 use Rattle.jc_resolve.specs.Fault.{link_place}
 use Rattle.first_fault.specs.Least.{least_from}
-use Rattle.jc_classes.specs.declared.layout.ClassLayout.{ClassLayout}
+use Rattle.jc_classes.specs.declared.overlay.ClassLayout.{ClassLayout}
 use Rattle.jc_classes.specs.Layout.{class_layout}
 use Rattle.jc_classes.specs.Slots.{HasShortLists}
 use Rattle.jc_classes.specs.TableConditions.{hole_fault, entries_from}

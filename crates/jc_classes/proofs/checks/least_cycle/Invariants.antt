@@ -4,7 +4,7 @@ use Rattle.first_fault.specs.Least.{least_of, least_from}
 use Rattle.jc_classes.specs.LineConditions.{numbered, cycle_fault}
 use Rattle.jc_classes.proofs.Numbered.{numbered_from}
 use Rattle.jc_classes.proofs.Settled.{AreSettled}
-use Rattle.jc_classes.proofs.cycle_checks.least_cycle.Given as goal
+use Rattle.jc_classes.proofs.checks.least_cycle.Given as goal
 
 abbrev pub invariant-classes : goal.invariant-classes
 invariant-classes l = record {

@@ -2,7 +2,7 @@ use Rattle.std.proofs.Common.{◌≡◌, map, drop}
 use Rattle.jc_resolve.specs.Fault.{link_place}
 use Rattle.first_fault.specs.Least.{least_from}
 use Rattle.jc_classes.specs.LineConditions.{not_interface_fault}
-use Rattle.jc_classes.proofs.named_checks.interface_faults.Given as goal
+use Rattle.jc_classes.proofs.checks.interface_faults.Given as goal
 
 abbrev pub invariant-interfaces : goal.invariant-interfaces
 invariant-interfaces l =

@@ -1,7 +1,7 @@
 use Rattle.std.proofs.Common.{sym, ◌∙◌}
 use Rattle.jc_classes.specs.Tables.{classes_agree}
 use Rattle.jc_classes.proofs.Agreed.{all_granted, told_short}
-use Rattle.jc_classes.proofs.tabling.tables_or_fault.Goals as goal
+use Rattle.jc_classes.proofs.made_list.tables_or_fault.Goals as goal
 
 pub build-requires-clause-short : goal.build-requires-clause-short
 unfolding classes_agree

@@ -3,7 +3,7 @@ use Rattle.jc_classes.specs.Tables.{records_from}
 use Rattle.jc_classes.proofs.Folds.{layout_at}
 use Rattle.jc_classes.proofs.ClassLines.{records_next}
 use Rattle.jc_classes.proofs.Agreed.{layout_cells_short, least_of_records, table_classes}
-use Rattle.jc_classes.proofs.tabling.build.Goals as goal
+use Rattle.jc_classes.proofs.made_list.build.Goals as goal
 
 pub record_from-requires : goal.record_from-requires
 record_from-requires c =

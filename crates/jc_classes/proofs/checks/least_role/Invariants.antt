@@ -3,7 +3,7 @@ use Rattle.jc_resolve.specs.Fault.{link_place}
 use Rattle.first_fault.specs.Least.{least_of, least_from}
 use Rattle.jc_classes.specs.LineConditions.{numbered, role_fault}
 use Rattle.jc_classes.proofs.Numbered.{numbered_from}
-use Rattle.jc_classes.proofs.role_checks.least_role.Given as goal
+use Rattle.jc_classes.proofs.checks.least_role.Given as goal
 
 abbrev pub invariant-roles : goal.invariant-roles
 invariant-roles l =

@@ -1,7 +1,7 @@
 use Rattle.jc_classes.proofs.Agreed.{due-tells}
 use Rattle.jc_classes.proofs.SameTypes.{same_signature-exact}
 use Rattle.jc_classes.proofs.Linking.{due-links}
-use Rattle.jc_classes.proofs.tabling.tables.Goals as goal
+use Rattle.jc_classes.proofs.made_list.tables.Goals as goal
 
 pub returns-clause-tells : goal.returns-clause-tells
 returns-clause-tells c = due-tells c.args.lineage.now c.args.classes.now c.args.methods.now c.tables_or_fault.result c.tables_or_fault.ensures

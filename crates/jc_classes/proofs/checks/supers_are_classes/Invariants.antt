@@ -3,7 +3,7 @@ use Rattle.jc_resolve.specs.Fault.{link_place}
 use Rattle.first_fault.specs.Least.{least_of, least_from}
 use Rattle.jc_classes.specs.LineConditions.{numbered, super_fault}
 use Rattle.jc_classes.proofs.Numbered.{numbered_from}
-use Rattle.jc_classes.proofs.named_checks.supers_are_classes.Given as goal
+use Rattle.jc_classes.proofs.checks.supers_are_classes.Given as goal
 
 abbrev pub invariant-classes : goal.invariant-classes
 invariant-classes l =

@@ -5,7 +5,7 @@ use Rattle.std.proofs.lemmas.Grind.{common_steps}
 use Rattle.std.proofs.lemmas.Option.{slice_get-get_or}
 use Rattle.jc_classes.specs.Marks.{rests_on}
 use Rattle.jc_classes.proofs.Settled.{AreSettled, rests-acyclic, settled-more}
-use Rattle.jc_classes.proofs.cycle_checks.least_cycle.Goals as goal
+use Rattle.jc_classes.proofs.checks.least_cycle.Goals as goal
 
 pub cycle_fault-requires-clause-rests : goal.cycle_fault-requires-clause-rests
 cycle_fault-requires-clause-rests c =
