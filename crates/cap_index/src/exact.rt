@@ -4,6 +4,7 @@ ghost use Rattle.cap_index.specs.Marking.{all_marked, flagged_from, mark, marked
 ghost use Rattle.jc_control.specs.Flags.{flag};
 ghost use Rattle.jc_decode.specs.Decoding.{decoded};
 ghost use Rattle.jc_decode.specs.Listing.{listing, targets};
+ghost use Rattle.cap_index.specs.WorldIndexes.{IndexesAre};
 
 use cap_bytes::View;
 use jc_control::{Flags, Targets, instruction_places};
@@ -74,3 +75,9 @@ fn flagged(alloc: Global, flags: &[bool]) -> Result<Vec<u16>, AllocError>
     }
     Ok(places)
 }
+
+/// What `indexes` makes of packages and methods, by number: a method with code has the list of its package's index that
+/// stands at its position, and no index where the package has none that is well formed.
+pub fn indexes_are()
+    ensures { IndexesAre }
+{}

@@ -6,12 +6,9 @@
 
 mod exact;
 mod index_component;
-mod index_lists;
 mod lists;
 mod of_methods;
-mod world_indexes;
 
-pub use exact::exact_index;
+pub use exact::{exact_index, indexes_are};
 pub use index_component::index_info;
 pub use of_methods::indexes;
-pub use world_indexes::indexes_are;

@@ -2,8 +2,7 @@ ghost use Rattle.std.specs.Prelude.{◌≡◌, ◌<◌, ◌≤◌, length, IfOk,
 ghost use Rattle.cap_index.specs.Indexes.{has_code, is_coded, package_lists, indexes_of};
 ghost use Rattle.cap_index.specs.Taking.{IsTakenFrom};
 
-use crate::index_lists::lists_in;
-use crate::lists::Lists;
+use crate::lists::{Lists, lists_in};
 use cap_package::Packages;
 use jc_base::{Indexes, MethodRec, Methods, TargetIndex};
 use std::alloc::{AllocError, Global};
