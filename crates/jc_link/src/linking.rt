@@ -1,19 +1,30 @@
-ghost use Rattle.std.specs.Prelude.{◌≤◌, length, IfOk, OnOk};
+ghost use Rattle.std.specs.Prelude.{◌≤◌, length, IfOk, OnOk, List, ◌≡◌, All, ◌<◌, ℕ, slice_index};
 ghost use Rattle.first_fault.specs.First.{AllEmpty};
 ghost use Rattle.jc_base.specs.ByClass.{IsIndexOf};
 ghost use Rattle.jc_link.specs.Arrays.{array_records, initial_cells};
 ghost use Rattle.jc_link.specs.World.{TellsFirst, LinkTells, IsLinked, table_conditions, member_conditions, rest_conditions};
+ghost use Rattle.jc_link.specs.World.{first_classes};
 ghost use Rattle.jc_link.specs.Known.{AreNamesOf, IsTableOf, AreResolved, AreTaken};
+ghost use Rattle.jc_resolve.specs.declared.naming.NamedClass.{NamedClass};
+ghost use Rattle.jc_classes.specs.Ancestor.{TellsAbove};
+ghost use Rattle.jc_classes.specs.Signatures.{TellsSame};
+ghost use Rattle.jc_link.specs.OneEach.{LinkedNamesAreOne};
+ghost use Rattle.jc_resolve.specs.Named.{infos_of};
+ghost use Rattle.jc_base.specs.Linked.{AreLinkedClasses};
+ghost use Rattle.jc_resolve.specs.Fault.{link_place};
+ghost use Rattle.first_fault.specs.Least.{least_of, refused};
+ghost use Rattle.jc_link.specs.Roles.{TellsRoles, role_fault, thrown_roles};
+ghost use Rattle.jc_resolve.specs.Conditions.{conditions};
 
-use crate::method_infos::infos;
 use crate::tabling::{Tabled, with_table};
-use crate::{arrays, arrays_fit, handlers_fit, members, roles_fit, statics, statics_fit};
+use crate::{arrays, arrays_fit, handlers_fit, members, statics, statics_fit};
 use cap_index::indexes;
 use cap_package::Packages;
 use jc_base::{
-    Arrays, ClassIndex, Classes, Indexes, Infos, Lookups, Pools, Statics, World, concrete_decides,
+    Arrays, ClassIndex, Classes, Indexes, Infos, Lookups, Methods, Pools, Statics, World,
+    concrete_decides, is_concrete,
 };
-use jc_resolve::{LinkEnd, Names};
+use jc_resolve::{LinkEnd, LinkFault, Names, lesser, names, refuse};
 use std::alloc::{AllocError, Global};
 
 /// What stands on the classes of a world.
@@ -140,4 +151,90 @@ pub fn link<'a>(
     let tabled = with_table(alloc, packages, roles)?;
     let resolved = resolve(alloc, &tabled.names, &tabled.classes)?;
     made(alloc, tabled, resolved)
+}
+
+/// What the words come to by which a world is told: in every world that `link` gives, each import of its packages names one
+/// package, each class reference one class and each pool entry one member, which the world has for it. What is asked of the
+/// classes above a class or an interface is asked of its ancestors, and two signatures are the same where they are equal.
+pub fn linked_names_are_one()
+    ensures names { LinkedNamesAreOne }
+    ensures above { (cs : List NamedClass) → TellsAbove cs }
+    ensures signatures { TellsSame }
+{}
+
+/// The infos of the packages' Method components, in order, borrowed from the packages.
+pub(crate) fn infos<'a>(alloc: Global, packages: &Packages<'_, 'a>) -> Result<Infos<'a>, AllocError>
+    ensures are { IfOk result (λ infos. infos ≡ infos_of packages.now) }
+    ensures few { IfOk result (All (λ info. length info ≤ 65535)) }
+{
+    let mut infos = Infos::new(alloc);
+    'packages: for package in packages.iter() {
+        let methods = package.methods();
+        infos.push(methods.info().bytes)?;
+    }
+    Ok(infos)
+}
+
+/// The class of a role.
+fn role_of(classes: &Classes, role: u8) -> u16
+    requires role { role < 8 }
+    requires known { (k : ℕ) → k < 8 → slice_index classes.now.roles k < length classes.now.records }
+    ensures is { result ≡ slice_index classes.now.roles role }
+    ensures below { result < length classes.now.records }
+{
+    classes.role(role)
+}
+
+/// What is wrong with the class of a role.
+#[tactic(auto, unfolding(crate::specs::Roles::role_fault))]
+fn role_fault(classes: &Classes, methods: &Methods, role: u8) -> Option<LinkFault>
+    requires role { role < 8 }
+    requires known { (k : ℕ) → k < 8 → slice_index classes.now.roles k < length classes.now.records }
+    requires links { AreLinkedClasses 16 classes.now methods.now }
+    ensures { result ≡ role_fault classes.now methods.now role }
+{
+    if is_concrete(classes, methods, role_of(classes, role)) {
+        None
+    } else {
+        Some(LinkFault::RoleAbstract(role))
+    }
+}
+
+/// The classes that the machine throws are concrete.
+pub fn roles_fit(classes: &Classes, methods: &Methods) -> Result<(), LinkFault>
+    requires known { (k : ℕ) → k < 8 → slice_index classes.now.roles k < length classes.now.records }
+    requires links { AreLinkedClasses 16 classes.now methods.now }
+    ensures is { result ≡ refused (least_of link_place (role_fault classes.now methods.now) thrown_roles) }
+    // Each of them is concrete; or the first role is named whose class is not.
+    ensures tells { TellsRoles classes.now methods.now result }
+{
+    concrete_decides();
+    let least = lesser(None, role_fault(classes, methods, 2));
+    let least = lesser(least, role_fault(classes, methods, 3));
+    let least = lesser(least, role_fault(classes, methods, 4));
+    let least = lesser(least, role_fault(classes, methods, 5));
+    let least = lesser(least, role_fault(classes, methods, 6));
+    refuse(lesser(least, role_fault(classes, methods, 7)))
+}
+
+/// The classes and methods of packages by number.
+pub(crate) fn named<'n, 'p, 'a>(
+    alloc: Global,
+    packages: &'n Packages<'p, 'a>,
+    roles: [u8; 8],
+) -> Result<Names<'n, 'p, 'a>, LinkEnd>
+    ensures first { TellsFirst (conditions packages.now) result }
+    ensures known { IfOk result (AreNamesOf packages.now roles) }
+{
+    names(alloc, packages, roles)
+}
+
+/// How many classes the first package has.
+pub(crate) fn first_classes(packages: &Packages<'_, '_>) -> u16
+    ensures { result ≡ first_classes packages.now }
+{
+    if packages.len() == 0 {
+        return 0;
+    }
+    packages.at(0).classes().count()
 }

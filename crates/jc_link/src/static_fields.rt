@@ -1,19 +1,19 @@
 ghost use Rattle.std.specs.Prelude.{◌≡◌, ◌+◌, ◌≤◌, ◌++◌, length, map, slice_get, slice_index, sum_by, All, IfOk, Some};
 ghost use Rattle.jc_base.specs.Class.{ClassTable};
-ghost use Rattle.jc_base.specs.Cell.{IsDeclared, width};
+ghost use Rattle.jc_base.specs.Cell.{IsDeclared, width, AreElementsOf};
 ghost use Rattle.jc_base.specs.Linked.{AreSlots, IsStatic};
 ghost use Rattle.cap_package.specs.Places.{place_seen};
 ghost use Rattle.cap_package.specs.StaticPlaces.{static_places};
-ghost use Rattle.cap_method.specs.StaticPart.{statics_seen};
-ghost use Rattle.jc_link.specs.Arrays.{array_records};
+ghost use Rattle.cap_method.specs.StaticPart.{statics_seen, array_seen};
+ghost use Rattle.jc_link.specs.Arrays.{array_records, array_type, array_record};
 ghost use Rattle.jc_resolve.specs.WorldTypes.{type_of};
 ghost use Rattle.jc_link.specs.KnownFields.{AreStaticsKnown, StandApart};
 ghost use Rattle.jc_link.specs.Statics.{cells_at, site, static_cells, static_record, records_from, static_records};
 
-use crate::image::words_at;
-use cap_method::StaticPart;
+use crate::image::{element_words, words_at};
+use cap_method::{ArrayInit, StaticPart};
 use cap_package::{Package, Packages, StaticPlace};
-use jc_base::{StaticRec, Statics, Ty};
+use jc_base::{ArrayRec, Arrays, Initial, StaticRec, Statics, Ty};
 use jc_resolve::{Names, kind_of};
 use std::alloc::{AllocError, Global};
 
@@ -134,4 +134,54 @@ pub fn statics(alloc: Global, names: &Names<'_, '_, '_>) -> Result<Statics, Allo
     names.facts();
     let fields = all_statics(alloc, names.packages(), names)?;
     Ok(fields)
+}
+
+/// The type of an array by the number of the type of its elements.
+fn array_type(kind: u8) -> Ty
+    ensures { result ≡ array_type kind }
+{
+    match kind {
+        2 => Ty::ArrBool,
+        3 => Ty::ArrByte,
+        4 => Ty::ArrShort,
+        _ => Ty::ArrInt,
+    }
+}
+
+fn array_record(alloc: Global, array: &ArrayInit<'_>) -> Result<ArrayRec, AllocError>
+    ensures { IfOk result (λ a. a ≡ array_record (array_seen array.now)) }
+{
+    Ok(ArrayRec {
+        kind: array_type(array.kind),
+        initial: Initial::of(element_words(alloc, array.kind, array.values)?),
+    })
+}
+
+/// Appends the initial arrays of a package.
+#[tactic(auto, using(crate::proofs::ArrayLists::same_elements))]
+fn push_arrays(
+    alloc: Global,
+    records: &mut Vec<ArrayRec>,
+    package: &Package<'_, '_>,
+) -> Result<(), AllocError>
+    ensures elements { IfOk result (λ _. All (λ a. AreElementsOf a.kind a.initial) (map array_record «package».now.statics.arrays)) }
+    ensures is { IfOk result (λ _. records.new.items ≡ records.old.items ++ map array_record «package».now.statics.arrays) }
+{
+    'arrays: for array in package.statics().arrays() {
+        records.push(array_record(alloc, &array)?)?;
+    }
+    Ok(())
+}
+
+/// The arrays that exist from the start, in the order of their handles.
+pub fn arrays(alloc: Global, packages: &Packages<'_, '_>) -> Result<Arrays, AllocError>
+    ensures is { IfOk result (λ arrays. arrays ≡ array_records packages.now) }
+    // The words of each have the type of its elements.
+    ensures elements { IfOk result (λ arrays. All (λ a. AreElementsOf a.kind a.initial) arrays) }
+{
+    let mut records = Vec::new(alloc);
+    'packages: for n in 0..packages.len() {
+        push_arrays(alloc, &mut records, packages.at(n))?;
+    }
+    Ok(Arrays::of(records))
 }

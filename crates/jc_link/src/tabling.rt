@@ -2,7 +2,7 @@ ghost use Rattle.std.specs.Prelude.{IfOk};
 ghost use Rattle.jc_link.specs.World.{TellsFirst, TableTells, class_conditions, table_conditions};
 ghost use Rattle.jc_link.specs.Known.{AreNamesOf, IsTableOf};
 
-use crate::naming::{first_classes, named};
+use crate::linking::{first_classes, named};
 use cap_package::Packages;
 use jc_base::Classes;
 use jc_classes::{lineage, tables};
