@@ -5,8 +5,8 @@ use Rattle.std.specs.List.{concat}
 use Rattle.cap_text.specs.Fault.{name_1}
 use Rattle.cap_text.specs.Bare.{code_end_text, bad_target_text}
 use Rattle.cap_text.specs.Rule.{rule_fault_text}
-use Rattle.jc_flow.specs.declared.end.FlowEnd.{FlowEnd}
-use Rattle.jc_flow.specs.declared.end.FlowEnd.TheVariants.{NoTyping, Code, BadTarget, FallsOff, BadHandler, Memory}
+use Rattle.jc_flow.specs.declared.inference.FlowEnd.{FlowEnd}
+use Rattle.jc_flow.specs.declared.inference.FlowEnd.TheVariants.{NoTyping, Code, BadTarget, FallsOff, BadHandler, Memory}
 
 -- a place; what is wrong there comes after it
 abbrev pub place_text : ℕ → List ℕ

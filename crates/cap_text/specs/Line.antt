@@ -17,8 +17,8 @@ use Rattle.cap_text.specs.declared.line.MethodNumber.{MethodNumber}
 use Rattle.cap_text.specs.Card.{card_fault_text}
 use Rattle.cap_text.specs.Flow.{flow_end_text}
 use Rattle.card_typing.specs.declared.fault.CardFault.{CardFault}
-use Rattle.jc_flow.specs.declared.end.FlowEnd.{FlowEnd}
-use Rattle.jc_flow.specs.declared.end.FlowEnd.TheVariants.{Memory}
+use Rattle.jc_flow.specs.declared.inference.FlowEnd.{FlowEnd}
+use Rattle.jc_flow.specs.declared.inference.FlowEnd.TheVariants.{Memory}
 
 -- the parts of a package, by its number from 0, make no package
 abbrev pub malformed_line : ℕ → PackFault → List ℕ

@@ -24,7 +24,7 @@ use Rattle.card_typing.specs.declared.fault.CardKind.TheVariants.{StackAtBranch}
 use Rattle.cap_text.specs.Rule.{rule_fault_text}
 use Rattle.jc_base.specs.declared.ty.Ty.TheVariants.{Short, Class, Top, ArrByte}
 use Rattle.jc_decode.specs.declared.insn.CodeEnd.TheVariants.{NoOpcode}
-use Rattle.jc_flow.specs.declared.end.FlowEnd.TheVariants as flow
+use Rattle.jc_flow.specs.declared.inference.FlowEnd.TheVariants as flow
 use Rattle.jc_link.specs.LinkFault.TheVariants.{Hole}
 use Rattle.jc_ops.specs.declared.fault.RuleFault.TheVariants.{Mismatch}
 

@@ -11,8 +11,8 @@ use Rattle.std.proofs.lemmas.Option.{slice_get_within, get_or_from_slice_get}
 use Rattle.jc_base.specs.declared.record.MethodRec.{MethodRec}
 use Rattle.jc_base.specs.World.{Linked}
 use Rattle.jc_control.specs.Method.{IsMethodOf, method_with}
-use Rattle.jc_flow.specs.declared.end.FlowEnd.{FlowEnd}
-use Rattle.jc_flow.specs.declared.end.FlowEnd.TheVariants.{Memory}
+use Rattle.jc_flow.specs.declared.inference.FlowEnd.{FlowEnd}
+use Rattle.jc_flow.specs.declared.inference.FlowEnd.TheVariants.{Memory}
 use Rattle.jc_flow.specs.Infer.{TellsEnd, LacksTyping}
 use Rattle.cap_text.specs.declared.line.MethodNumber.{MethodNumber}
 use Rattle.cap_text.specs.Line.{methods_line, refused_flow_line}

@@ -4,7 +4,7 @@ use Rattle.jc_base.specs.declared.ty.Ty.TheVariants.{Top}
 use Rattle.jc_base.specs.World.{Linked}
 use Rattle.jc_control.specs.Method.{Method}
 use Rattle.jc_rules.specs.Flow.{HasFlowTyping}
-use Rattle.jc_flow.specs.declared.end.FlowEnd.{FlowEnd}
+use Rattle.jc_flow.specs.declared.inference.FlowEnd.{FlowEnd}
 use Rattle.jc_flow.specs.Infer.{TellsEnd, LacksTyping}
 use Rattle.jc_control.specs.Asked.{IsOfLast}
 use Rattle.capcheck_core.specs.Typed.{is_of_last}

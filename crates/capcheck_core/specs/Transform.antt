@@ -5,7 +5,7 @@ use Rattle.cap_package.specs.Parts.{Lent}
 use Rattle.cap_package.specs.PackageRecord.{PackageRecord}
 use Rattle.card_typing.specs.declared.fault.CardFault.{CardFault}
 use Rattle.jc_base.specs.World.{Linked}
-use Rattle.jc_flow.specs.declared.end.FlowEnd.{FlowEnd}
+use Rattle.jc_flow.specs.declared.inference.FlowEnd.{FlowEnd}
 use Rattle.xf_pack.specs.declared.end.MethodLimit.{MethodLimit}
 use Rattle.xf_pack.specs.declared.end.MethodLimit.TheVariants.{Registers, StackLimit, MethodLong}
 use Rattle.xf_pack.specs.Ends.{IsRefusedLibrary, IsUntypedLast, IsLimited, IsPartLong}

@@ -15,7 +15,7 @@ use Rattle.jc_control.specs.Flaw.{IsFirstFlaw}
 use Rattle.jc_control.specs.ControlFlow.{TellsFlaw}
 use Rattle.jc_control.specs.Laws.{FlawsDecide}
 use Rattle.jc_flow.proofs.Derived.{some_to, some_map}
-use Rattle.jc_flow.specs.declared.end.FlowEnd.{FlowEnd}
+use Rattle.jc_flow.specs.declared.inference.FlowEnd.{FlowEnd}
 use Rattle.jc_flow.specs.Fails.{IsFailure}
 use Rattle.jc_flow.specs.Infer.{LacksTyping, unformed_as}
 use Rattle.jc_flow.proofs.Never.{none-where-fails, none-where-falls}

@@ -14,8 +14,8 @@ use Rattle.jc_control.specs.WellFormed.{HasInstruction}
 use Rattle.jc_control.specs.Control.{IsSuccessor, IsLeader, Covers}
 use Rattle.jc_rules.specs.Flow.{IsNotFresh, FlowSteps, caught_frame, IsDerived}
 use Rattle.jc_rules.specs.Typing.{Clashes}
-use Rattle.jc_flow.specs.declared.end.FlowEnd.{FlowEnd}
-use Rattle.jc_flow.specs.declared.end.FlowEnd.TheVariants.{NoTyping, Code, BadTarget, FallsOff, BadHandler, Memory}
+use Rattle.jc_flow.specs.declared.inference.FlowEnd.{FlowEnd}
+use Rattle.jc_flow.specs.declared.inference.FlowEnd.TheVariants.{NoTyping, Code, BadTarget, FallsOff, BadHandler, Memory}
 
 -- what keeps a frame f at the place p from a typing: the rule refuses it; an uninitialised object is under the operands of a branch or
 -- switch, or goes to a leader; the stack that the rule gives, or a handler's, does not merge with the frame of another way to the same

@@ -12,8 +12,8 @@ use Rattle.jc_control.specs.Flaw.{IsFirstFlaw}
 use Rattle.jc_control.specs.declared.control.Flaw.TheVariants as flaws
 use Rattle.jc_control.specs.declared.control.ControlEnd.{ControlEnd}
 use Rattle.jc_control.specs.declared.control.ControlEnd.TheVariants.{Flawed, Memory as NoControl}
-use Rattle.jc_flow.specs.declared.end.FlowEnd.{FlowEnd}
-use Rattle.jc_flow.specs.declared.end.FlowEnd.TheVariants.{NoTyping, Code, BadTarget, FallsOff, BadHandler, Memory}
+use Rattle.jc_flow.specs.declared.inference.FlowEnd.{FlowEnd}
+use Rattle.jc_flow.specs.declared.inference.FlowEnd.TheVariants.{NoTyping, Code, BadTarget, FallsOff, BadHandler, Memory}
 use Rattle.jc_flow.specs.Fails.{FailsAt, FallsPast}
 
 -- a place has a frame exactly where control reaches it

@@ -20,8 +20,8 @@ use Rattle.jc_flow.specs.declared.edges.FlowStep.{FlowStep}
 use Rattle.jc_ops.specs.declared.fault.RuleFault.TheVariants.{StackMerge}
 use Rattle.jc_flow.specs.declared.table.PutEnd.{PutEnd}
 use Rattle.jc_flow.specs.declared.table.PutEnd.TheVariants.{Clash, Memory}
-use Rattle.jc_flow.specs.declared.end.FlowEnd.{FlowEnd}
-use Rattle.jc_flow.specs.declared.end.FlowEnd.TheVariants.{NoTyping, Memory as NoMemory}
+use Rattle.jc_flow.specs.declared.inference.FlowEnd.{FlowEnd}
+use Rattle.jc_flow.specs.declared.inference.FlowEnd.TheVariants.{NoTyping, Memory as NoMemory}
 
 -- the method that is analysed
 abbrev pub analysed : Analysis → Method

@@ -5,7 +5,7 @@ ghost use Rattle.jc_flow.specs.Fails.{IsFailure};
 ghost use Rattle.jc_flow.specs.Visit.{analysed, world_of, IsAnalysis, IsStep, Goes, CaughtIsBelow, IsAtNext, IsAtTarget, broken_at};
 
 use crate::analysis::Analysis;
-use crate::end::FlowEnd;
+use crate::inference::FlowEnd;
 use crate::scratch::Scratch;
 use crate::table::{PutEnd, StateTable};
 use jc_base::{Handler, Ty};

@@ -10,13 +10,40 @@ ghost use Rattle.jc_flow.specs.Visit.{analysed, world_of, IsAnalysis};
 
 use crate::analysis::Analysis;
 use crate::edges::broken;
-use crate::end::FlowEnd;
 use crate::scratch::Scratch;
 use crate::table::StateTable;
 use jc_base::{MethodRec, Ty, World};
 use jc_control::{ControlEnd, Flaw, Subject, flaws_decide};
+use jc_decode::CodeEnd;
+use jc_ops::RuleFault;
 use jc_rules::{Typing, rule_laws, typing_laws};
 use std::alloc::{AllocError, Global};
+
+/// Why no typing of a method was found. Places are offsets in its code.
+#[derive(Clone, Copy)]
+pub enum FlowEnd {
+    /// The instruction at the place can't be typed.
+    NoTyping(u16, RuleFault),
+    /// The place where no instruction is decoded, and why.
+    Code(u16, CodeEnd),
+    /// The place of a branch or switch, and a target of it where no instruction begins.
+    BadTarget(u16, i32),
+    /// Control falls past the end of the code after the instruction at the place.
+    FallsOff(u16),
+    /// The entry of a handler that is not well formed, and its number in the method's table.
+    BadHandler(u16, u16),
+    Memory,
+}
+
+impl From<AllocError> for FlowEnd {
+    ghost use Rattle.jc_flow.specs.declared.inference.FlowEnd.TheVariants.{Memory};
+
+    ghost from_gives = { λ f e. e ≡ Memory };
+
+    fn from(_error: AllocError) -> FlowEnd {
+        FlowEnd::Memory
+    }
+}
 
 /// The least dataflow typing of a method with code, in which every register that is no argument starts as Top.
 ///

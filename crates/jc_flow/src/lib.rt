@@ -7,11 +7,8 @@
 
 mod analysis;
 mod edges;
-mod end;
 mod inference;
 mod scratch;
 mod table;
-mod visit;
 
-pub use end::FlowEnd;
-pub use inference::infer;
+pub use inference::{FlowEnd, infer};

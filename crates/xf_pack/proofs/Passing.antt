@@ -7,8 +7,8 @@ use Rattle.jc_base.specs.World.{Linked}
 use Rattle.jc_control.specs.Asked.{AllHaveBelow, IsOfLast}
 use Rattle.jc_control.specs.Method.{Method, method_in, method_with}
 use Rattle.jc_decode.specs.declared.symbols.Laid.{Laid}
-use Rattle.jc_flow.specs.declared.end.FlowEnd.{FlowEnd}
-use Rattle.jc_flow.specs.declared.end.FlowEnd.TheVariants as flow
+use Rattle.jc_flow.specs.declared.inference.FlowEnd.{FlowEnd}
+use Rattle.jc_flow.specs.declared.inference.FlowEnd.TheVariants as flow
 use Rattle.jc_flow.specs.Infer.{LacksTyping}
 use Rattle.jc_rules.specs.Demand.{Frame}
 use Rattle.jc_rules.specs.Flow.{HasFlowTyping}

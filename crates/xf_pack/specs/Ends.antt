@@ -11,8 +11,8 @@ use Rattle.jc_base.specs.World.{Linked}
 use Rattle.jc_control.specs.Asked.{AllHave, AllHaveBelow, IsFirstWithout, IsOfLast, IsOfLibrary}
 use Rattle.jc_control.specs.Method.{Method}
 use Rattle.jc_decode.specs.declared.symbols.Laid.{Laid}
-use Rattle.jc_flow.specs.declared.end.FlowEnd.{FlowEnd}
-use Rattle.jc_flow.specs.declared.end.FlowEnd.TheVariants as flow
+use Rattle.jc_flow.specs.declared.inference.FlowEnd.{FlowEnd}
+use Rattle.jc_flow.specs.declared.inference.FlowEnd.TheVariants as flow
 use Rattle.jc_flow.specs.Infer.{TellsEnd}
 use Rattle.jc_link.specs.Fault.{link_place}
 use Rattle.jc_link.specs.World.{IsLinked, conditions}

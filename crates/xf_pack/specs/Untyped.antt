@@ -2,8 +2,8 @@
 use Rattle.std.specs.Prelude.{ℕ, IsSomeAnd}
 use Rattle.jc_base.specs.World.{Linked}
 use Rattle.jc_control.specs.Method.{Method, IsMethodOf, method_in}
-use Rattle.jc_flow.specs.declared.end.FlowEnd.{FlowEnd}
-use Rattle.jc_flow.specs.declared.end.FlowEnd.TheVariants as flow
+use Rattle.jc_flow.specs.declared.inference.FlowEnd.{FlowEnd}
+use Rattle.jc_flow.specs.declared.inference.FlowEnd.TheVariants as flow
 use Rattle.jc_flow.specs.Infer.{LacksTyping, TellsEnd}
 use Rattle.xf_pack.specs.declared.end.TransformEnd.{TransformEnd}
 use Rattle.xf_pack.specs.declared.end.TransformEnd.TheVariants.{Typing, Memory}
