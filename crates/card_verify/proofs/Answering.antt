@@ -21,7 +21,7 @@ use Rattle.card_typing.specs.Place.{IsTarget}
 use Rattle.card_typing.specs.Met.{IsMetAfter, met_start}
 use Rattle.card_typing.specs.Refusal.{IsFlawKind, IsRefused, refused_flaw, refused_state}
 use Rattle.card_typing.specs.Laws.{CardIsFlow, RefusalDenies, FlawsAreTold, MetIsBelow}
-use Rattle.card_verify.specs.declared.verifier.Verifier.{Verifier}
+use Rattle.card_verify.specs.declared.verify.Verifier.{Verifier}
 use Rattle.card_verify.specs.Answers.{IsAcceptedAt, AreAcceptedBefore, TellsFlaw}
 use Rattle.card_typing.proofs.Quiet.{quiet-is-least}
 use Rattle.card_typing.proofs.Sound.{met-is-sound}

@@ -12,7 +12,7 @@ use Rattle.card_typing.specs.declared.fault.CardKind.TheVariants.{Rule, StackAtT
 use Rattle.card_typing.specs.Place.{IsEntry, IsFallenInto, CatchesAt}
 use Rattle.card_typing.specs.Met.{Arrives, arrives_falling, arrives_empty, arrives_caught, arrives_full}
 use Rattle.card_typing.specs.Refusal.{wrong_entry, wrong_room, wrong_mark}
-use Rattle.card_verify.specs.declared.verifier.Verifier.{Verifier}
+use Rattle.card_verify.specs.declared.verify.Verifier.{Verifier}
 use Rattle.card_verify.specs.declared.pass.Arrival.{Arrival}
 use Rattle.card_verify.specs.Verifier.{method, world_of}
 use Rattle.card_verify.specs.Walk.{IsLanded, IsMislanded, IsPut, IsBlocked, IsShared, left}

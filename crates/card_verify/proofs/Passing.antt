@@ -13,7 +13,7 @@ use Rattle.card_typing.specs.declared.fault.CardFault.{CardFault}
 use Rattle.card_typing.specs.Place.{IsEntry}
 use Rattle.card_typing.specs.Met.{IsMetAfter, arrives_falling}
 use Rattle.card_typing.specs.Pass.{IsStillAfter}
-use Rattle.card_verify.specs.declared.verifier.Verifier.{Verifier}
+use Rattle.card_verify.specs.declared.verify.Verifier.{Verifier}
 use Rattle.card_verify.specs.Verifier.{method, world_of}
 use Rattle.card_verify.specs.Counted.{instruction_count, most_passes, AreCountedBeside, AreCountedUpTo}
 use Rattle.card_verify.specs.Walk.{IsVerifier, CanBeginPass, IsPassedOver, HasLessLeft, IsSettled, IsRefusedInPass, IsUnderWay, IsFinished}

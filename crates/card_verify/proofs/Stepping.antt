@@ -16,7 +16,7 @@ use Rattle.card_typing.specs.declared.fault.CardKind.TheVariants.{Code, Rule, St
 use Rattle.card_typing.specs.declared.fault.CardKind.TheVariants.{BadIndex, NotIndexed}
 use Rattle.card_typing.specs.Met.{Arrives, IsOpenTo}
 use Rattle.card_typing.specs.Refusal.{IsWrong, wrong_rule, wrong_branch, wrong_end}
-use Rattle.card_verify.specs.declared.verifier.Verifier.{Verifier}
+use Rattle.card_verify.specs.declared.verify.Verifier.{Verifier}
 use Rattle.card_verify.specs.declared.pass.Arrival.{Arrival}
 use Rattle.card_verify.specs.Verifier.{method, world_of}
 use Rattle.card_verify.specs.Walk.{IsVerifier, HasSlices, IsLanded, IsMislanded, IsLeftWell, IsLeftWrong, IsFailing, IsStepped, IsVisited, IsStopped}

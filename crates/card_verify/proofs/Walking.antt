@@ -24,7 +24,7 @@ use Rattle.card_typing.specs.Met.{Arrives, arrives_falling, arrives_empty, arriv
 use Rattle.card_typing.specs.Met.{met_next}
 use Rattle.card_typing.specs.Refusal.{IsRefusedAfter, refused_at}
 use Rattle.card_typing.specs.Pass.{quiet_end, quiet_more}
-use Rattle.card_verify.specs.declared.verifier.Verifier.{Verifier}
+use Rattle.card_verify.specs.declared.verify.Verifier.{Verifier}
 use Rattle.card_verify.specs.declared.pass.Arrival.{Arrival}
 use Rattle.card_verify.specs.Verifier.{method, world_of}
 use Rattle.card_verify.specs.Walk.{IsVerifier, IsComing, IsVisited, IsStopped, CanPass, CanBeginPass, IsPassedOver, HasLessLeft, IsSettled, IsProgress}

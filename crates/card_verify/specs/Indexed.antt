@@ -3,7 +3,7 @@ use Rattle.std.specs.Prelude.{ℕ, List}
 use Rattle.jc_base.specs.World.{Linked}
 use Rattle.jc_control.specs.Method.{Method}
 use Rattle.card_verify.specs.Verifier.{method, world_of}
-use Rattle.card_verify.specs.declared.indexed.Indexed.{Indexed}
+use Rattle.card_verify.specs.declared.index_verify.Indexed.{Indexed}
 
 abbrev pub subject : Indexed → Method
 subject x = method x.verifier

@@ -2,7 +2,7 @@
 use Rattle.jc_base.specs.World.{Linked}
 use Rattle.jc_control.specs.Method.{Method}
 use Rattle.jc_control.specs.Subject as subjects
-use Rattle.card_verify.specs.declared.verifier.Verifier.{Verifier}
+use Rattle.card_verify.specs.declared.verify.Verifier.{Verifier}
 
 abbrev pub method : Verifier → Method
 method v = subjects.method v.subject

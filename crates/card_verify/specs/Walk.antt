@@ -25,7 +25,7 @@ use Rattle.card_typing.specs.Met.{Arrives, IsOpenTo, IsPassed, GoesTo, IsMetAfte
 use Rattle.card_typing.specs.Refusal.{IsWrong, IsRefusedAfter}
 use Rattle.card_typing.specs.Pass.{IsQuiet, IsStillAfter}
 use Rattle.card_typing.specs.Laws.{MetIsSound, MetIsOne, RuleIsOfRecord}
-use Rattle.card_verify.specs.declared.verifier.Verifier.{Verifier}
+use Rattle.card_verify.specs.declared.verify.Verifier.{Verifier}
 use Rattle.card_verify.specs.declared.pass.Arrival.{Arrival}
 use Rattle.card_verify.specs.Verifier.{method, world_of}
 use Rattle.card_verify.specs.Counted.{instruction_count}

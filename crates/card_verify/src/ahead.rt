@@ -5,8 +5,8 @@ ghost use Rattle.card_typing.specs.Place.{IsTarget, IsEntry};
 ghost use Rattle.card_verify.specs.Ahead.{IsKnownAhead, IsMarkKnown, IsLeastFrom, nearer, nearer_target};
 ghost use Rattle.card_verify.specs.Verifier.{method};
 
-use crate::marks::Marks;
-use crate::verifier::Verifier;
+use crate::caught::Marks;
+use crate::verify::Verifier;
 use cap_bytes::View;
 use jc_base::Steps;
 use jc_control::Targets;

@@ -11,19 +11,25 @@ ghost use Rattle.card_verify.specs.Indexed.{subject, world_in, listed};
 ghost use Rattle.card_verify.specs.IndexTyping.{IsIndex, HasIndexTyping};
 ghost use Rattle.card_verify.specs.Lacking.{IsPlaceNumber, IsNotIndexed};
 ghost use Rattle.card_verify.specs.Refusal.{IsFormKind, IsRefusedOver};
+ghost use Rattle.card_verify.specs.OverIndex.{IndexedIsTyped, ExactAnswers, RaisedTakesTwo, RefusalDeniesOver, RefusalIsOneOver};
 
 use crate::Verifier;
-use crate::form::is_rest_formed;
-use crate::indexed::Indexed;
-use crate::listed::Listed;
-use crate::order::bad_entry;
-use crate::over_index::index_laws;
-use crate::scan::{Lacking, first_lacking};
+use crate::acceptance::bad_entry;
+use crate::caught::Listed;
+use crate::scan::{Lacking, first_lacking, is_rest_formed};
 use card_typing::{CardFault, CardKind, card_laws};
 use jc_base::{Steps, TargetIndex, Ty, World};
-use jc_control::Subject;
+use jc_control::{Subject, first_flaw_is_one};
 use jc_decode::instructions_are_listed;
+use jc_rules::{rule_falls, rule_laws, rule_raises};
 use std::sync::ledger::Ledger;
+
+/// A method that is verified, and the target index over which it is.
+#[derive(Clone, Copy)]
+pub struct Indexed<'a, 'i> {
+    pub verifier: Verifier<'a>,
+    pub index: &'i TargetIndex<'i>,
+}
 
 /// Verifies a method with code as a verifier on the card does, over a target index whose places stand for the targets, in
 /// the registers and the stack that are lent: a cell for each argument word and local, and one for each cell of
@@ -190,4 +196,20 @@ fn not_indexed(lacks: Lacking) -> CardFault
         depth: 0,
         kind: CardKind::NotIndexed(lacks.target as u16),
     }
+}
+
+/// What card typings over a target index have to do with card typings, and with refusals over it, of which a method has
+/// one at most; that the exact index changes no answer; and that registers rise in two passes at the least.
+pub fn index_laws(world: &World<'_>)
+    ensures typed { IndexedIsTyped world.now }
+    ensures exact { ExactAnswers world.now }
+    ensures denies { RefusalDeniesOver world.now }
+    ensures one { RefusalIsOneOver world.now }
+    ensures twice { RaisedTakesTwo world.now }
+{
+    card_laws(world);
+    rule_laws(world);
+    rule_falls(world);
+    rule_raises(world);
+    first_flaw_is_one();
 }

@@ -9,12 +9,14 @@ ghost use Rattle.card_typing.specs.Met.{IsOpenTo};
 ghost use Rattle.card_verify.specs.Verifier.{method, world_of};
 ghost use Rattle.card_verify.specs.Ahead.{IsKnownAhead, IsMarkKnown};
 ghost use Rattle.card_verify.specs.Counted.{instruction_count};
-ghost use Rattle.card_verify.specs.Walk.{IsVerifier, HasSlices, IsComing, IsLanded, IsMislanded, IsFailing, IsStepped, IsVisited, IsStopped, CanPass, CanBeginPass, IsPassedOver, HasLessLeft, IsSettled, IsRefusedInPass, IsLeftWell, IsLeftWrong, IsPut, left};
+ghost use Rattle.card_verify.specs.Walk.{IsVerifier, HasSlices, IsComing, IsLanded, IsMislanded, IsFailing, IsStepped, IsVisited};
+ghost use Rattle.card_verify.specs.Walk.{IsStopped, CanPass, CanBeginPass, IsPassedOver, HasLessLeft, IsSettled, IsRefusedInPass};
+ghost use Rattle.card_verify.specs.Walk.{IsLeftWell, IsLeftWrong, IsPut, left};
 
 use crate::ahead::{Ahead, is_marked};
+use crate::caught::Marks;
 use crate::counted::apply_counted;
-use crate::marks::Marks;
-use crate::verifier::Verifier;
+use crate::verify::Verifier;
 use card_typing::{CardFault, CardKind};
 use jc_base::{Steps, Ty};
 use jc_decode::{Instructions, Placed};

@@ -1,10 +1,11 @@
 ghost use Rattle.std.specs.Prelude.{◌≡◌, ◌↔◌, ℕ, ◌+◌, ◌*◌, ◌<◌, ◌≤◌, length, slice_get, sum_by, IsSomeAnd, IfErr, OnOk, OnErr};
+ghost use Rattle.std.specs.Prelude.{slice_index_or};
 ghost use Rattle.jc_base.specs.Order.{rises_left};
 ghost use Rattle.jc_base.specs.declared.ty.Ty.TheVariants.{Bottom};
 ghost use Rattle.jc_control.specs.Method.{IsMethodOf, method_in};
 ghost use Rattle.jc_control.specs.WellFormed.{IsPlace, IsWellFormed};
 ghost use Rattle.jc_rules.specs.Apply.{frame_of};
-ghost use Rattle.jc_rules.specs.Flow.{HasFlowTyping};
+ghost use Rattle.jc_rules.specs.Flow.{HasFlowTyping, start_frame};
 ghost use Rattle.card_typing.specs.Typing.{HasCardTyping, IsLeastOver, IsLeastCardTyping};
 ghost use Rattle.card_typing.specs.Place.{IsTarget};
 ghost use Rattle.card_typing.specs.Refusal.{IsFlawKind, IsRefused, fault_of};
@@ -13,16 +14,20 @@ ghost use Rattle.card_verify.specs.Counted.{AreCountedBeside, AreCountedUpTo, in
 ghost use Rattle.card_verify.specs.Verifier.{method, world_of};
 ghost use Rattle.card_verify.specs.Walk.{IsVerifier, HasSlices, CanBeginPass, IsFinished};
 
-use crate::marks::Marks;
-use crate::start::start;
-use crate::verifier::Verifier;
+use crate::caught::Marks;
 use card_typing::{CardFault, CardKind, card_laws};
-use jc_base::{Steps, Ty, World};
+use jc_base::{MethodRec, Steps, Ty, World};
 use jc_control::{Flaw, Places, Subject, find_flaw, instructions_are_placed};
 use jc_decode::instructions_are_listed;
 use jc_rules::{rule_laws, rule_raises};
 use std::marker::Brand;
 use std::sync::ledger::{Blank, Ledger};
+
+/// The verifier of a method.
+#[derive(Clone, Copy)]
+pub struct Verifier<'a> {
+    pub subject: Subject<'a>,
+}
 
 /// Verifies a method with code as a verifier on the card does, in the registers and the stack that are lent: a cell for
 /// each argument word and local, and one for each cell of `max_stack`.
@@ -205,4 +210,35 @@ impl Verifier<'_> {
             }
         }
     }
+}
+
+/// Gives the registers the types with which a method starts: the receiver, the declared arguments, and no value in the
+/// others.
+pub fn start(rec: &MethodRec, regs: &mut [Ty])
+    requires { length regs.old ≡ length (start_frame rec.now Bottom).regs }
+    ensures { regs.new ≡ (start_frame rec.now Bottom).regs }
+{
+    'registers: for x in 0..regs.len() {
+        regs[x] = declared(rec, x);
+    }
+}
+
+/// The type with which a register starts.
+fn declared(rec: &MethodRec, x: usize) -> Ty
+    ensures { result ≡ slice_index_or (start_frame rec.now Bottom).regs x Bottom }
+{
+    if rec.is_static {
+        return argument(rec.sig.args.as_slice(), x);
+    }
+    if x == 0 {
+        return Ty::Class(rec.class);
+    }
+    argument(rec.sig.args.as_slice(), x - 1)
+}
+
+/// The type of an argument, and no value past the last.
+fn argument(args: &[Ty], n: usize) -> Ty
+    ensures { result ≡ slice_index_or args.now n Bottom }
+{
+    args.get(n).copied().unwrap_or(Ty::Bottom)
 }
