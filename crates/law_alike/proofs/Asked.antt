@@ -28,7 +28,7 @@ use Rattle.jc_rules.proofs.DecidedDemands.{are-decided}
 use Rattle.jc_rules.proofs.Footprints.{asked-is-there, operation-reads}
 use Rattle.vm_store.specs.declared.cell.Cell.{Cell}
 use Rattle.vm_store.specs.declared.cell.Cell.TheVariants.{Empty}
-use Rattle.vm_store.specs.declared.kind.ObjectKind.{ObjectKind}
+use Rattle.vm_store.specs.declared.cell.ObjectKind.{ObjectKind}
 use Rattle.vm_store.specs.Typing.{least_type}
 use Rattle.vm_store.specs.Cells.{tagged}
 use Rattle.vm_store.specs.State.{Frame, Object, nth}

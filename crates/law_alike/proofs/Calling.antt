@@ -27,7 +27,7 @@ use Rattle.jc_rules.specs.Rule.{cells_wanted, receiver_wanted, call_demands, ret
 use Rattle.jc_rules.proofs.Types.{declared-not_fresh, declared-not_top}
 use Rattle.vm_store.specs.declared.cell.Cell.{Cell}
 use Rattle.vm_store.specs.declared.cell.Cell.TheVariants as cells
-use Rattle.vm_store.specs.declared.kind.ObjectKind.{ObjectKind}
+use Rattle.vm_store.specs.declared.cell.ObjectKind.{ObjectKind}
 use Rattle.vm_store.specs.Kind.{kind_of_handle}
 use Rattle.vm_store.specs.Typing.{least_type, fresh_seen}
 use Rattle.vm_store.specs.Cells.{tagged, made_ready}

@@ -44,7 +44,7 @@ use Rattle.jc_rules.specs.Flow.{IsNotFresh, IsNotTop}
 use Rattle.jc_rules.specs.Rule.{value_wanted, value_size, call_demands, args_at, demands}
 use Rattle.jc_rules.proofs.Footprints.{asked-is-there}
 use Rattle.vm_store.specs.declared.cell.Cell.{Cell}
-use Rattle.vm_store.specs.declared.kind.ObjectKind.{ObjectKind}
+use Rattle.vm_store.specs.declared.cell.ObjectKind.{ObjectKind}
 use Rattle.vm_store.specs.Typing.{least_type}
 use Rattle.vm_store.specs.Cells.{tagged}
 use Rattle.vm_store.specs.State.{Frame, Object, map_object, nth}

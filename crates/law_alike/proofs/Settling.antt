@@ -16,7 +16,7 @@ use Rattle.jc_ops.specs.declared.operation.Operation.{Operation}
 use Rattle.jc_rules.specs.Footprint.{footprint}
 use Rattle.jc_ops.specs.Next.{falls_from}
 use Rattle.vm_store.specs.declared.cell.Cell.{Cell}
-use Rattle.vm_store.specs.declared.kind.ObjectKind.{ObjectKind}
+use Rattle.vm_store.specs.declared.cell.ObjectKind.{ObjectKind}
 use Rattle.vm_store.specs.Cells.{tagged}
 use Rattle.vm_store.specs.State.{State, Frame, Object, top, other_frames, with_place, with_call, without_frames, frame_limit, arguments}
 use Rattle.vm_store.specs.Objects.{has_room}

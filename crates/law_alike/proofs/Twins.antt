@@ -4,7 +4,7 @@ use Rattle.std.proofs.Common.{length, map, drop, refl, sym, subst, arith}
 use Rattle.std.specs.Prelude.{ℤ, Option, Some, None, slice_get}
 use Rattle.jc_rules.specs.Footprint.{Footprint}
 use Rattle.vm_store.specs.declared.cell.Cell.{Cell}
-use Rattle.vm_store.specs.declared.kind.ObjectKind.{ObjectKind}
+use Rattle.vm_store.specs.declared.cell.ObjectKind.{ObjectKind}
 use Rattle.vm_store.specs.Cells.{tagged}
 use Rattle.vm_store.specs.State.{State, Frame, Object, map_object, top, arguments}
 use Rattle.vm_store.specs.Value.{with_value}

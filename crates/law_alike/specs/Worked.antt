@@ -4,7 +4,7 @@ use Rattle.std.proofs.Common.{refl}
 use Rattle.jc_ops.specs.declared.operation.Operation.TheVariants as ops
 use Rattle.vm_store.specs.declared.cell.Cell.{Cell}
 use Rattle.vm_store.specs.declared.cell.Cell.TheVariants as cells
-use Rattle.vm_store.specs.declared.kind.ObjectKind.TheVariants.{Instance, Shorts}
+use Rattle.vm_store.specs.declared.cell.ObjectKind.TheVariants.{Instance, Shorts}
 use Rattle.vm_store.specs.State.{State}
 use Rattle.law_alike.specs.Alike.{renamed_cell, renamed_new, AreAlike, StaysInFrame}
 

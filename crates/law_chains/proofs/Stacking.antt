@@ -13,8 +13,8 @@ use Rattle.jc_ops.specs.Resolve.{Resolves}
 use Rattle.vm_store.specs.declared.cell.Cell.{Cell}
 use Rattle.vm_store.specs.Cells.{tagged}
 use Rattle.vm_store.specs.State.{Frame, Object, State, top, with_place, with_stack, without_top, with_call, frame_limit}
-use Rattle.vm_store.specs.declared.kind.ObjectKind.{ObjectKind}
-use Rattle.vm_store.specs.declared.kind.ObjectKind.TheVariants.{Instance}
+use Rattle.vm_store.specs.declared.cell.ObjectKind.{ObjectKind}
+use Rattle.vm_store.specs.declared.cell.ObjectKind.TheVariants.{Instance}
 use Rattle.vm_store.specs.Objects.{has_room, with_object, new_instance_cells}
 use Rattle.vm_store.specs.Value.{with_value}
 use Rattle.vm_step.specs.declared.ending.Fault.{Fault}

@@ -2,7 +2,7 @@
 use Rattle.std.specs.Prelude.{◌≡◌, pos, negsuc, [], ◌∷◌}
 use Rattle.std.proofs.Common.{refl}
 use Rattle.vm_store.specs.declared.cell.Cell.TheVariants as cells
-use Rattle.vm_store.specs.declared.kind.ObjectKind.TheVariants.{Bytes}
+use Rattle.vm_store.specs.declared.cell.ObjectKind.TheVariants.{Bytes}
 use Rattle.vm_step.specs.Raising.{running}
 use Rattle.law_erasure.specs.Erasure.{erased_outcome}
 

@@ -20,7 +20,7 @@ use Rattle.jc_rules.specs.Demand.{Frame as Types, SatisfiesAll}
 use Rattle.jc_rules.specs.Footprint.{registers_asked, registers_read}
 use Rattle.jc_rules.specs.Rule.{value_wanted, value_size}
 use Rattle.vm_store.specs.declared.cell.Cell.{Cell}
-use Rattle.vm_store.specs.declared.kind.ObjectKind.{ObjectKind}
+use Rattle.vm_store.specs.declared.cell.ObjectKind.{ObjectKind}
 use Rattle.vm_store.specs.Typing.{least_type}
 use Rattle.vm_store.specs.Cells.{tagged}
 use Rattle.vm_store.specs.Objects.{write_object}

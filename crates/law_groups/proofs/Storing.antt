@@ -26,7 +26,7 @@ use Rattle.jc_rules.specs.Demand.{Frame as Types, SatisfiesAll}
 use Rattle.jc_rules.specs.Flow.{CellsBelow, no_cells, more_cells, IsFit, IsNotTop}
 use Rattle.jc_rules.specs.Rule.{demands}
 use Rattle.vm_store.specs.declared.cell.Cell.{Cell}
-use Rattle.vm_store.specs.declared.kind.ObjectKind.{ObjectKind}
+use Rattle.vm_store.specs.declared.cell.ObjectKind.{ObjectKind}
 use Rattle.vm_store.specs.Typing.{least_type}
 use Rattle.vm_store.specs.Cells.{tagged}
 use Rattle.vm_store.specs.Laws.{HasContent}

@@ -28,7 +28,7 @@ use Rattle.jc_ops.specs.Resolve.{Resolves}
 use Rattle.jc_ops.specs.Sound.{IsFieldOf, OperationsAreDecided, OperationsAreSound}
 use Rattle.jc_ops.specs.declared.operation.Move.TheVariants as shifts
 use Rattle.vm_store.specs.declared.cell.Cell.{Cell}
-use Rattle.vm_store.specs.declared.kind.ObjectKind.{ObjectKind}
+use Rattle.vm_store.specs.declared.cell.ObjectKind.{ObjectKind}
 use Rattle.vm_store.specs.Cells.{tagged, word_of}
 use Rattle.vm_store.specs.Objects.{kinds}
 use Rattle.vm_store.specs.State.{State, Frame, Object, nth, other_frames, top, with_place}

@@ -14,7 +14,7 @@ use Rattle.jc_rules.specs.Demand.{Frame as Types}
 use Rattle.jc_rules.specs.Flow.{CellsBelow, FrameBelow, IsFit}
 use Rattle.jc_rules.specs.FlowLaws.{IsOrderOfCells}
 use Rattle.vm_store.specs.declared.cell.Cell.{Cell}
-use Rattle.vm_store.specs.declared.kind.ObjectKind.{ObjectKind}
+use Rattle.vm_store.specs.declared.cell.ObjectKind.{ObjectKind}
 use Rattle.vm_store.specs.Objects.{kinds}
 use Rattle.vm_store.specs.State.{State, Frame, Object, top}
 use Rattle.vm_store.proofs.Stacks.{reverse-map}

@@ -16,7 +16,7 @@ use Rattle.jc_control.specs.Control.{IsReached, begins, follows}
 use Rattle.jc_rules.specs.Demand.{Frame as Types}
 use Rattle.jc_rules.specs.Flow.{IsFit, IsNotFresh, IsNotTop}
 use Rattle.vm_store.specs.declared.cell.Cell.{Cell}
-use Rattle.vm_store.specs.declared.kind.ObjectKind.{ObjectKind}
+use Rattle.vm_store.specs.declared.cell.ObjectKind.{ObjectKind}
 use Rattle.vm_store.specs.Typing.{type_of_fresh, fresh_seen}
 use Rattle.vm_store.specs.Cells.{tagged}
 use Rattle.vm_store.specs.Objects.{kinds}

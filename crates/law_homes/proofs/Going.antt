@@ -21,7 +21,7 @@ use Rattle.jc_rules.specs.Rule.{demands}
 use Rattle.vm_store.specs.declared.cell.Cell.{Cell}
 use Rattle.vm_store.specs.declared.cell.CellKind.{CellKind}
 use Rattle.vm_store.specs.declared.cell.CellKind.TheVariants as made
-use Rattle.vm_store.specs.declared.kind.ObjectKind.{ObjectKind}
+use Rattle.vm_store.specs.declared.cell.ObjectKind.{ObjectKind}
 use Rattle.vm_store.specs.Typing.{least_type}
 use Rattle.vm_store.specs.Cells.{tagged, loaded_as}
 use Rattle.vm_store.specs.State.{State, Frame, Object, top, nth, with_place}

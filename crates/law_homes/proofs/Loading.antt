@@ -22,7 +22,7 @@ use Rattle.jc_ops.specs.Resolve.{resolved, Resolves}
 use Rattle.jc_rules.specs.Demand.{SatisfiesAll}
 use Rattle.jc_rules.specs.Rule.{demands}
 use Rattle.vm_store.specs.declared.cell.Cell.{Cell}
-use Rattle.vm_store.specs.declared.kind.ObjectKind.{ObjectKind}
+use Rattle.vm_store.specs.declared.cell.ObjectKind.{ObjectKind}
 use Rattle.vm_store.specs.Cells.{tagged}
 use Rattle.vm_store.specs.State.{State, Frame, Object, first_frame, top, with_place, with_stack}
 use Rattle.vm_step.specs.Methods.{code_at, max_stack_of}

@@ -18,8 +18,8 @@ use Rattle.jc_rules.specs.Rule.{effect, array_wanted}
 use Rattle.jc_rules.specs.Flow.{no_cells, more_cells}
 use Rattle.vm_store.specs.declared.cell.Cell.{Cell}
 use Rattle.vm_store.specs.declared.cell.Cell.TheVariants as cells
-use Rattle.vm_store.specs.declared.kind.ObjectKind.{ObjectKind}
-use Rattle.vm_store.specs.declared.kind.ObjectKind.TheVariants.{References}
+use Rattle.vm_store.specs.declared.cell.ObjectKind.{ObjectKind}
+use Rattle.vm_store.specs.declared.cell.ObjectKind.TheVariants.{References}
 use Rattle.vm_store.specs.Kind.{kind_of_handle}
 use Rattle.vm_store.specs.Typing.{HasType, IsReady, short, least_type, type_of_handle}
 use Rattle.vm_store.specs.Cells.{tagged, word_of}

@@ -23,8 +23,8 @@ use Rattle.jc_rules.specs.Rule.{effect, replacing, array_wanted, element}
 use Rattle.jc_rules.specs.Flow.{no_cells, more_cells, IsNotTop, IsNotFresh}
 use Rattle.vm_store.specs.declared.cell.Cell.{Cell}
 use Rattle.vm_store.specs.declared.cell.Cell.TheVariants as cells
-use Rattle.vm_store.specs.declared.kind.ObjectKind.{ObjectKind}
-use Rattle.vm_store.specs.declared.kind.ObjectKind.TheVariants.{Booleans, Bytes, Shorts, Ints, References}
+use Rattle.vm_store.specs.declared.cell.ObjectKind.{ObjectKind}
+use Rattle.vm_store.specs.declared.cell.ObjectKind.TheVariants.{Booleans, Bytes, Shorts, Ints, References}
 use Rattle.vm_store.specs.Kind.{kind_of_handle, type_of_kind, element_width}
 use Rattle.vm_store.specs.Typing.{IsReady, least_type, type_of_handle}
 use Rattle.vm_store.specs.Cells.{tagged, word_of}

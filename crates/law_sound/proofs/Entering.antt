@@ -24,7 +24,7 @@ use Rattle.jc_rules.specs.Flow.{CellsBelow, no_cells, more_cells, FrameBelow, re
 use Rattle.jc_rules.proofs.CellLists.{cells-same, cells-append, cells-length}
 use Rattle.vm_store.specs.declared.cell.Cell.{Cell}
 use Rattle.vm_store.specs.declared.cell.Cell.TheVariants as cells
-use Rattle.vm_store.specs.declared.kind.ObjectKind.{ObjectKind}
+use Rattle.vm_store.specs.declared.cell.ObjectKind.{ObjectKind}
 use Rattle.vm_store.specs.Typing.{least_type}
 use Rattle.vm_store.specs.Cells.{tagged}
 use Rattle.vm_store.specs.State.{Frame, register_count_of, register_count, entered}

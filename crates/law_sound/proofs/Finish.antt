@@ -20,7 +20,7 @@ use Rattle.jc_rules.specs.Rule.{result_given}
 use Rattle.jc_rules.specs.Flow.{CellsBelow, FrameBelow, IsFit}
 use Rattle.jc_rules.proofs.CellLists.{cells-length, cells-same, cells-append}
 use Rattle.vm_store.specs.declared.cell.Cell.{Cell}
-use Rattle.vm_store.specs.declared.kind.ObjectKind.{ObjectKind}
+use Rattle.vm_store.specs.declared.cell.ObjectKind.{ObjectKind}
 use Rattle.vm_store.specs.Typing.{least_type}
 use Rattle.vm_store.specs.Cells.{tagged}
 use Rattle.vm_store.specs.State.{Frame, Object, State, with_place, with_stack, with_call}

@@ -10,7 +10,7 @@ use Rattle.jc_rules.specs.Effect.{in_stack_order}
 use Rattle.jc_rules.specs.Rule.{result_given}
 use Rattle.jc_rules.proofs.CellLists.{cells-same, cells-trans, cells-append}
 use Rattle.vm_store.specs.declared.cell.Cell.{Cell}
-use Rattle.vm_store.specs.declared.kind.ObjectKind.{ObjectKind}
+use Rattle.vm_store.specs.declared.cell.ObjectKind.{ObjectKind}
 use Rattle.vm_store.specs.State.{Frame}
 use Rattle.law_sound.specs.Frames.{Typings, IsStacked, IsWaiting, result_of, AreWaiting, least_types, types_with, at_next}
 use Rattle.law_sound.proofs.CellTypes.{some-weaker, types-fall, stacked-falls}

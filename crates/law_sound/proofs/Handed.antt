@@ -31,7 +31,7 @@ use Rattle.jc_ops.specs.Sound.{IsSound, IsCalleeOf, IsVirtualCall, IsChosen}
 use Rattle.jc_rules.proofs.CellLists.{cells-length}
 use Rattle.vm_store.specs.declared.cell.Cell.{Cell}
 use Rattle.vm_store.specs.declared.cell.Cell.TheVariants as cells
-use Rattle.vm_store.specs.declared.kind.ObjectKind.{ObjectKind}
+use Rattle.vm_store.specs.declared.cell.ObjectKind.{ObjectKind}
 use Rattle.vm_store.specs.Kind.{kind_of_handle, type_of_kind}
 use Rattle.vm_store.specs.Typing.{least_type}
 use Rattle.vm_store.specs.Cells.{Cells, tagged, word_of}

@@ -9,7 +9,7 @@ use Rattle.jc_base.specs.Order.{Below}
 use Rattle.jc_base.proofs.Lists.{slice_get-farther}
 use Rattle.jc_rules.specs.Flow.{IsNotTop}
 use Rattle.vm_store.specs.declared.cell.Cell.{Cell}
-use Rattle.vm_store.specs.declared.kind.ObjectKind.{ObjectKind}
+use Rattle.vm_store.specs.declared.cell.ObjectKind.{ObjectKind}
 use Rattle.vm_store.specs.Kind.{kind_of_handle, type_of_kind}
 use Rattle.vm_store.specs.Typing.{type_of_handle, type_seen}
 use Rattle.vm_store.specs.State.{Object}

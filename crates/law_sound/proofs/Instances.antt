@@ -14,8 +14,8 @@ use Rattle.jc_base.proofs.Lists.{All-slice_get}
 use Rattle.jc_base.proofs.Objects.{classes-are_objects}
 use Rattle.jc_base.proofs.Subtypes.{Below-from_is_below}
 use Rattle.jc_rules.specs.Rule.{seen}
-use Rattle.vm_store.specs.declared.kind.ObjectKind.{ObjectKind}
-use Rattle.vm_store.specs.declared.kind.ObjectKind.TheVariants.{Instance, Booleans, Bytes, Shorts, Ints, References}
+use Rattle.vm_store.specs.declared.cell.ObjectKind.{ObjectKind}
+use Rattle.vm_store.specs.declared.cell.ObjectKind.TheVariants.{Instance, Booleans, Bytes, Shorts, Ints, References}
 use Rattle.vm_store.specs.Kind.{kind_of_handle, type_of_kind}
 use Rattle.vm_step.specs.Instance.{is_subtype, is_instance}
 use Rattle.law_sound.specs.State.{CanBeMade}

@@ -22,8 +22,8 @@ use Rattle.jc_rules.specs.Flow.{IsNotFresh}
 use Rattle.jc_rules.proofs.Falls.{plain_class}
 use Rattle.vm_store.specs.declared.cell.Cell.{Cell}
 use Rattle.vm_store.specs.declared.cell.Cell.TheVariants as cells
-use Rattle.vm_store.specs.declared.kind.ObjectKind.{ObjectKind}
-use Rattle.vm_store.specs.declared.kind.ObjectKind.TheVariants.{Instance}
+use Rattle.vm_store.specs.declared.cell.ObjectKind.{ObjectKind}
+use Rattle.vm_store.specs.declared.cell.ObjectKind.TheVariants.{Instance}
 use Rattle.vm_store.specs.Kind.{kind_of_handle, type_of_kind, IsArrayKind}
 use Rattle.vm_store.specs.Typing.{least_type}
 use Rattle.vm_store.specs.Cells.{tagged, word_of}

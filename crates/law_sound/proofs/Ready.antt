@@ -9,7 +9,7 @@ use Rattle.jc_base.specs.Order.{Below, is_below}
 use Rattle.jc_base.proofs.Subtypes.{is_below-from_Below}
 use Rattle.jc_rules.specs.Flow.{IsNotFresh, IsNotTop}
 use Rattle.vm_store.specs.declared.cell.Cell.{Cell}
-use Rattle.vm_store.specs.declared.kind.ObjectKind.{ObjectKind}
+use Rattle.vm_store.specs.declared.cell.ObjectKind.{ObjectKind}
 use Rattle.vm_store.specs.Typing.{least_type, fresh_seen}
 use Rattle.vm_store.specs.Laws.{HasContent}
 use Rattle.law_sound.proofs.CellTypes.{IsReadyCell}

@@ -22,8 +22,8 @@ use Rattle.jc_rules.specs.Flow.{CellsBelow, more_cells, IsNotFresh}
 use Rattle.jc_rules.proofs.Types.{declared-not_top, declared-not_fresh}
 use Rattle.vm_store.specs.declared.cell.Cell.{Cell}
 use Rattle.vm_store.specs.declared.cell.Cell.TheVariants as cells
-use Rattle.vm_store.specs.declared.kind.ObjectKind.{ObjectKind}
-use Rattle.vm_store.specs.declared.kind.ObjectKind.TheVariants.{Instance, Booleans, Bytes, Shorts, Ints, References}
+use Rattle.vm_store.specs.declared.cell.ObjectKind.{ObjectKind}
+use Rattle.vm_store.specs.declared.cell.ObjectKind.TheVariants.{Instance, Booleans, Bytes, Shorts, Ints, References}
 use Rattle.vm_store.specs.Kind.{kind_of_handle, type_of_kind}
 use Rattle.vm_store.specs.Typing.{least_type, type_of_handle, type_seen, fresh_seen}
 use Rattle.vm_store.specs.Cells.{made_ready}

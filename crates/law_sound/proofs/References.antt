@@ -12,7 +12,7 @@ use Rattle.jc_base.specs.Cell.{IsReference}
 use Rattle.jc_base.proofs.Subtypes.{is_below-from_Below}
 use Rattle.jc_rules.specs.Flow.{IsNotTop, IsNotFresh}
 use Rattle.vm_store.specs.declared.cell.Cell.{Cell}
-use Rattle.vm_store.specs.declared.kind.ObjectKind.{ObjectKind}
+use Rattle.vm_store.specs.declared.cell.ObjectKind.{ObjectKind}
 use Rattle.vm_store.specs.Kind.{kind_of_handle, type_of_kind}
 use Rattle.vm_store.specs.Typing.{least_type, type_of_handle}
 use Rattle.vm_store.specs.Cells.{word_of}

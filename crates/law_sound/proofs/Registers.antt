@@ -31,7 +31,7 @@ use Rattle.vm_arithmetic.specs.Arithmetic.{high_word, low_word}
 use Rattle.vm_store.specs.declared.cell.Cell.{Cell}
 use Rattle.vm_store.specs.declared.cell.Cell.TheVariants as cells
 use Rattle.vm_store.specs.declared.cell.CellKind.TheVariants as made
-use Rattle.vm_store.specs.declared.kind.ObjectKind.{ObjectKind}
+use Rattle.vm_store.specs.declared.cell.ObjectKind.{ObjectKind}
 use Rattle.vm_store.specs.Typing.{least_type}
 use Rattle.vm_store.specs.Cells.{tagged, loaded_as}
 use Rattle.vm_store.specs.State.{Frame, Object}

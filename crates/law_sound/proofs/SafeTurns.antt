@@ -17,8 +17,8 @@ use Rattle.jc_rules.specs.Rule.{effect, replacing}
 use Rattle.jc_rules.specs.Flow.{CellsBelow, FrameBelow}
 use Rattle.jc_rules.proofs.CellLists.{cells-same, cells-trans, cells-append, cells-drop}
 use Rattle.vm_store.specs.declared.cell.Cell.{Cell}
-use Rattle.vm_store.specs.declared.kind.ObjectKind.{ObjectKind}
-use Rattle.vm_store.specs.declared.kind.ObjectKind.TheVariants.{Instance}
+use Rattle.vm_store.specs.declared.cell.ObjectKind.{ObjectKind}
+use Rattle.vm_store.specs.declared.cell.ObjectKind.TheVariants.{Instance}
 use Rattle.vm_store.specs.Kind.{kind_of_handle}
 use Rattle.vm_store.specs.Typing.{least_type}
 use Rattle.vm_store.specs.Cells.{tagged}

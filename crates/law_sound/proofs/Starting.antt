@@ -27,8 +27,8 @@ use Rattle.jc_rules.specs.Flow.{CellsBelow, no_cells, more_cells, receiver_of}
 use Rattle.jc_rules.proofs.CellLists.{cells-append, cells-length}
 use Rattle.vm_store.specs.declared.cell.Cell.{Cell}
 use Rattle.vm_store.specs.declared.cell.Cell.TheVariants as cells
-use Rattle.vm_store.specs.declared.kind.ObjectKind.{ObjectKind}
-use Rattle.vm_store.specs.declared.kind.ObjectKind.TheVariants as kinds
+use Rattle.vm_store.specs.declared.cell.ObjectKind.{ObjectKind}
+use Rattle.vm_store.specs.declared.cell.ObjectKind.TheVariants as kinds
 use Rattle.vm_store.specs.Kind.{kind_of_handle, type_of_kind}
 use Rattle.vm_store.specs.Typing.{HasType, short, high, low, null, reference, least_type, type_of_handle}
 use Rattle.vm_store.specs.Cells.{tagged}

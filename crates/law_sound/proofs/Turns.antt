@@ -27,7 +27,7 @@ use Rattle.jc_rules.specs.Laws.{OperationFallsTo}
 use Rattle.jc_rules.proofs.CellLists.{cells-trans}
 use Rattle.jc_rules.proofs.RuleFalls.{operation-falls}
 use Rattle.vm_store.specs.declared.cell.Cell.{Cell}
-use Rattle.vm_store.specs.declared.kind.ObjectKind.{ObjectKind}
+use Rattle.vm_store.specs.declared.cell.ObjectKind.{ObjectKind}
 use Rattle.vm_store.specs.State.{Frame}
 use Rattle.vm_step.specs.Methods.{of_method, code_at, instruction_at}
 use Rattle.vm_step.specs.Settled.{return_place}

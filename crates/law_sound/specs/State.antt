@@ -8,8 +8,8 @@ use Rattle.jc_base.specs.declared.record.StaticRec.{StaticRec}
 use Rattle.jc_base.specs.Dispatch.{IsConcrete}
 use Rattle.jc_base.specs.World.{Linked}
 use Rattle.vm_store.specs.declared.cell.Cell.{Cell}
-use Rattle.vm_store.specs.declared.kind.ObjectKind.{ObjectKind}
-use Rattle.vm_store.specs.declared.kind.ObjectKind.TheVariants.{Instance, References}
+use Rattle.vm_store.specs.declared.cell.ObjectKind.{ObjectKind}
+use Rattle.vm_store.specs.declared.cell.ObjectKind.TheVariants.{Instance, References}
 use Rattle.vm_store.specs.State.{State}
 use Rattle.vm_store.specs.Objects.{kinds}
 use Rattle.vm_store.specs.Laws.{CellsHave, IsTypedHeap}

@@ -15,7 +15,7 @@ use Rattle.jc_decode.specs.Listing.{listing, listing_from, at_most}
 use Rattle.jc_ops.specs.Row.{table, row_at, unused, by_sort, by_width, by_kind, first_four, by_register, literals, binaries, orders_all}
 use Rattle.jc_ops.specs.Row.{branching}
 use Rattle.vm_store.specs.declared.cell.Cell.TheVariants as cells
-use Rattle.vm_store.specs.declared.kind.ObjectKind.TheVariants.{Instance, Bytes}
+use Rattle.vm_store.specs.declared.cell.ObjectKind.TheVariants.{Instance, Bytes}
 use Rattle.vm_step.specs.Methods.{instruction_at}
 use Rattle.law_sound.specs.Frames.{least_types, types_with, class_made}
 use Rattle.law_sound.specs.State.{static_types}

@@ -17,7 +17,7 @@ use Rattle.jc_ops.specs.declared.operation.StaticField.{StaticField}
 use Rattle.jc_ops.specs.Sound.{IsCalleeOf, IsNamedType}
 use Rattle.jc_rules.specs.Footprint.{registers_asked, cells_asked, footprint}
 use Rattle.jc_rules.specs.Rule.{demands}
-use Rattle.vm_store.specs.declared.kind.ObjectKind.{ObjectKind}
+use Rattle.vm_store.specs.declared.cell.ObjectKind.{ObjectKind}
 use Rattle.vm_store.specs.Kind.{IsArrayKind, IsNumbered}
 use Rattle.vm_store.specs.Cells.{Cells}
 use Rattle.vm_store.specs.State.{State, top}

@@ -11,7 +11,7 @@ use Rattle.jc_base.specs.Order.{Below, is_below, is_reference}
 use Rattle.jc_base.proofs.Lists.{All-slice_get}
 use Rattle.vm_store.specs.declared.cell.Cell.{Cell}
 use Rattle.vm_store.specs.declared.cell.Cell.TheVariants as cells
-use Rattle.vm_store.specs.declared.kind.ObjectKind.{ObjectKind}
+use Rattle.vm_store.specs.declared.cell.ObjectKind.{ObjectKind}
 use Rattle.vm_store.specs.Kind.{kind_of_handle, type_of_kind}
 use Rattle.vm_store.specs.Typing.{least_type, type_of_handle, type_seen, type_of_fresh, fresh_seen}
 use Rattle.vm_store.specs.Cells.{word_of}

@@ -13,8 +13,8 @@ use Rattle.jc_base.specs.World.{Linked, IsWorld}
 use Rattle.jc_ops.specs.Sound.{OperationsAreSound}
 use Rattle.jc_rules.specs.Demand.{AreDecided}
 use Rattle.vm_store.specs.declared.cell.Cell.{Cell}
-use Rattle.vm_store.specs.declared.kind.ObjectKind.{ObjectKind}
-use Rattle.vm_store.specs.declared.kind.ObjectKind.TheVariants.{Instance}
+use Rattle.vm_store.specs.declared.cell.ObjectKind.{ObjectKind}
+use Rattle.vm_store.specs.declared.cell.ObjectKind.TheVariants.{Instance}
 use Rattle.vm_store.specs.Kind.{cell_kind}
 use Rattle.vm_store.specs.Cells.{tagged, zero_cell}
 use Rattle.vm_store.specs.State.{Frame, State, IsRunning, other_frames, top, with_stack, with_place, with_call, without_top, without_frames, register_count}

@@ -29,8 +29,8 @@ use Rattle.jc_base.specs.declared.record.MethodRec.{MethodRec}
 use Rattle.jc_ops.specs.Sound.{IsCalleeOf, IsReceiverOf, IsNamedType, receiver_count}
 use Rattle.jc_rules.specs.Footprint.{cells_asked}
 use Rattle.jc_rules.specs.Rule.{demands}
-use Rattle.vm_store.specs.declared.kind.ObjectKind.{ObjectKind}
-use Rattle.vm_store.specs.declared.kind.ObjectKind.TheVariants.{Instance}
+use Rattle.vm_store.specs.declared.cell.ObjectKind.{ObjectKind}
+use Rattle.vm_store.specs.declared.cell.ObjectKind.TheVariants.{Instance}
 use Rattle.vm_store.specs.Kind.{kind_of_handle, cell_kind}
 use Rattle.vm_store.specs.Cells.{Cells, zero_cell}
 use Rattle.vm_store.specs.State.{State, IsRunning, top, nth, with_stack}

@@ -5,7 +5,7 @@ use Rattle.std.proofs.lemmas.List.Elements.{All-nil, All-cons, All-head, All-tai
 use Rattle.std.proofs.lemmas.List.{length-set}
 use Rattle.jc_base.specs.Class.{ClassTable}
 use Rattle.jc_base.specs.World.{Linked}
-use Rattle.vm_store.specs.declared.kind.ObjectKind.{ObjectKind}
+use Rattle.vm_store.specs.declared.cell.ObjectKind.{ObjectKind}
 use Rattle.vm_store.specs.State.{Frame, State, Object, IsRunning, first_frame, other_frames, top, with_stack, with_register, with_place, without_top}
 use Rattle.vm_store.specs.State.{without_frames, register_count}
 use Rattle.vm_store.specs.Objects.{write_object, with_object, with_object_cell, with_static_cell}

@@ -6,8 +6,8 @@ use Rattle.jc_base.specs.Order.{IsKnown}
 use Rattle.jc_base.specs.Cell.{width}
 use Rattle.jc_base.specs.Dispatch.{cells_of}
 use Rattle.jc_base.specs.World.{Linked}
-use Rattle.vm_store.specs.declared.kind.ObjectKind.{ObjectKind}
-use Rattle.vm_store.specs.declared.kind.ObjectKind.TheVariants.{Instance, References}
+use Rattle.vm_store.specs.declared.cell.ObjectKind.{ObjectKind}
+use Rattle.vm_store.specs.declared.cell.ObjectKind.TheVariants.{Instance, References}
 use Rattle.vm_store.specs.Cells.{Cells}
 use Rattle.vm_store.specs.State.{Frame, State, Object, IsRunning, top, register_count}
 use Rattle.vm_store.specs.Objects.{kinds}

@@ -1,7 +1,7 @@
 -- An object and its cells in the words of a heap.
 use Rattle.std.proofs.Common.{◌≡◌, ℕ, ◌+◌, ◌-◌, ◌*◌, ◌<◌, ◌≤◌, List, length, drop, get_or, refl, ◌∙◌, ap, subst, arith, length-drop}
 use Rattle.std.specs.Prelude.{Some, IsSome, IsTrue, option_map}
-use Rattle.vm_store.specs.declared.header.ObjectHeader.{ObjectHeader}
+use Rattle.vm_store.specs.declared.cell.ObjectHeader.{ObjectHeader}
 use Rattle.vm_store.specs.Kind.{kind_of_handle}
 use Rattle.vm_store.specs.Objects.{element_count, has_room, kinds, object_at, object_cells}
 use Rattle.vm_store.proofs.Handles.{IsHandle, is_handle, kind_is, elements_are, cell_handle, cell_place, cell_read}

@@ -7,8 +7,8 @@ use Rattle.std.proofs.lemmas.List.{drop-set-lt, drop-set-add, drop_at, drop_all,
 use Rattle.std.proofs.lemmas.Bool.{cases_lt}
 use Rattle.std.proofs.lemmas.Bool.Decides.{nat_tests}
 use borrow.Rule.Slice.PartMut.{put_mid}
-use Rattle.vm_store.specs.declared.kind.ObjectKind.{ObjectKind}
-use Rattle.vm_store.specs.declared.header.ObjectHeader.{ObjectHeader}
+use Rattle.vm_store.specs.declared.cell.ObjectKind.{ObjectKind}
+use Rattle.vm_store.specs.declared.cell.ObjectHeader.{ObjectHeader}
 use Rattle.vm_store.specs.Kind.{IsNumbered}
 use Rattle.vm_offend.specs.Words.{kind_of_word, word_of_kind, header_at, headers_in, HaveKindWords}
 

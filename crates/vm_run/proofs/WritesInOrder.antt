@@ -3,7 +3,7 @@ use Rattle.std.proofs.Common.{◌≡◌, ◌<◌, ◌≤◌, ◌+◌, ℕ, suc, 
 use Rattle.std.proofs.Common.{sym, ap, ◌∙◌, arith, add-one, length-take, length-append, Some}
 use Rattle.std.specs.Prelude.{slice_get}
 use Rattle.std.proofs.lemmas.List.{append-nil, append_assoc, take_at, drop_at, drop-drop, length-drop, drop_all}
-use Rattle.vm_store.specs.declared.kind.ObjectKind.{ObjectKind}
+use Rattle.vm_store.specs.declared.cell.ObjectKind.{ObjectKind}
 use Rattle.vm_store.specs.State.{State, Object}
 use Rattle.vm_store.specs.Objects.{object_cells, cells_in, write_object, with_object, with_object_cell}
 use Rattle.vm_store.specs.Layout.{overwritten}

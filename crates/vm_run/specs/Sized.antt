@@ -2,8 +2,8 @@
 use Rattle.std.specs.Prelude.{◌≡◌, ◌<◌, ℕ, length, sum_by, All, ⊤}
 use Rattle.jc_base.specs.Cell.{width}
 use Rattle.jc_base.specs.World.{Linked}
-use Rattle.vm_store.specs.declared.kind.ObjectKind.{ObjectKind}
-use Rattle.vm_store.specs.declared.kind.ObjectKind.TheVariants.{Instance, References}
+use Rattle.vm_store.specs.declared.cell.ObjectKind.{ObjectKind}
+use Rattle.vm_store.specs.declared.cell.ObjectKind.TheVariants.{Instance, References}
 use Rattle.vm_store.specs.State.{State, top, register_count}
 
 -- an array of booleans, bytes, shorts or ints

@@ -2,8 +2,8 @@
 use Rattle.std.specs.Prelude.{◌<◌, length, All, Option, Some, None, ⊤}
 use Rattle.jc_base.specs.Class.{ClassTable, IsClass}
 use Rattle.jc_base.specs.World.{Linked}
-use Rattle.vm_store.specs.declared.kind.ObjectKind.{ObjectKind}
-use Rattle.vm_store.specs.declared.kind.ObjectKind.TheVariants.{Instance}
+use Rattle.vm_store.specs.declared.cell.ObjectKind.{ObjectKind}
+use Rattle.vm_store.specs.declared.cell.ObjectKind.TheVariants.{Instance}
 use Rattle.vm_store.specs.State.{State}
 use Rattle.vm_step.specs.declared.ending.Ending.{Ending}
 use Rattle.vm_step.specs.Raising.{Outcome, running, ended}

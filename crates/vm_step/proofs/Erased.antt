@@ -11,8 +11,8 @@ use Rattle.jc_base.specs.declared.record.StaticRec.{StaticRec}
 use Rattle.jc_base.specs.declared.record.ArrayRec.{ArrayRec}
 use Rattle.jc_base.specs.World.{Linked}
 use Rattle.vm_store.specs.declared.cell.Cell.{Cell}
-use Rattle.vm_store.specs.declared.kind.ObjectKind.{ObjectKind}
-use Rattle.vm_store.specs.declared.kind.ObjectKind.TheVariants.{Bytes}
+use Rattle.vm_store.specs.declared.cell.ObjectKind.{ObjectKind}
+use Rattle.vm_store.specs.declared.cell.ObjectKind.TheVariants.{Bytes}
 use Rattle.vm_store.specs.Cells.{tagged, words, word_of}
 use Rattle.vm_store.specs.State.{State, Frame, Object, erased, map_object, map_frame, entered}
 use Rattle.vm_store.specs.Objects.{with_object}

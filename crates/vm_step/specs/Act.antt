@@ -1,6 +1,6 @@
 -- What an operation comes to in a state that has what it asks (JCVM 2.2, section 3.5 and chapter 7).
 use Rattle.std.specs.Prelude.{ℕ, ◌==◌, if◌then◌else◌, ℤ, List, Option, Some, None}
-use Rattle.vm_store.specs.declared.kind.ObjectKind.{ObjectKind}
+use Rattle.vm_store.specs.declared.cell.ObjectKind.{ObjectKind}
 use Rattle.vm_store.specs.State.{State}
 use Rattle.vm_step.specs.declared.ending.Value.{Value}
 use Rattle.vm_step.specs.declared.exception.Exception.{Exception}

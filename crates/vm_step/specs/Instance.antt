@@ -6,8 +6,8 @@ use Rattle.jc_base.specs.declared.ty.Ty.TheVariants.{Class, ArrBool, ArrByte, Ar
 use Rattle.jc_base.specs.Class.{ClassTable, is_interface, object}
 use Rattle.jc_base.specs.Order.{Below, is_on_chain}
 use Rattle.jc_base.specs.Interface.{IsOrExtends, Implements, is_or_extends, implements}
-use Rattle.vm_store.specs.declared.kind.ObjectKind.{ObjectKind}
-use Rattle.vm_store.specs.declared.kind.ObjectKind.TheVariants.{Instance, Booleans, Bytes, Shorts, Ints, References}
+use Rattle.vm_store.specs.declared.cell.ObjectKind.{ObjectKind}
+use Rattle.vm_store.specs.declared.cell.ObjectKind.TheVariants.{Instance, Booleans, Bytes, Shorts, Ints, References}
 
 -- what is of the class or interface c is of the class or interface d. Of an interface d: c is d or extends it, or c is a class that
 -- implements it. Of a class d: c is d or a subclass of it; and where c is an interface, d is object

@@ -2,7 +2,7 @@
 -- fields and the objects, with one object behind them where this step raised an exception.
 use Rattle.std.specs.Prelude.{◌≡◌, ◌≢◌, ◌⊎◌, ◌<◌, ℕ, ◌+◌, List, [], ◌∷◌, ◌++◌, length, slice_index}
 use Rattle.jc_base.specs.World.{Linked}
-use Rattle.vm_store.specs.declared.kind.ObjectKind.TheVariants.{Instance}
+use Rattle.vm_store.specs.declared.cell.ObjectKind.TheVariants.{Instance}
 use Rattle.vm_store.specs.Cells.{Cells}
 use Rattle.vm_store.specs.State.{State, Object}
 use Rattle.vm_store.specs.Objects.{new_instance_cells}

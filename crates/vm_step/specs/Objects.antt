@@ -6,8 +6,8 @@ use Rattle.jc_base.specs.declared.ty.Ty.TheVariants.{ArrBool, ArrByte, ArrShort,
 use Rattle.jc_base.specs.Class.{ClassTable}
 use Rattle.jc_ops.specs.declared.operation.TypeTest.{TypeTest}
 use Rattle.jc_ops.specs.declared.operation.TypeTest.TheVariants as tests
-use Rattle.vm_store.specs.declared.kind.ObjectKind.{ObjectKind}
-use Rattle.vm_store.specs.declared.kind.ObjectKind.TheVariants.{Instance, Booleans, Bytes, Shorts, Ints, References}
+use Rattle.vm_store.specs.declared.cell.ObjectKind.{ObjectKind}
+use Rattle.vm_store.specs.declared.cell.ObjectKind.TheVariants.{Instance, Booleans, Bytes, Shorts, Ints, References}
 use Rattle.vm_store.specs.Kind.{kind_of_handle}
 use Rattle.vm_store.specs.Cells.{Cells}
 use Rattle.vm_store.specs.State.{State, top}

@@ -14,8 +14,8 @@ use Rattle.jc_base.specs.Order.{is_reference}
 use Rattle.jc_base.specs.Linked.{lacks_code}
 use Rattle.jc_base.specs.World.{Linked}
 use Rattle.jc_ops.specs.declared.operation.Width.TheVariants as widths
-use Rattle.vm_store.specs.declared.kind.ObjectKind.{ObjectKind}
-use Rattle.vm_store.specs.declared.kind.ObjectKind.TheVariants.{Bytes, Ints}
+use Rattle.vm_store.specs.declared.cell.ObjectKind.{ObjectKind}
+use Rattle.vm_store.specs.declared.cell.ObjectKind.TheVariants.{Bytes, Ints}
 use Rattle.vm_store.specs.Cells.{Cells}
 use Rattle.vm_arithmetic.specs.Arithmetic.{short_of_word}
 use Rattle.vm_store.specs.State.{State, Object, entered}

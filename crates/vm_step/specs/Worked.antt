@@ -11,7 +11,7 @@ use Rattle.jc_ops.specs.declared.operation.Branch.TheVariants as branches
 use Rattle.jc_ops.specs.declared.operation.Order.TheVariants as orders
 use Rattle.vm_store.specs.declared.cell.Cell.{Cell}
 use Rattle.vm_store.specs.declared.cell.Cell.TheVariants as cells
-use Rattle.vm_store.specs.declared.kind.ObjectKind.TheVariants.{Bytes}
+use Rattle.vm_store.specs.declared.cell.ObjectKind.TheVariants.{Bytes}
 use Rattle.vm_store.specs.Cells.{tagged, words}
 use Rattle.vm_store.specs.State.{State}
 use Rattle.vm_step.specs.declared.exception.Exception.TheVariants.{NullPointer, Arithmetic, ArrayIndex}

@@ -8,7 +8,7 @@ use Rattle.jc_base.specs.Class.{ClassTable, is_interface, parent_of, chain, chai
 use Rattle.jc_base.specs.Leads.{leads_below}
 use Rattle.jc_base.specs.Order.{is_on_chain}
 use Rattle.jc_base.specs.Interface.{extended, implemented, is_or_extends, implements}
-use Rattle.vm_store.specs.declared.kind.ObjectKind.TheVariants.{Instance, Bytes, References}
+use Rattle.vm_store.specs.declared.cell.ObjectKind.TheVariants.{Instance, Bytes, References}
 use Rattle.vm_step.specs.Instance.{is_instance}
 
 abbrev line : Bool → Option ℕ → List ℕ → ClassRec

@@ -11,7 +11,7 @@ use Rattle.jc_base.specs.Order.{is_on_chain}
 use Rattle.jc_base.specs.World.{Linked}
 use Rattle.vm_store.specs.declared.cell.Cell.{Cell}
 use Rattle.vm_store.specs.declared.cell.Cell.TheVariants as cells
-use Rattle.vm_store.specs.declared.kind.ObjectKind.TheVariants.{Instance, Bytes, Ints}
+use Rattle.vm_store.specs.declared.cell.ObjectKind.TheVariants.{Instance, Bytes, Ints}
 use Rattle.vm_store.specs.Cells.{tagged}
 use Rattle.vm_store.specs.State.{State}
 use Rattle.vm_step.specs.declared.ending.Fault.TheVariants.{StackFault}

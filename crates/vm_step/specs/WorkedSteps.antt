@@ -17,7 +17,7 @@ use Rattle.jc_ops.specs.declared.operation.Choice.TheVariants as choices
 use Rattle.jc_ops.specs.declared.operation.Width.TheVariants as widths
 use Rattle.vm_store.specs.declared.cell.Cell.{Cell}
 use Rattle.vm_store.specs.declared.cell.Cell.TheVariants as cells
-use Rattle.vm_store.specs.declared.kind.ObjectKind.TheVariants.{Instance, Shorts, References}
+use Rattle.vm_store.specs.declared.cell.ObjectKind.TheVariants.{Instance, Shorts, References}
 use Rattle.vm_store.specs.Cells.{tagged}
 use Rattle.vm_store.specs.State.{Frame, Object, State, with_call}
 use Rattle.vm_store.specs.Objects.{has_room}

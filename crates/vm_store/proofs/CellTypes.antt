@@ -14,8 +14,8 @@ use Rattle.vm_store.specs.declared.cell.Cell.{Cell}
 use Rattle.vm_store.specs.declared.cell.Cell.TheVariants as cells
 use Rattle.vm_store.specs.declared.cell.CellKind.{CellKind}
 use Rattle.vm_store.specs.declared.cell.CellKind.TheVariants as made
-use Rattle.vm_store.specs.declared.kind.ObjectKind.{ObjectKind}
-use Rattle.vm_store.specs.declared.kind.ObjectKind.TheVariants.{Instance}
+use Rattle.vm_store.specs.declared.cell.ObjectKind.{ObjectKind}
+use Rattle.vm_store.specs.declared.cell.ObjectKind.TheVariants.{Instance}
 use Rattle.vm_store.specs.Kind.{type_of_kind}
 use Rattle.vm_store.specs.Typing.{HasType, anything, empty, short, high, low, null, reference, fresh, IsReady, type_seen, fresh_seen, least_type, IsLeastType}
 use Rattle.vm_store.specs.Typing.{FallsWithObjects}

@@ -5,8 +5,8 @@ use Rattle.std.specs.Prelude.{Option, Some, None, IsSome, slice_get, option_map}
 use Rattle.std.proofs.lemmas.Option.{slice_get-map, slice_get-get_or}
 use Rattle.std.proofs.lemmas.List.{get_or-take, get_or-drop, length-map}
 use Rattle.std.proofs.lemmas.Bool.{false≢true}
-use Rattle.vm_store.specs.declared.kind.ObjectKind.{ObjectKind}
-use Rattle.vm_store.specs.declared.header.ObjectHeader.{ObjectHeader}
+use Rattle.vm_store.specs.declared.cell.ObjectKind.{ObjectKind}
+use Rattle.vm_store.specs.declared.cell.ObjectHeader.{ObjectHeader}
 use Rattle.vm_store.specs.Kind.{element_width, kind_of_handle}
 use Rattle.vm_store.specs.State.{Object, State}
 use Rattle.vm_store.specs.Objects.{write_object, cells_in, object_at, object_cells, kinds, element_count, with_object_cell}

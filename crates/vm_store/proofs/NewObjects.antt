@@ -17,8 +17,8 @@ use Rattle.jc_base.specs.Dispatch.{of_record, own_cells, cells_of}
 use Rattle.jc_base.specs.Linked.{AreLinkedClasses, IsLinkedClass}
 use Rattle.jc_base.proofs.Lists.{slice_get-front}
 use Rattle.vm_store.specs.declared.cell.Cell.{Cell}
-use Rattle.vm_store.specs.declared.kind.ObjectKind.{ObjectKind}
-use Rattle.vm_store.specs.declared.kind.ObjectKind.TheVariants.{Instance, Ints, References}
+use Rattle.vm_store.specs.declared.cell.ObjectKind.{ObjectKind}
+use Rattle.vm_store.specs.declared.cell.ObjectKind.TheVariants.{Instance, Ints, References}
 use Rattle.vm_store.specs.Kind.{IsArrayKind, cell_kind, element_cells}
 use Rattle.vm_store.specs.Typing.{HasType, anything, empty, short, high, low, null, reference, fresh}
 use Rattle.vm_store.specs.Cells.{tagged, zero_cell}

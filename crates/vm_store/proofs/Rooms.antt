@@ -2,7 +2,7 @@
 use Rattle.std.proofs.Common.{◌≡◌, ℕ, ◌+◌, ◌<◌, ◌≤◌, false, List, length, ◌∙◌, ap, arith}
 use Rattle.std.specs.Prelude.{IsTrue, nat_le}
 use Rattle.std.proofs.lemmas.Bool.{lt-ltb, le-ltb, ltb-true, leb-true, and_parts}
-use Rattle.vm_store.specs.declared.header.ObjectHeader.{ObjectHeader}
+use Rattle.vm_store.specs.declared.cell.ObjectHeader.{ObjectHeader}
 use Rattle.vm_store.specs.State.{State}
 use Rattle.vm_store.specs.Objects.{has_room, heap_cells}
 use Rattle.vm_store.specs.Layout.{objects_in, Follow}

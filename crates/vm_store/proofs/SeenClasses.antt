@@ -2,8 +2,8 @@
 use Rattle.std.proofs.Common.{◌≡◌, ℕ, zero, suc, ◌-◌, ◌<◌, ◌≤◌, false, List, [], ◌∷◌, length, map, get_or, refl, ap, sym}
 use Rattle.std.proofs.Common.{arith}
 use Rattle.std.specs.Prelude.{slice_get, Some}
-use Rattle.vm_store.specs.declared.kind.ObjectKind.{ObjectKind}
-use Rattle.vm_store.specs.declared.header.ObjectHeader.{ObjectHeader}
+use Rattle.vm_store.specs.declared.cell.ObjectKind.{ObjectKind}
+use Rattle.vm_store.specs.declared.cell.ObjectHeader.{ObjectHeader}
 use Rattle.vm_store.specs.Kind.{kind_of_handle}
 use Rattle.vm_store.specs.State.{Object}
 use Rattle.vm_store.specs.Layout.{objects_in}

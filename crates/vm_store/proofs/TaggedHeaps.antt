@@ -1,7 +1,7 @@
 -- One object more in the memory of tagged cells.
 use Rattle.std.proofs.Common.{◌≡◌, ℕ, ◌+◌, ◌<◌, ◌≤◌, List, [], ◌∷◌, ◌++◌, length, sym, ◌∙◌, ap, subst, arith}
 use Rattle.std.proofs.lemmas.List.{length_push}
-use Rattle.vm_store.specs.declared.header.ObjectHeader.{ObjectHeader}
+use Rattle.vm_store.specs.declared.cell.ObjectHeader.{ObjectHeader}
 use Rattle.vm_store.specs.State.{Frame, State}
 use Rattle.vm_store.specs.Objects.{with_object}
 use Rattle.vm_store.specs.Layout.{size, objects_in, Follow, overwritten}

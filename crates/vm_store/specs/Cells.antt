@@ -10,7 +10,7 @@ use Rattle.vm_store.specs.declared.cell.Cell.{Cell}
 use Rattle.vm_store.specs.declared.cell.Cell.TheVariants.{Empty, Short, High, Low, Ref, Fresh}
 use Rattle.vm_store.specs.declared.cell.CellKind.{CellKind}
 use Rattle.vm_store.specs.declared.cell.CellKind.TheVariants as made
-use Rattle.vm_store.specs.declared.kind.ObjectKind.{ObjectKind}
+use Rattle.vm_store.specs.declared.cell.ObjectKind.{ObjectKind}
 use Rattle.vm_store.specs.Typing.{least_type}
 
 pub record Cells (A : Type 0) : Type 0 where

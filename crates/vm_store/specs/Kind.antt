@@ -5,8 +5,8 @@ use Rattle.jc_base.specs.declared.ty.Ty.TheVariants.{Short, IntHigh, IntLow, Cla
 use Rattle.jc_base.specs.Class.{ClassTable, class_in_types}
 use Rattle.vm_store.specs.declared.cell.CellKind.{CellKind}
 use Rattle.vm_store.specs.declared.cell.CellKind.TheVariants as made
-use Rattle.vm_store.specs.declared.kind.ObjectKind.{ObjectKind}
-use Rattle.vm_store.specs.declared.kind.ObjectKind.TheVariants.{Instance, Booleans, Bytes, Shorts, Ints, References}
+use Rattle.vm_store.specs.declared.cell.ObjectKind.{ObjectKind}
+use Rattle.vm_store.specs.declared.cell.ObjectKind.TheVariants.{Instance, Booleans, Bytes, Shorts, Ints, References}
 
 -- the type of a reference to an object
 abbrev pub type_of_kind : ClassTable → ObjectKind → Ty

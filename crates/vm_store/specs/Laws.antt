@@ -7,8 +7,8 @@ use Rattle.jc_base.specs.Class.{ClassTable, class_in_types}
 use Rattle.jc_base.specs.Dispatch.{cells_of}
 use Rattle.vm_store.specs.declared.cell.Cell.{Cell}
 use Rattle.vm_store.specs.declared.cell.Cell.TheVariants as cells
-use Rattle.vm_store.specs.declared.kind.ObjectKind.{ObjectKind}
-use Rattle.vm_store.specs.declared.kind.ObjectKind.TheVariants.{Instance, Booleans, Bytes, Shorts, Ints, References}
+use Rattle.vm_store.specs.declared.cell.ObjectKind.{ObjectKind}
+use Rattle.vm_store.specs.declared.cell.ObjectKind.TheVariants.{Instance, Booleans, Bytes, Shorts, Ints, References}
 use Rattle.vm_store.specs.Typing.{HasType, least_type, IsLeastType, FallsWithObjects}
 use Rattle.vm_store.specs.Cells.{tagged, words, word_of, IsErasure}
 use Rattle.vm_store.specs.State.{State, Object}

@@ -1,7 +1,7 @@
 -- How the objects lie in memory: the cells of one after those of another, and a header for each
 -- that says what it is and where they are.
 use Rattle.std.specs.Prelude.{◌≡◌, ℕ, ◌+◌, ◌*◌, List, [], ◌∷◌, ◌++◌, length, map, take, drop}
-use Rattle.vm_store.specs.declared.header.ObjectHeader.{ObjectHeader}
+use Rattle.vm_store.specs.declared.cell.ObjectHeader.{ObjectHeader}
 use Rattle.vm_store.specs.Kind.{element_width}
 use Rattle.vm_store.specs.State.{Object}
 

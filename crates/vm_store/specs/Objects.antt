@@ -3,7 +3,7 @@ use Rattle.std.specs.Prelude.{ℕ, zero, suc, ◌+◌, ◌/◌, Bool, ◌&&◌, 
 use Rattle.std.specs.Prelude.{slice_set, slice_get, sum_by, Option, Some, None}
 use Rattle.jc_base.specs.Class.{ClassTable}
 use Rattle.jc_base.specs.Dispatch.{cells_of}
-use Rattle.vm_store.specs.declared.kind.ObjectKind.{ObjectKind}
+use Rattle.vm_store.specs.declared.cell.ObjectKind.{ObjectKind}
 use Rattle.vm_store.specs.Kind.{cell_kind, element_cells, element_width}
 use Rattle.vm_store.specs.Cells.{Cells, zero_cell}
 use Rattle.vm_store.specs.State.{Object, State}

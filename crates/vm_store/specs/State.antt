@@ -4,7 +4,7 @@ use Rattle.std.specs.Prelude.{ℕ, ◌+◌, ◌-◌, ◌<◌, List, [], ◌∷�
 use Rattle.std.specs.Prelude.{slice_index_or, slice_set, slice_get, Option, Some, None}
 use Rattle.jc_base.specs.declared.record.MethodRec.{MethodRec}
 use Rattle.vm_store.specs.declared.cell.Cell.{Cell}
-use Rattle.vm_store.specs.declared.kind.ObjectKind.{ObjectKind}
+use Rattle.vm_store.specs.declared.cell.ObjectKind.{ObjectKind}
 use Rattle.vm_store.specs.Cells.{Cells, word_of}
 
 -- the frame of a method that runs: the place of its next instruction, its registers, and its

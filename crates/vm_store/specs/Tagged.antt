@@ -1,6 +1,6 @@
 -- The memory of tagged cells: what holds of its layout.
 use Rattle.std.specs.Prelude.{◌≡◌, ◌≤◌, ℕ, List, length}
-use Rattle.vm_store.specs.declared.header.ObjectHeader.{ObjectHeader}
+use Rattle.vm_store.specs.declared.cell.ObjectHeader.{ObjectHeader}
 use Rattle.vm_store.specs.Layout.{Follow}
 
 -- so many frames of which some are live, the headers in memory for so many, and so many cells of

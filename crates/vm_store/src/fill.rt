@@ -7,9 +7,8 @@ ghost use Rattle.vm_store.specs.Cells.{zero_cell};
 ghost use Rattle.vm_store.specs.Objects.{array_cells, new_instance_cells, repeated};
 ghost use Rattle.vm_store.specs.Layout.{overwritten};
 
-use crate::cell::CellKind;
+use crate::cell::{CellKind, ObjectKind, cell_kind};
 use crate::form::{CellForm, zero};
-use crate::kind::{ObjectKind, cell_kind};
 use jc_base::{Ty, World};
 
 /// Writes one cell some times.

@@ -1,12 +1,14 @@
 ghost use Rattle.std.specs.Prelude.{◌≡◌, ◌+◌, ◌-◌, ◌<◌, ◌≤◌, [], ◌∷◌, ◌++◌, length, map, drop, replicate, slice_index_or, slice_set};
+ghost use Rattle.std.specs.Prelude.{reverse};
 ghost use Rattle.vm_store.specs.declared.cell.Cell.TheVariants.{Empty};
 ghost use Rattle.vm_store.specs.Cells.{tagged, made_ready};
 ghost use Rattle.vm_store.specs.Calls.{called};
-ghost use Rattle.vm_store.specs.State.{nth, no_frame, rotated, arguments};
+ghost use Rattle.vm_store.specs.State.{nth, no_frame, rotated, arguments, register_count};
 
 use crate::cell::Cell;
-use crate::stack;
+use crate::form::CellForm;
 use arrayvec::ArrayVec;
+use jc_base::World;
 use std::marker::Model;
 
 /// The most registers of a method.
@@ -121,14 +123,14 @@ impl TaggedFrame {
         requires part { by ≤ count }
         ensures { self.new ≡ record self.old { stack = rotated count by self.old.stack } }
     {
-        stack::rotate_cells(self.stack.as_mut_slice(), count, by);
+        rotate_cells(self.stack.as_mut_slice(), count, by);
     }
 
     /// Makes each reference on the stack ready whose object the `new` at this place made.
     pub fn make_ready(&mut self, place: u16)
         ensures { self.new ≡ record self.old { stack = map (made_ready place) self.old.stack } }
     {
-        stack::make_ready(self.stack.as_mut_slice(), place);
+        make_ready(self.stack.as_mut_slice(), place);
     }
 
     /// Begins a method, with its arguments in the first registers and the others empty.
@@ -189,4 +191,33 @@ pub fn call(frames: &mut [TaggedFrame], caller: usize, method: u16, registers: u
     let caller = &mut callers[caller];
     others[0].enter(method, registers, caller.last(count));
     caller.discard(count);
+}
+
+/// Puts the top `by` of the top `count` cells below the others.
+pub fn rotate_cells<C: CellForm>(stack: &mut [C], count: usize, by: usize)
+    requires there { count ≤ length stack.old }
+    requires part { by ≤ count }
+    ensures { reverse stack.new ≡ rotated count by (reverse stack.old) }
+{
+    let from = stack.len() - count;
+    stack[from..].rotate_right(by);
+}
+
+/// Makes the cells ready that refer to the object made at the place.
+pub fn make_ready(stack: &mut [Cell], place: u16)
+    ensures { stack.new ≡ map (made_ready place) stack.old }
+{
+    'cells: for cell in stack.iter_mut() {
+        *cell = cell.ready(place);
+    }
+}
+
+/// How many registers a method has: its arguments and its locals.
+pub fn register_count(world: &World<'_>, method: u16) -> usize
+    requires { method < length world.now.methods }
+    ensures value { result ≡ register_count world.now.methods method }
+    ensures most { result ≤ 255 }
+{
+    let record = world.method(method);
+    record.nargs as usize + record.max_locals as usize
 }

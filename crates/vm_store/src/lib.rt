@@ -7,26 +7,19 @@ mod cell;
 mod fill;
 mod form;
 mod frame;
-mod header;
-mod kind;
 mod laws;
-mod registers;
-mod stack;
 mod store;
 mod tagged;
 mod value;
 
-pub use cell::{Cell, CellKind};
+pub use cell::{Cell, CellKind, ObjectHeader, ObjectKind};
 pub use fill::{fill_array, fill_instance};
 pub use form::CellForm;
-pub use header::ObjectHeader;
-pub use kind::ObjectKind;
+pub use frame::{register_count, rotate_cells};
 pub use laws::{
     least_types_are_least, new_objects_are_typed, states_erase, typed_heaps_stay_typed,
     types_fall_with_objects, words_erase_cells, writes_keep_kinds,
 };
-pub use registers::register_count;
-pub use stack::rotate_cells;
 pub use store::Store;
 pub use tagged::TaggedStore;
 pub use value::{

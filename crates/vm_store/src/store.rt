@@ -2,12 +2,14 @@ ghost use Rattle.std.specs.Prelude.{◌≡◌, ◌+◌, ◌*◌, ◌^◌, ◌<�
 ghost use Rattle.jc_base.specs.Class.{IsClass};
 ghost use Rattle.jc_base.specs.Dispatch.{cells_of};
 ghost use Rattle.vm_store.specs.Kind.{IsArrayKind, IsNumbered, element_width, kind_of_handle};
-ghost use Rattle.vm_store.specs.State.{State, IsRunning, nth, top, with_place, with_stack, with_register, with_call, with_entry, without_top, without_frames, rotated, register_count, frame_limit};
-ghost use Rattle.vm_store.specs.Objects.{kinds, object_at, object_cells, element_count, has_room, new_instance_cells, array_cells, with_object, with_object_cell, with_static_cell};
+ghost use Rattle.vm_store.specs.State.{State, IsRunning, nth, top, with_place, with_stack, with_register, with_call, with_entry};
+ghost use Rattle.vm_store.specs.State.{without_top, without_frames, rotated, register_count, frame_limit};
+ghost use Rattle.vm_store.specs.Objects.{kinds, object_at, object_cells, element_count, has_room, new_instance_cells, array_cells};
+ghost use Rattle.vm_store.specs.Objects.{with_object, with_object_cell, with_static_cell};
 ghost use Rattle.vm_store.specs.Store.{Fixed, IsOf};
 
+use crate::cell::ObjectKind;
 use crate::form::CellForm;
-use crate::kind::ObjectKind;
 use jc_base::{Classes, Ty, World};
 
 /// Where a machine keeps its state: its frames, its objects and the cells of the static fields.

@@ -4,12 +4,9 @@ ghost use Rattle.vm_store.specs.Kind.{kind_of_handle};
 ghost use Rattle.vm_store.specs.Typing.{type_of_handle, type_of_fresh};
 ghost use Rattle.vm_store.specs.State.{IsRunning, top};
 
-use crate::cell::Cell;
+use crate::cell::{Cell, ObjectHeader, ObjectKind};
 use crate::fill::{fill_array, fill_instance};
-use crate::frame::{self, TaggedFrame};
-use crate::header::ObjectHeader;
-use crate::kind::ObjectKind;
-use crate::registers::register_count;
+use crate::frame::{self, TaggedFrame, register_count};
 use crate::store::Store;
 use jc_base::{Classes, Ty, World};
 use std::alloc::{AllocError, Global};

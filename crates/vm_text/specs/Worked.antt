@@ -2,7 +2,7 @@
 use Rattle.std.specs.Prelude.{◌≡◌, pos, negsuc, [], ◌∷◌, Some, codes, refl}
 use Rattle.std.specs.Fmt.{digits}
 use Rattle.jc_base.specs.declared.ty.Ty.TheVariants.{ArrByte, ArrInt}
-use Rattle.vm_store.specs.declared.kind.ObjectKind.TheVariants.{Ints}
+use Rattle.vm_store.specs.declared.cell.ObjectKind.TheVariants.{Ints}
 use Rattle.vm_store.specs.Cells.{words}
 use Rattle.vm_step.specs.declared.ending.Value.TheVariants.{Short, Ref}
 use Rattle.vm_step.specs.declared.ending.Plain.TheVariants.{Returned, Spent}

@@ -25,7 +25,7 @@ use Rattle.jc_ops.specs.Resolve.{Resolves}
 use Rattle.jc_rules.specs.Flow.{more_cells, no_cells}
 use Rattle.vm_store.specs.declared.cell.Cell.{Cell}
 use Rattle.vm_store.specs.declared.cell.Cell.TheVariants as cells
-use Rattle.vm_store.specs.declared.kind.ObjectKind.TheVariants.{Instance}
+use Rattle.vm_store.specs.declared.cell.ObjectKind.TheVariants.{Instance}
 use Rattle.vm_store.specs.Cells.{tagged}
 use Rattle.vm_store.specs.State.{Object, State}
 use Rattle.vm_step.specs.declared.ending.Ending.{Ending}

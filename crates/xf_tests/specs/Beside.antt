@@ -6,7 +6,7 @@ use Rattle.jc_decode.specs.declared.symbols.Item.TheVariants.{Branch, Label, Pla
 use Rattle.jc_rules.specs.Demand.{Frame as Types}
 use Rattle.vm_store.specs.declared.cell.Cell.{Cell}
 use Rattle.vm_store.specs.declared.cell.Cell.TheVariants as cells
-use Rattle.vm_store.specs.declared.kind.ObjectKind.TheVariants.{Instance}
+use Rattle.vm_store.specs.declared.cell.ObjectKind.TheVariants.{Instance}
 use Rattle.vm_store.specs.State.{State, arguments, top, with_place}
 use Rattle.vm_step.specs.declared.ending.Ending.TheVariants.{Faulted, Plain as Ended}
 use Rattle.vm_step.specs.declared.ending.Fault.TheVariants.{StackFault}

@@ -1,5 +1,5 @@
 use Rattle.std.proofs.Common.{◌≡◌}
-use Rattle.vm_store.specs.declared.kind.ObjectKind.TheVariants.{Bytes}
+use Rattle.vm_store.specs.declared.cell.ObjectKind.TheVariants.{Bytes}
 use Rattle.vm_store.specs.Value.{byte_of_word}
 use Rattle.vm_run.proofs.Elements.{IsFilled}
 use Rattle.vm_run.proofs.arrays.make_bytes.Given as goal

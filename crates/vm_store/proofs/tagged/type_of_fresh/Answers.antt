@@ -1,6 +1,6 @@
 use Rattle.std.proofs.Common.{map, ap, sym, ◌∙◌}
 use Rattle.vm_store.specs.Typing.{fresh_seen}
-use Rattle.vm_store.specs.declared.header.ObjectHeader.{ObjectHeader}
+use Rattle.vm_store.specs.declared.cell.ObjectHeader.{ObjectHeader}
 use Rattle.vm_store.proofs.SeenClasses.{fresh-at}
 use Rattle.vm_store.proofs.tagged.type_of_fresh.Goals as goal
 

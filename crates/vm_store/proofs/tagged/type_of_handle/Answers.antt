@@ -1,6 +1,6 @@
 use Rattle.std.proofs.Common.{◌<◌, map, ap, sym, ◌∙◌, arith}
 use Rattle.vm_store.specs.Typing.{type_seen}
-use Rattle.vm_store.specs.declared.header.ObjectHeader.{ObjectHeader}
+use Rattle.vm_store.specs.declared.cell.ObjectHeader.{ObjectHeader}
 use Rattle.vm_store.proofs.SeenClasses.{type-at}
 use Rattle.vm_store.proofs.tagged.type_of_handle.Goals as goal
 

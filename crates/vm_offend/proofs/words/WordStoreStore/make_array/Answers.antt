@@ -1,7 +1,7 @@
 use Rattle.std.proofs.Common.{◌≡◌, ℕ, ◌+◌, ◌-◌, ◌*◌, ◌∷◌, ◌++◌, [], List, length, drop, take, refl, sym, ap}
 use Rattle.std.proofs.Common.{◌∙◌, subst, arith, length-drop, length-take}
 use Rattle.std.proofs.lemmas.List.{take_all, length-map}
-use Rattle.vm_store.specs.declared.header.ObjectHeader.{ObjectHeader}
+use Rattle.vm_store.specs.declared.cell.ObjectHeader.{ObjectHeader}
 use Rattle.vm_store.specs.Kind.{element_width}
 use Rattle.vm_store.specs.Cells.{words}
 use Rattle.vm_store.specs.State.{Object, State}

@@ -2,8 +2,8 @@ use Rattle.std.proofs.Common.{◌≡◌, ℕ, ◌+◌, ◌-◌, ◌<◌, ◌∷�
 use Rattle.std.proofs.Common.{subst, arith, length-drop, length-take}
 use Rattle.std.proofs.lemmas.List.{take_all, length-map}
 use Rattle.jc_base.specs.Dispatch.{cells_of}
-use Rattle.vm_store.specs.declared.header.ObjectHeader.{ObjectHeader}
-use Rattle.vm_store.specs.declared.kind.ObjectKind.TheVariants.{Instance}
+use Rattle.vm_store.specs.declared.cell.ObjectHeader.{ObjectHeader}
+use Rattle.vm_store.specs.declared.cell.ObjectKind.TheVariants.{Instance}
 use Rattle.vm_store.specs.Kind.{cell_kind}
 use Rattle.vm_store.specs.Cells.{words, zero_cell}
 use Rattle.vm_store.specs.State.{Object, State}

@@ -1,7 +1,7 @@
 use Rattle.std.proofs.Common.{◌≡◌, ℕ, ◌+◌, ◌-◌, List, length, drop, set, refl, sym, ap, ◌∙◌, subst, arith, length-set}
 use Rattle.vm_store.specs.State.{State}
 use Rattle.vm_store.specs.Layout.{objects_in, Follow}
-use Rattle.vm_store.specs.declared.header.ObjectHeader.{ObjectHeader}
+use Rattle.vm_store.specs.declared.cell.ObjectHeader.{ObjectHeader}
 use Rattle.vm_offend.specs.Words.{words_state, headers_in, header_at, HaveKindWords}
 use Rattle.vm_offend.proofs.WordHeaps.{cell-headers, cell-kinds, cell-cells}
 use Rattle.vm_offend.proofs.ObjectWords.{objects-laid, cells-enough, cell-header, cell-header-inside, cell-inside}

@@ -1,6 +1,6 @@
 use Rattle.std.proofs.Common.{◌≡◌, map, ap, sym, ◌∙◌}
 use Rattle.jc_base.specs.declared.ty.Ty.TheVariants.{Bottom}
-use Rattle.vm_store.specs.declared.header.ObjectHeader.{ObjectHeader}
+use Rattle.vm_store.specs.declared.cell.ObjectHeader.{ObjectHeader}
 use Rattle.vm_store.specs.Objects.{kinds}
 use Rattle.vm_store.specs.Typing.{least_type, type_of_handle, type_of_fresh}
 use Rattle.vm_store.proofs.SeenClasses.{kinds-objects}

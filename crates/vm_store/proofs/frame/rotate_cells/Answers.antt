@@ -1,6 +1,6 @@
 use Rattle.std.proofs.Common.{refl}
 use Rattle.vm_store.proofs.Stacks.{rotated_in_place}
-use Rattle.vm_store.proofs.stack.rotate_cells.Goals as goal
+use Rattle.vm_store.proofs.frame.rotate_cells.Goals as goal
 
 pub returns : goal.returns
 returns g c =

@@ -2,8 +2,8 @@ use Rattle.std.proofs.Common.{ap, sym, arith}
 use Rattle.std.specs.Prelude.{if◌then◌else◌}
 use Rattle.jc_base.specs.Class.{object}
 use Rattle.vm_store.proofs.SeenClasses.{not-interface}
-use Rattle.vm_store.proofs.kind.seen_class.Goals as goal
-use Rattle.vm_store.proofs.kind.seen_class.Goals.{else-class-len-via-then-class-len+else-is_interface, else-class-len-via-else-class-len}
+use Rattle.vm_store.proofs.cell.seen_class.Goals as goal
+use Rattle.vm_store.proofs.cell.seen_class.Goals.{else-class-len-via-then-class-len+else-is_interface, else-class-len-via-else-class-len}
 
 pub returns-else-class-len : goal.returns-else-class-len
 returns-else-class-len c =

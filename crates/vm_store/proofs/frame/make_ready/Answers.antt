@@ -3,7 +3,7 @@ use Rattle.std.proofs.lemmas.List.{get_or_default}
 use Rattle.vm_store.specs.Cells.{made_ready}
 use Rattle.vm_store.specs.declared.cell.Cell.TheVariants.{Empty}
 use Rattle.std.proofs.lemmas.List.Edits.{map_over_more}
-use Rattle.vm_store.proofs.stack.make_ready.Goals as goal
+use Rattle.vm_store.proofs.frame.make_ready.Goals as goal
 
 pub cells-preserved : goal.cells-preserved
 cells-preserved c =
