@@ -2,7 +2,7 @@
 use Rattle.std.specs.Prelude.{ℕ, List, [], ◌∷◌, codes, decimal}
 use Rattle.std.specs.List.{concat}
 use Rattle.cap_components.specs.declared.fault.PackFault.{PackFault}
-use Rattle.vm_step.specs.declared.start_fault.StartFault.{StartFault}
+use Rattle.vm_step.specs.declared.ending.StartFault.{StartFault}
 use Rattle.cap_bare.specs.declared.fault.BareFault.{BareFault}
 use Rattle.cap_bare.specs.declared.run.BareEnd.{BareEnd}
 use Rattle.cap_bare.specs.declared.run.BareEnd.TheVariants.{Returned, Spent}

@@ -6,7 +6,7 @@ use Rattle.cap_components.specs.declared.fault.PackFault.TheVariants.{Form, Meth
 use Rattle.cap_load.specs.declared.fault.StreamFault.TheVariants.{Order, Unfinished}
 use Rattle.cap_bare.specs.declared.fault.BareKind.TheVariants.{BadTarget}
 use Rattle.cap_bare.specs.declared.run.BareEnd.TheVariants.{Returned}
-use Rattle.vm_step.specs.declared.start_fault.StartFault.TheVariants.{ArgCount, ArgRoom}
+use Rattle.vm_step.specs.declared.ending.StartFault.TheVariants.{ArgCount, ArgRoom}
 use Rattle.vm_step.specs.declared.ending.Value.TheVariants as values
 use Rattle.vm_step.specs.declared.ending.Plain.TheVariants as plain
 use Rattle.vm_step.specs.declared.ending.Fault.TheVariants.{StackFault}

@@ -37,10 +37,10 @@ use Rattle.law_alike.specs.Starting.{StartsRefuseAlike, MethodsAreNumberedAlike}
 use Rattle.vm_step.specs.Raising.{Outcome, running}
 use Rattle.vm_step.specs.Start.{entry_fault, entry_state, method_fault, or_room}
 use Rattle.vm_defend.specs.Held.{answer}
-use Rattle.vm_step.specs.declared.start_fault.StartFault.TheVariants.{NotStatic}
+use Rattle.vm_step.specs.declared.ending.StartFault.TheVariants.{NotStatic}
 use Rattle.vm_step.specs.declared.ending.Ending.{Ending}
 use Rattle.vm_step.specs.declared.ending.Plain.TheVariants as plains
-use Rattle.vm_step.specs.declared.start_fault.StartFault.{StartFault}
+use Rattle.vm_step.specs.declared.ending.StartFault.{StartFault}
 use Rattle.vm_step.specs.declared.ending.Plain.{Plain as PlainEnding}
 use Rattle.vm_step.specs.declared.ending.Ending.TheVariants as endings
 use Rattle.vm_store.specs.declared.cell.Cell.{Cell}

@@ -8,8 +8,8 @@ use Rattle.cap_text.specs.Line.{bound_line, cycle_line, not_started_line}
 use Rattle.vm_bound.specs.declared.bounds.Bound.{Bound}
 use Rattle.vm_bound.specs.declared.bounds.Bound.TheVariants.{Words, Cycle}
 use Rattle.vm_bound.specs.Answer.{IsBound, BoundsRuns, entry_refused}
-use Rattle.vm_step.specs.declared.start_fault.StartFault.{StartFault}
-use Rattle.vm_step.specs.declared.start_fault.StartFault.TheVariants.{NoEntry}
+use Rattle.vm_step.specs.declared.ending.StartFault.{StartFault}
+use Rattle.vm_step.specs.declared.ending.StartFault.TheVariants.{NoEntry}
 use Rattle.capcheck_core.specs.declared.verdict.Verdict.{Verdict}
 use Rattle.capcheck_core.specs.declared.verdict.Verdict.TheVariants.{Done, Malformed, Refused, Memory}
 use Rattle.capcheck_core.specs.Outside.{Outside, Untouched}

@@ -8,8 +8,8 @@ use Rattle.vm_step.specs.Arguments.{Argument}
 use Rattle.vm_step.specs.Raising.{Outcome}
 use Rattle.vm_step.specs.Run.{Runs}
 use Rattle.vm_step.specs.Start.{start_fault, entry_state}
-use Rattle.vm_step.specs.declared.start_fault.StartFault.{StartFault}
-use Rattle.vm_step.specs.declared.start_fault.StartFault.TheVariants.{NoEntry}
+use Rattle.vm_step.specs.declared.ending.StartFault.{StartFault}
+use Rattle.vm_step.specs.declared.ending.StartFault.TheVariants.{NoEntry}
 use Rattle.vm_defend.specs.declared.starting.StartEnd.{StartEnd}
 use Rattle.vm_defend.specs.declared.starting.StartEnd.TheVariants as ends
 use Rattle.vm_text.specs.Text.{outcome_text}

@@ -9,7 +9,7 @@ use Rattle.cap_bare.specs.declared.run.BareEnd.{BareEnd}
 use Rattle.cap_bare.specs.Typing.{BareTyping}
 use Rattle.cap_bare.specs.Met.{IsRefused}
 use Rattle.cap_bare.specs.Machine.{RunAnswers, after, entered}
-use Rattle.vm_step.specs.declared.start_fault.StartFault.{StartFault}
+use Rattle.vm_step.specs.declared.ending.StartFault.{StartFault}
 use Rattle.cap_text.specs.Probe.{ProbeRequest}
 use Rattle.cap_text.specs.Line.{malformed_line, not_started_line, refused_bare_line, bare_ending_line}
 use Rattle.capcheck_core.specs.declared.verdict.Verdict.{Verdict}

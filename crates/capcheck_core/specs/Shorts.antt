@@ -2,8 +2,8 @@
 use Rattle.std.specs.Prelude.{◌≡◌, ◌≢◌, ℕ, ℤ, List, map, length, take, All, slice_get, IsSomeAnd, FitsSigned}
 use Rattle.std.specs.Int.{w16}
 use Rattle.vm_step.specs.Arguments.{Argument, number, null, bytes}
-use Rattle.vm_step.specs.declared.start_fault.StartFault.{StartFault}
-use Rattle.vm_step.specs.declared.start_fault.StartFault.TheVariants.{NoEntry, NotStatic, ArgCount, ArgKind, ArgRoom}
+use Rattle.vm_step.specs.declared.ending.StartFault.{StartFault}
+use Rattle.vm_step.specs.declared.ending.StartFault.TheVariants.{NoEntry, NotStatic, ArgCount, ArgKind, ArgRoom}
 
 -- an argument is this short; a reference is none
 abbrev pub IsShort : Argument → ℤ → Type 0

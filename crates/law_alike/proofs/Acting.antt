@@ -28,7 +28,7 @@ use Rattle.vm_store.specs.declared.cell.ObjectKind.{ObjectKind}
 use Rattle.vm_store.specs.Cells.{tagged}
 use Rattle.vm_store.specs.Objects.{object_cells}
 use Rattle.vm_store.specs.Value.{value_in}
-use Rattle.vm_step.specs.declared.exception.Exception.TheVariants as exceptions
+use Rattle.vm_step.specs.declared.ending.Exception.TheVariants as exceptions
 use Rattle.vm_step.specs.Act.{goes, raises, throws}
 use Rattle.vm_step.specs.Values.{with_constant, with_move, computed, negated, arithmetic_act}
 use Rattle.vm_step.specs.Branching.{is_same, is_taken, leads_if, branch_act}

@@ -13,7 +13,7 @@ use Rattle.vm_store.specs.Objects.{has_room, new_instance_cells, with_object, ki
 use Rattle.vm_step.specs.declared.ending.Ending.TheVariants as endings
 use Rattle.vm_step.specs.declared.ending.Fault.TheVariants.{StackFault}
 use Rattle.vm_step.specs.declared.ending.Plain.TheVariants.{HeapFull}
-use Rattle.vm_step.specs.declared.exception.Exception.{Exception}
+use Rattle.vm_step.specs.declared.ending.Exception.{Exception}
 use Rattle.vm_step.specs.Act.{role_of}
 use Rattle.vm_step.specs.Methods.{max_stack_of}
 use Rattle.vm_step.specs.Raising.{Outcome, running, ends, caught, caught_by, thrown, unwound, raised}

@@ -17,7 +17,7 @@ use Rattle.vm_store.specs.Cells.{tagged}
 use Rattle.vm_store.specs.State.{State, Frame, Object, map_object, nth}
 use Rattle.vm_store.specs.Objects.{write_object}
 use Rattle.vm_store.specs.Value.{value_on, kept_value, byte_of_word, with_object_value, with_static_value}
-use Rattle.vm_step.specs.declared.exception.Exception.TheVariants as exceptions
+use Rattle.vm_step.specs.declared.ending.Exception.TheVariants as exceptions
 use Rattle.vm_step.specs.Act.{Act, goes, raises}
 use Rattle.vm_step.specs.Fields.{with_static_write, held_handle, holder_width, with_field_read}
 use Rattle.vm_step.specs.Fields.{field_read_act, with_field_write, field_write_act, elements_of}

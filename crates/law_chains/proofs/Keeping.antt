@@ -30,8 +30,8 @@ use Rattle.vm_store.specs.Cells.{tagged}
 use Rattle.vm_store.specs.State.{Frame, Object, State}
 use Rattle.vm_store.specs.Objects.{with_object_cell, with_static_cell}
 use Rattle.vm_store.specs.Value.{with_object_value, with_static_value}
-use Rattle.vm_step.specs.declared.exception.Exception.{Exception}
-use Rattle.vm_step.specs.declared.exception.Exception.TheVariants as exceptions
+use Rattle.vm_step.specs.declared.ending.Exception.{Exception}
+use Rattle.vm_step.specs.declared.ending.Exception.TheVariants as exceptions
 use Rattle.vm_step.specs.Act.{Act, goes, jumps, makes, calls, gives, raises, throws, lacks, unless_null, if_some}
 use Rattle.vm_step.specs.Branching.{leads_if}
 use Rattle.vm_step.specs.Calls.{readied, served_act, interface_act, call_act, return_act}

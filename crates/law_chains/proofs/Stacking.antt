@@ -20,7 +20,7 @@ use Rattle.vm_store.specs.Value.{with_value}
 use Rattle.vm_step.specs.declared.ending.Fault.{Fault}
 use Rattle.vm_step.specs.declared.ending.Fault.TheVariants.{StackFault}
 use Rattle.vm_step.specs.declared.ending.Value.{Value}
-use Rattle.vm_step.specs.declared.exception.Exception.{Exception}
+use Rattle.vm_step.specs.declared.ending.Exception.{Exception}
 use Rattle.vm_step.specs.declared.ending.Plain.TheVariants.{Returned, TooDeep, HeapFull}
 use Rattle.vm_step.specs.declared.ending.Ending.TheVariants.{Plain, Faulted}
 use Rattle.vm_step.specs.Act.{Act, calls, role_of}

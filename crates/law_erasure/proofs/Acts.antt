@@ -53,8 +53,8 @@ use Rattle.vm_store.specs.Erasing.{ReadsErased, ObjectsErase, CellsErase}
 use Rattle.vm_store.proofs.CellTypes.{words-erase}
 use Rattle.vm_store.proofs.Erasing.{states-erase, reverse-erased}
 use Rattle.vm_step.specs.declared.ending.Value.TheVariants as values
-use Rattle.vm_step.specs.declared.exception.Exception.{Exception}
-use Rattle.vm_step.specs.declared.exception.Exception.TheVariants as exceptions
+use Rattle.vm_step.specs.declared.ending.Exception.{Exception}
+use Rattle.vm_step.specs.declared.ending.Exception.TheVariants as exceptions
 use Rattle.vm_step.specs.Act.{Act, goes, raises, throws, unless_null, if_some}
 use Rattle.vm_step.specs.Methods.{code_at}
 use Rattle.vm_step.specs.Values.{with_constant, with_load, with_store, incremented, with_increment, moved, computed, arithmetic_act}

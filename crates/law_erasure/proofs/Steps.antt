@@ -22,7 +22,7 @@ use Rattle.vm_step.specs.declared.ending.Ending.TheVariants.{Plain, Faulted}
 use Rattle.vm_step.specs.declared.ending.Plain.TheVariants.{Returned, HeapFull}
 use Rattle.vm_step.specs.declared.ending.Fault.{Fault}
 use Rattle.vm_step.specs.declared.ending.Fault.TheVariants.{StackFault}
-use Rattle.vm_step.specs.declared.exception.Exception.{Exception}
+use Rattle.vm_step.specs.declared.ending.Exception.{Exception}
 use Rattle.vm_step.specs.Act.{Act, goes, jumps, makes, calls, gives, raises, throws, lacks, role_of}
 use Rattle.vm_step.specs.Methods.{code_at, max_stack_of, instruction_at}
 use Rattle.vm_step.specs.Calls.{class_of}

@@ -9,7 +9,7 @@ use Rattle.jc_ops.specs.declared.operation.Operation.TheVariants as ops
 use Rattle.vm_store.specs.declared.cell.Cell.{Cell}
 use Rattle.vm_store.specs.Cells.{tagged}
 use Rattle.vm_store.specs.State.{State}
-use Rattle.vm_step.specs.declared.exception.Exception.TheVariants as exceptions
+use Rattle.vm_step.specs.declared.ending.Exception.TheVariants as exceptions
 use Rattle.vm_step.specs.Act.{Act, calls}
 use Rattle.vm_step.specs.Performed.{act}
 

@@ -34,7 +34,7 @@ use Rattle.vm_store.specs.Cells.{tagged, word_of}
 use Rattle.vm_store.specs.Objects.{cells_in, kinds, object_cells}
 use Rattle.vm_store.specs.State.{State, Frame, Object, nth, other_frames, top, with_place, map_object}
 use Rattle.vm_store.specs.Value.{value_in, with_value}
-use Rattle.vm_step.specs.declared.exception.Exception.TheVariants.{NullPointer}
+use Rattle.vm_step.specs.declared.ending.Exception.TheVariants.{NullPointer}
 use Rattle.vm_step.specs.Act.{goes, raises}
 use Rattle.vm_step.specs.Fields.{with_field_read}
 use Rattle.vm_step.specs.Methods.{code_at, max_stack_of}

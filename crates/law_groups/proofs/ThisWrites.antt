@@ -33,7 +33,7 @@ use Rattle.vm_store.specs.Cells.{tagged, word_of}
 use Rattle.vm_store.specs.Objects.{kinds}
 use Rattle.vm_store.specs.State.{State, Frame, Object, nth, other_frames, top, with_place}
 use Rattle.vm_store.specs.Value.{value_on, kept_value as value_kept}
-use Rattle.vm_step.specs.declared.exception.Exception.TheVariants.{NullPointer}
+use Rattle.vm_step.specs.declared.ending.Exception.TheVariants.{NullPointer}
 use Rattle.vm_step.specs.Act.{Act, goes, raises}
 use Rattle.vm_step.specs.Fields.{with_field_write}
 use Rattle.vm_step.specs.Methods.{code_at, max_stack_of}

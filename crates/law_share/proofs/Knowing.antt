@@ -16,7 +16,7 @@ use Rattle.jc_rules.specs.Footprint.{footprint, AlikeLeaveAlike}
 use Rattle.vm_store.specs.declared.cell.Cell.{Cell}
 use Rattle.vm_store.specs.Cells.{tagged}
 use Rattle.vm_store.specs.State.{Frame, State}
-use Rattle.vm_step.specs.declared.exception.Exception.{Exception}
+use Rattle.vm_step.specs.declared.ending.Exception.{Exception}
 use Rattle.vm_step.specs.Act.{raises, throws}
 use Rattle.vm_step.specs.Methods.{of_method, code_at, handlers_of, max_stack_of}
 use Rattle.vm_step.specs.Performed.{act}

@@ -21,7 +21,7 @@ use Rattle.vm_store.specs.Cells.{tagged}
 use Rattle.vm_store.specs.State.{Frame, State}
 use Rattle.vm_step.specs.declared.ending.Ending.TheVariants as endings
 use Rattle.vm_step.specs.declared.ending.Plain.TheVariants.{Threw, HeapFull}
-use Rattle.vm_step.specs.declared.exception.Exception.{Exception}
+use Rattle.vm_step.specs.declared.ending.Exception.{Exception}
 use Rattle.vm_step.specs.Methods.{handlers_of, max_stack_of}
 use Rattle.vm_step.specs.Raising.{running, ends, catches, handler_for, caught, caught_by, caught_or, unwound, thrown, raised, Outcome}
 use Rattle.law_sound.specs.Frames.{Typings}

@@ -32,7 +32,7 @@ use Rattle.vm_store.specs.State.{Frame, Object, State}
 use Rattle.vm_store.specs.Objects.{object_at, object_cells, element_count, repeated}
 use Rattle.vm_store.specs.Value.{value_in}
 use Rattle.vm_store.specs.Laws.{cell_types, cell_type_at}
-use Rattle.vm_step.specs.declared.exception.Exception.TheVariants as exceptions
+use Rattle.vm_step.specs.declared.ending.Exception.TheVariants as exceptions
 use Rattle.vm_step.specs.Act.{goes}
 use Rattle.vm_step.specs.Numbers.{short_at, replaced}
 use Rattle.vm_step.specs.Fields.{element_count_in, elements_of, element_index, at_element, array_read_act}

@@ -36,8 +36,8 @@ use Rattle.vm_store.specs.Kind.{kind_of_handle, type_of_kind}
 use Rattle.vm_store.specs.Typing.{least_type}
 use Rattle.vm_store.specs.Cells.{Cells, tagged, word_of}
 use Rattle.vm_store.specs.State.{Frame, Object, State, arguments, top}
-use Rattle.vm_step.specs.declared.exception.Exception.{Exception}
-use Rattle.vm_step.specs.declared.exception.Exception.TheVariants as exceptions
+use Rattle.vm_step.specs.declared.ending.Exception.{Exception}
+use Rattle.vm_step.specs.declared.ending.Exception.TheVariants as exceptions
 use Rattle.vm_step.specs.Act.{Act, calls, raises, throws, lacks, unless_null, if_some}
 use Rattle.vm_step.specs.Branching.{leads_if}
 use Rattle.vm_step.specs.Numbers.{handle_at, short_at, dropped}

@@ -31,7 +31,7 @@ use Rattle.vm_store.specs.Cells.{tagged, word_of}
 use Rattle.vm_store.specs.State.{Frame, Object, State}
 use Rattle.vm_store.specs.Objects.{new_instance_cells, array_cells}
 use Rattle.vm_store.proofs.SeenClasses.{fresh-at}
-use Rattle.vm_step.specs.declared.exception.Exception.TheVariants as exceptions
+use Rattle.vm_step.specs.declared.ending.Exception.TheVariants as exceptions
 use Rattle.vm_step.specs.Methods.{instruction_at}
 use Rattle.vm_step.specs.Act.{goes, makes, raises, throws}
 use Rattle.vm_step.specs.Numbers.{handle_at, short_at, dropped}

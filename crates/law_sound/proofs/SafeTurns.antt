@@ -24,8 +24,8 @@ use Rattle.vm_store.specs.Typing.{least_type}
 use Rattle.vm_store.specs.Cells.{tagged}
 use Rattle.vm_store.specs.State.{Frame, Object}
 use Rattle.vm_store.specs.Objects.{new_instance_cells, with_object}
-use Rattle.vm_step.specs.declared.exception.Exception.{Exception}
-use Rattle.vm_step.specs.declared.exception.Exception.TheVariants as exceptions
+use Rattle.vm_step.specs.declared.ending.Exception.{Exception}
+use Rattle.vm_step.specs.declared.ending.Exception.TheVariants as exceptions
 use Rattle.vm_step.specs.declared.ending.Plain.TheVariants.{HeapFull}
 use Rattle.vm_step.specs.Act.{Act, raises, role_of, unless_null, if_some}
 use Rattle.vm_step.specs.Calls.{class_with_methods}

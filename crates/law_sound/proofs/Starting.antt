@@ -38,7 +38,7 @@ use Rattle.vm_store.specs.Objects.{repeated}
 use Rattle.vm_store.specs.Value.{byte_of_word}
 use Rattle.vm_store.specs.Laws.{CellsHave, IsTypedObject, cell_types}
 use Rattle.vm_store.proofs.NewObjects.{have-both, cells-kept}
-use Rattle.vm_step.specs.declared.start_fault.StartFault.{StartFault}
+use Rattle.vm_step.specs.declared.ending.StartFault.{StartFault}
 use Rattle.vm_step.specs.Arguments.{Argument, number, null as no_object, bytes}
 use Rattle.vm_step.specs.Objects.{kind_of_type}
 use Rattle.vm_step.specs.Methods.{of_method}

@@ -11,7 +11,7 @@ use Rattle.vm_store.specs.Cells.{tagged}
 use Rattle.vm_store.specs.State.{Frame, State, without_frames}
 use Rattle.vm_step.specs.declared.ending.Ending.TheVariants as endings
 use Rattle.vm_step.specs.declared.ending.Plain.TheVariants.{Threw, HeapFull}
-use Rattle.vm_step.specs.declared.exception.Exception.{Exception}
+use Rattle.vm_step.specs.declared.ending.Exception.{Exception}
 use Rattle.vm_step.specs.Methods.{max_stack_of}
 use Rattle.vm_step.specs.Raising.{Outcome, running, ended, ends, handler_for, caught, caught_by, caught_or, unwound, thrown, raised}
 use Rattle.law_sound.specs.Frames.{Typings}

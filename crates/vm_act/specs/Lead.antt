@@ -15,7 +15,7 @@ use Rattle.vm_store.specs.Objects.{object_at, object_cells, new_instance_cells, 
 use Rattle.vm_step.specs.Instance.{IsRecorded}
 use Rattle.vm_step.specs.declared.ending.Value.{Value}
 use Rattle.vm_step.specs.declared.ending.Value.TheVariants as values
-use Rattle.vm_step.specs.declared.exception.Exception.{Exception}
+use Rattle.vm_step.specs.declared.ending.Exception.{Exception}
 use Rattle.vm_step.specs.Act.{Act, goes, jumps, makes, calls, gives, raises, throws, lacks}
 use Rattle.vm_step.specs.Fields.{holder_width, with_static_write, with_field_write, with_element}
 use Rattle.vm_act.specs.declared.lead.Lead.{Lead}

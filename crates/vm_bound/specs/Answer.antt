@@ -4,8 +4,8 @@ use Rattle.jc_base.specs.declared.record.MethodRec.{MethodRec}
 use Rattle.jc_base.specs.World.{Linked}
 use Rattle.digraph.specs.Way.{StandsTwiceInWay}
 use Rattle.vm_store.specs.State.{frame_limit}
-use Rattle.vm_step.specs.declared.start_fault.StartFault.{StartFault}
-use Rattle.vm_step.specs.declared.start_fault.StartFault.TheVariants.{NoEntry, NotStatic}
+use Rattle.vm_step.specs.declared.ending.StartFault.{StartFault}
+use Rattle.vm_step.specs.declared.ending.StartFault.TheVariants.{NoEntry, NotStatic}
 use Rattle.vm_step.specs.Start.{can_begin}
 use Rattle.law_chains.specs.Calls.{Calls}
 use Rattle.law_chains.specs.Bounds.{IsMostWords, IsMostFrames, RunsStayWithin, NoneIsTooDeep}

@@ -3,7 +3,7 @@ use Rattle.std.specs.Prelude.{◌≡◌, [], ◌∷◌, Some}
 use Rattle.std.proofs.Common.{refl, inl, inr, arith}
 use Rattle.jc_base.specs.World.{Linked}
 use Rattle.jc_ops.specs.declared.operation.Choice.TheVariants as choices
-use Rattle.vm_step.specs.declared.start_fault.StartFault.TheVariants.{NoEntry}
+use Rattle.vm_step.specs.declared.ending.StartFault.TheVariants.{NoEntry}
 use Rattle.vm_bound.specs.declared.vertex.Meaning.TheVariants.{Described, Entries}
 use Rattle.vm_bound.specs.declared.vertex.Vertex.TheVariants.{Method, Means}
 use Rattle.vm_bound.specs.Vertices.{Stands}

@@ -26,7 +26,7 @@ use Rattle.vm_step.specs.declared.ending.Plain.TheVariants.{Returned, TooDeep, H
 use Rattle.vm_step.specs.declared.ending.Fault.{Fault}
 use Rattle.vm_step.specs.declared.ending.Fault.TheVariants.{StackFault, JumpFault}
 use Rattle.vm_step.specs.declared.ending.Ending.TheVariants.{Plain, Faulted}
-use Rattle.vm_step.specs.declared.exception.Exception.{Exception}
+use Rattle.vm_step.specs.declared.ending.Exception.{Exception}
 use Rattle.vm_step.specs.Act.{Act, role_of, goes, jumps, makes, calls, gives, raises, throws, lacks}
 use Rattle.vm_step.specs.Methods.{code_at, instruction_at, max_stack_of}
 use Rattle.vm_step.specs.Calls.{class_of}

@@ -37,8 +37,8 @@ use Rattle.vm_store.specs.State.{State, IsRunning, top, nth, with_stack}
 use Rattle.vm_store.specs.Objects.{kinds, object_at, new_instance_cells}
 use Rattle.vm_store.specs.Value.{value_on, kept_value}
 use Rattle.jc_base.specs.Dispatch.{cells_of}
-use Rattle.vm_step.specs.declared.exception.Exception.{Exception}
-use Rattle.vm_step.specs.declared.exception.Exception.TheVariants as exceptions
+use Rattle.vm_step.specs.declared.ending.Exception.{Exception}
+use Rattle.vm_step.specs.declared.ending.Exception.TheVariants as exceptions
 use Rattle.vm_step.specs.Act.{Act, goes, calls, raises, throws, unless_null, if_some}
 use Rattle.vm_step.specs.Numbers.{handle_at, short_at, dropped}
 use Rattle.vm_step.specs.Branching.{leads_if}

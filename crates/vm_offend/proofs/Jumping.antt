@@ -16,8 +16,8 @@ use Rattle.jc_ops.specs.declared.operation.TypeTest.{TypeTest}
 use Rattle.vm_store.specs.declared.cell.ObjectKind.{ObjectKind}
 use Rattle.vm_store.specs.Cells.{Cells}
 use Rattle.vm_store.specs.State.{State, top}
-use Rattle.vm_step.specs.declared.exception.Exception.{Exception}
-use Rattle.vm_step.specs.declared.exception.Exception.TheVariants as exceptions
+use Rattle.vm_step.specs.declared.ending.Exception.{Exception}
+use Rattle.vm_step.specs.declared.ending.Exception.TheVariants as exceptions
 use Rattle.vm_step.specs.Act.{Act, goes, jumps, raises, throws, unless_null, if_some}
 use Rattle.vm_step.specs.Branching.{leads_if, is_taken, branch_width}
 use Rattle.vm_step.specs.Calls.{served_act, interface_act, chosen_act, args_of, return_act}

@@ -11,7 +11,7 @@ use Rattle.jc_base.specs.World.{Linked}
 use Rattle.vm_store.specs.Cells.{Cells}
 use Rattle.vm_store.specs.State.{State, top, with_top, with_entry, entered}
 use Rattle.vm_store.specs.Layout.{overwritten}
-use Rattle.vm_step.specs.declared.start_fault.StartFault.{StartFault}
+use Rattle.vm_step.specs.declared.ending.StartFault.{StartFault}
 use Rattle.vm_step.specs.Arguments.{Argument, number, null, bytes}
 use Rattle.vm_step.specs.Start.{parameters, first_misfit, first_without_room, or_room, entry_fault, start_fault, with_arrays}
 use Rattle.vm_step.specs.Start.{cells_handed, initial, entry_state}

@@ -19,7 +19,7 @@ use Rattle.vm_store.specs.State.{State, Object, top}
 use Rattle.vm_store.specs.Objects.{kinds, object_at, object_cells, element_count}
 use Rattle.vm_store.specs.Value.{value_in, value_on, kept_value, with_object_value, with_static_value}
 use Rattle.vm_step.specs.Objects.{kind_passes}
-use Rattle.vm_step.specs.declared.exception.Exception.TheVariants as exceptions
+use Rattle.vm_step.specs.declared.ending.Exception.TheVariants as exceptions
 use Rattle.vm_step.specs.Act.{Act, goes, raises, unless_null, if_some}
 use Rattle.vm_step.specs.Numbers.{handle_at, short_at, dropped, pushed, replaced}
 

@@ -10,7 +10,7 @@ use Rattle.vm_step.specs.declared.ending.Ending.{Ending}
 use Rattle.vm_step.specs.declared.ending.Ending.TheVariants.{Plain, Faulted}
 use Rattle.vm_step.specs.declared.ending.Fault.TheVariants.{StackFault}
 use Rattle.vm_step.specs.declared.ending.Plain.TheVariants.{Threw, Spent}
-use Rattle.vm_step.specs.declared.exception.Exception.{Exception}
+use Rattle.vm_step.specs.declared.ending.Exception.{Exception}
 use Rattle.vm_step.specs.Act.{role_of}
 use Rattle.vm_step.specs.Raising.{running, ended}
 use Rattle.vm_step.specs.Step.{Steps}

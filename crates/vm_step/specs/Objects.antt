@@ -13,7 +13,7 @@ use Rattle.vm_store.specs.Cells.{Cells}
 use Rattle.vm_store.specs.State.{State, top}
 use Rattle.vm_store.specs.Objects.{kinds, new_instance_cells, array_cells}
 use Rattle.vm_step.specs.Instance.{is_instance}
-use Rattle.vm_step.specs.declared.exception.Exception.TheVariants as exceptions
+use Rattle.vm_step.specs.declared.ending.Exception.TheVariants as exceptions
 use Rattle.vm_step.specs.Act.{Act, goes, makes, raises, throws, unless_null}
 use Rattle.vm_step.specs.Numbers.{handle_at, short_at, dropped, replaced}
 

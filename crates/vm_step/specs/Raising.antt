@@ -14,7 +14,7 @@ use Rattle.vm_step.specs.declared.ending.Plain.TheVariants.{Threw, HeapFull}
 use Rattle.vm_step.specs.declared.ending.Ending.{Ending}
 use Rattle.vm_step.specs.declared.ending.Fault.TheVariants.{StackFault}
 use Rattle.vm_step.specs.declared.ending.Ending.TheVariants.{Plain, Faulted}
-use Rattle.vm_step.specs.declared.exception.Exception.{Exception}
+use Rattle.vm_step.specs.declared.ending.Exception.{Exception}
 use Rattle.vm_step.specs.Act.{role_of}
 use Rattle.vm_step.specs.Methods.{handlers_of, max_stack_of}
 use Rattle.vm_step.specs.Calls.{class_of}

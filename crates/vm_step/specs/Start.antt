@@ -21,8 +21,8 @@ use Rattle.vm_arithmetic.specs.Arithmetic.{short_of_word}
 use Rattle.vm_store.specs.State.{State, Object, entered}
 use Rattle.vm_store.specs.Objects.{with_object, object_limit, cell_limit}
 use Rattle.vm_store.specs.Value.{byte_of_word}
-use Rattle.vm_step.specs.declared.start_fault.StartFault.{StartFault}
-use Rattle.vm_step.specs.declared.start_fault.StartFault.TheVariants.{NoEntry, NotStatic, ArgCount, ArgKind, ArgRoom}
+use Rattle.vm_step.specs.declared.ending.StartFault.{StartFault}
+use Rattle.vm_step.specs.declared.ending.StartFault.TheVariants.{NoEntry, NotStatic, ArgCount, ArgKind, ArgRoom}
 use Rattle.vm_step.specs.Arguments.{Argument, number, null, bytes}
 use Rattle.vm_step.specs.Numbers.{number_cells}
 use Rattle.vm_step.specs.Objects.{kind_of_type}

@@ -16,7 +16,7 @@ use Rattle.vm_arithmetic.specs.Arithmetic.{of_shorts, of_ints, short_to_byte, in
 use Rattle.vm_store.specs.declared.cell.CellKind.TheVariants as made
 use Rattle.vm_store.specs.Cells.{Cells}
 use Rattle.vm_store.specs.State.{State, top, nth, with_stack, with_register, rotated}
-use Rattle.vm_step.specs.declared.exception.Exception.TheVariants as exceptions
+use Rattle.vm_step.specs.declared.ending.Exception.TheVariants as exceptions
 use Rattle.vm_step.specs.Act.{Act, goes, if_some}
 use Rattle.vm_step.specs.Numbers.{short_at, int_on, int_in, number_on, number_cells, number_width, dropped, pushed, replaced}
 

@@ -14,7 +14,7 @@ use Rattle.vm_store.specs.declared.cell.Cell.TheVariants as cells
 use Rattle.vm_store.specs.declared.cell.ObjectKind.TheVariants.{Bytes}
 use Rattle.vm_store.specs.Cells.{tagged, words}
 use Rattle.vm_store.specs.State.{State}
-use Rattle.vm_step.specs.declared.exception.Exception.TheVariants.{NullPointer, Arithmetic, ArrayIndex}
+use Rattle.vm_step.specs.declared.ending.Exception.TheVariants.{NullPointer, Arithmetic, ArrayIndex}
 use Rattle.vm_step.specs.Act.{goes, raises}
 use Rattle.vm_step.specs.Values.{with_load, with_store, with_move, with_increment, arithmetic_act}
 use Rattle.vm_step.specs.Branching.{is_taken}

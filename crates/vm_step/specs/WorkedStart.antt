@@ -16,7 +16,7 @@ use Rattle.vm_store.specs.Cells.{tagged}
 use Rattle.vm_store.specs.State.{State}
 use Rattle.vm_step.specs.declared.ending.Fault.TheVariants.{StackFault}
 use Rattle.vm_step.specs.declared.ending.Ending.TheVariants.{Faulted}
-use Rattle.vm_step.specs.declared.start_fault.StartFault.TheVariants.{NoEntry, NotStatic, ArgCount, ArgKind}
+use Rattle.vm_step.specs.declared.ending.StartFault.TheVariants.{NoEntry, NotStatic, ArgCount, ArgKind}
 use Rattle.vm_step.specs.Arguments.{number, null, bytes}
 use Rattle.vm_step.specs.Raising.{ends, thrown}
 use Rattle.vm_step.specs.Start.{start_fault, entry_state, first_without_room}

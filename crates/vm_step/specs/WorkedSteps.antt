@@ -21,7 +21,7 @@ use Rattle.vm_store.specs.declared.cell.ObjectKind.TheVariants.{Instance, Shorts
 use Rattle.vm_store.specs.Cells.{tagged}
 use Rattle.vm_store.specs.State.{Frame, Object, State, with_call}
 use Rattle.vm_store.specs.Objects.{has_room}
-use Rattle.vm_step.specs.declared.exception.Exception.TheVariants.{NullPointer, Arithmetic, ArrayIndex, ArrayStore}
+use Rattle.vm_step.specs.declared.ending.Exception.TheVariants.{NullPointer, Arithmetic, ArrayIndex, ArrayStore}
 use Rattle.vm_step.specs.declared.ending.Plain.TheVariants.{Threw, TooDeep, HeapFull}
 use Rattle.vm_step.specs.declared.ending.Ending.TheVariants.{Plain}
 use Rattle.vm_step.specs.Act.{goes, jumps, calls, raises}

@@ -7,15 +7,10 @@
 
 mod arguments;
 mod ending;
-mod exception;
 mod instance;
 mod laws;
-mod searching;
-mod start_fault;
 
 pub use arguments::{Arg, Args};
-pub use ending::{Ending, Fault, Plain, Value};
-pub use exception::Exception;
+pub use ending::{Ending, Exception, Fault, Plain, StartFault, Value};
 pub use instance::{is_instance, is_subtype};
 pub use laws::{endings_leave, runs_are_runs_of_steps, runs_exist};
-pub use start_fault::StartFault;

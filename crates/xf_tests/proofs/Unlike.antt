@@ -14,7 +14,7 @@ use Rattle.vm_step.specs.declared.ending.Ending.{Ending}
 use Rattle.vm_step.specs.declared.ending.Ending.TheVariants as endings
 use Rattle.vm_step.specs.declared.ending.Plain.TheVariants.{HeapFull, Returned, Threw}
 use Rattle.vm_step.specs.declared.ending.Value.{Value}
-use Rattle.vm_step.specs.declared.exception.Exception.{Exception}
+use Rattle.vm_step.specs.declared.ending.Exception.{Exception}
 use Rattle.vm_step.specs.Act.{role_of}
 use Rattle.vm_step.specs.Calls.{class_of}
 use Rattle.vm_step.specs.Methods.{handlers_of}

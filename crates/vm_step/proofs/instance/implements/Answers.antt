@@ -1,7 +1,7 @@
 use Rattle.std.proofs.Common.{sym, ◌∙◌, subst}
 use Rattle.jc_base.specs.Class.{ClassTable, IsNextOnChain, IsEndOfChain}
 use Rattle.vm_step.proofs.Search.{implements-next, implements-end, implements-here, or-first}
-use Rattle.vm_step.proofs.searching.implements.Goals as goal
+use Rattle.vm_step.proofs.instance.implements.Goals as goal
 
 pub returns-then-names : goal.returns-then-names
 returns-then-names c =

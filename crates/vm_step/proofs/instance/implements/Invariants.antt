@@ -2,7 +2,7 @@ use Rattle.std.proofs.Common.{◌≡◌, length}
 use Rattle.jc_base.specs.Class.{IsClass, chain}
 use Rattle.jc_base.specs.Interface.{implements}
 use Rattle.vm_step.specs.Searched.{AreLeft}
-use Rattle.vm_step.proofs.searching.implements.Given as goal
+use Rattle.vm_step.proofs.instance.implements.Given as goal
 
 -- what is asked from here is what was asked from the class
 abbrev pub invariant-climb : goal.invariant-climb

@@ -2,7 +2,7 @@ use Rattle.std.proofs.Common.{take}
 use Rattle.jc_base.specs.Interface.{extended_count}
 use Rattle.vm_step.specs.Searched.{AreLeft}
 use Rattle.vm_step.proofs.Search.{NoneExtends}
-use Rattle.vm_step.proofs.searching.+extends.Given as goal
+use Rattle.vm_step.proofs.instance.+extends.Given as goal
 
 abbrev pub decreases-extends : goal.decreases-extends
 decreases-extends l = extended_count l.world.now.classes l.interface

@@ -1,6 +1,6 @@
 use Rattle.std.proofs.Common.{◌≡◌, ◌<◌, length, get_or, sym, ap, ◌∙◌, subst, arith}
 use Rattle.vm_step.proofs.Search.{NoneExtends, IsNext, left-more, none-all, not-extends, class-extends, yes-extends, next-extended}
-use Rattle.vm_step.proofs.searching.+extends.Goals as goal
+use Rattle.vm_step.proofs.instance.+extends.Goals as goal
 
 pub extends-requires : goal.extends-requires
 extends-requires t c =

@@ -2,7 +2,7 @@ use Rattle.std.proofs.Common.{◌≡◌, ◌<◌, length, get_or, sym, ap, ◌�
 use Rattle.jc_base.specs.declared.record.Iface.{Iface}
 use Rattle.jc_base.specs.Interface.{is_or_extends}
 use Rattle.vm_step.proofs.Search.{NoneExtends, none-all, named-is, any-found}
-use Rattle.vm_step.proofs.searching.names.Goals as goal
+use Rattle.vm_step.proofs.instance.names.Goals as goal
 
 pub returns-then-extends-clause-is : goal.returns-then-extends-clause-is
 returns-then-extends-clause-is c =

@@ -1,7 +1,7 @@
 use Rattle.std.proofs.Common.{take}
 use Rattle.vm_step.specs.Searched.{AreLeft}
 use Rattle.vm_step.proofs.Search.{NoneExtends}
-use Rattle.vm_step.proofs.searching.names.Given as goal
+use Rattle.vm_step.proofs.instance.names.Given as goal
 
 abbrev pub invariant-named : goal.invariant-named
 invariant-named l =
