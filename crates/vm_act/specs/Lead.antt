@@ -18,10 +18,10 @@ use Rattle.vm_step.specs.declared.ending.Value.TheVariants as values
 use Rattle.vm_step.specs.declared.ending.Exception.{Exception}
 use Rattle.vm_step.specs.Act.{Act, goes, jumps, makes, calls, gives, raises, throws, lacks}
 use Rattle.vm_step.specs.Fields.{holder_width, with_static_write, with_field_write, with_element}
-use Rattle.vm_act.specs.declared.lead.Lead.{Lead}
-use Rattle.vm_act.specs.declared.lead.Lead.TheVariants as leads
-use Rattle.vm_act.specs.declared.lead.Put.{Put}
-use Rattle.vm_act.specs.declared.lead.Put.TheVariants as puts
+use Rattle.vm_act.specs.declared.acting.Lead.{Lead}
+use Rattle.vm_act.specs.declared.acting.Lead.TheVariants as leads
+use Rattle.vm_act.specs.declared.acting.Put.{Put}
+use Rattle.vm_act.specs.declared.acting.Put.TheVariants as puts
 
 -- ---- writes
 

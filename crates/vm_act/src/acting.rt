@@ -1,4 +1,4 @@
-ghost use Rattle.std.specs.Prelude.{◌≡◌, ◌<◌, ◌≤◌, length};
+ghost use Rattle.std.specs.Prelude.{◌≡◌, ◌<◌, ◌≤◌, length, ◌==◌, find, Some, None, MatchOption};
 ghost use Rattle.vm_store.specs.State.{IsRunning, top};
 ghost use Rattle.vm_step.specs.Performed.{act};
 ghost use Rattle.vm_step.specs.Branching.{branch_act, branch_width, switch_act};
@@ -6,19 +6,65 @@ ghost use Rattle.vm_step.specs.Methods.{code_at};
 ghost use Rattle.vm_step.specs.Numbers.{number_width};
 ghost use Rattle.vm_act.specs.Lead.{told, Stays, LeadStands, FramesStay, lead_unless, lead_put};
 ghost use Rattle.vm_act.specs.Reaches.{Reaches, IsInCode};
+ghost use Rattle.jc_base.specs.Class.{IsClass};
+ghost use Rattle.vm_step.specs.Calls.{serving, served};
 
 use crate::calling::call;
 use crate::object::{new_array, test_type, throw, value_given};
 use crate::{
-    Lead, Put, array_length, compute, increment, load, move_cells, pop_branch, pop_key,
-    push_constant, read_array, read_field, store_top, switch_offset, write_array, write_field,
+    array_length, compute, increment, load, move_cells, pop_branch, pop_key, push_constant,
+    read_array, read_field, store_top, switch_offset, write_array, write_field,
 };
 use cap_bytes::View;
-use jc_base::World;
+use jc_base::{Iface, Kind, World};
 use jc_decode::Insn;
-use jc_ops::{Branch, Operation, Width};
-use vm_step::Exception;
-use vm_store::{Store, push_static_value};
+use jc_ops::{Branch, Holder, InstanceField, Operation, StaticField, Width};
+use vm_step::{Exception, Value};
+use vm_store::{ObjectKind, Store, push_static_value};
+
+/// What is left to do once a store has done what an operation says, but for what makes objects, writes fields and
+/// elements, and changes frames.
+#[derive(Clone, Copy)]
+pub enum Lead {
+    /// On to the instruction after.
+    Goes,
+    /// To a place, by its distance from the first byte of the code.
+    Jumps(i64),
+    /// A value is to be written, and on to the instruction after; nothing was changed.
+    Puts(Put),
+    /// An instance of the class is to be made by the `new` at the place; its reference comes on the stack.
+    MakesInstance { class: u16, place: u16 },
+    /// An array of so many elements is to be made; its reference comes on the stack.
+    MakesArray { kind: ObjectKind, count: u16 },
+    /// A method is to be called with so many cells of the stack, which are still there.
+    Calls { method: u16, count: u16 },
+    /// The method ends with this value, whose cells are still on its stack.
+    Gives(Value),
+    /// An exception is to be made and thrown; nothing was changed.
+    Raises(Exception),
+    /// The object of a handle is to be thrown; nothing was changed.
+    Throws(u16),
+    /// An object of this class has no method for that of an interface; nothing was changed.
+    Lacks(u16),
+}
+
+/// Where the value on top of the operand stack is to be written: into a static field, into a field of the object of
+/// a handle, which is under the value or in register 0, or into an element of an array, of which index and handle
+/// are under the value.
+#[derive(Clone, Copy)]
+pub enum Put {
+    Static(StaticField),
+    Field {
+        handle: u16,
+        field: InstanceField,
+        holder: Holder,
+    },
+    Element {
+        handle: u16,
+        element: u16,
+        kind: Kind,
+    },
+}
 
 /// Does what the operation of an instruction says, at the place of the frame on top.
 pub fn act<S: Store>(store: &mut S, world: &World<'_>, insn: Insn, operation: Operation) -> Lead
@@ -147,4 +193,49 @@ fn code_of<'a>(world: &World<'a>, method: u16) -> View<'a>
 {
     let _record = world.method(method);
     View::of(world.code(method))
+}
+
+/// The method of a class that serves a token of an interface, where the class implements the interface and its
+/// entry tells a public token for it.
+pub fn served(world: &World<'_>, interface: u16, token: u8, class: u16) -> Option<u16>
+    requires { IsClass world.now.classes class }
+    ensures { result ≡ served world.now.classes interface token class }
+{
+    let entry = serving(world, interface, class)?;
+    let public = entry.tokens.as_slice().get(token as usize)?;
+    world.classes().public_entry(class, *public)
+}
+
+/// The nearest entry for an interface among those of a class and its superclasses.
+fn serving<'w>(world: &'w World<'_>, interface: u16, class: u16) -> Option<&'w Iface>
+    requires { IsClass world.now.classes class }
+    ensures { MatchOption result
+        (serving world.now.classes interface class ≡ None)
+        (λ entry. serving world.now.classes interface class ≡ Some entry.now) }
+{
+    let mut at = class;
+    'climb: loop {
+        match named(world.class(at).implements.as_slice(), interface) {
+            Some(entry) => return Some(entry),
+            None => {}
+        }
+        match world.classes().parent(at) {
+            Some(parent) => at = parent,
+            None => return None,
+        }
+    }
+}
+
+/// The first entry for an interface.
+fn named(entries: &[Iface], interface: u16) -> Option<&Iface>
+    ensures { MatchOption result
+        (find (λ e. e.class == interface) entries.now ≡ None)
+        (λ entry. find (λ e. e.class == interface) entries.now ≡ Some entry.now) }
+{
+    'entries: for entry in entries {
+        if entry.class == interface {
+            return Some(entry);
+        }
+    }
+    None
 }

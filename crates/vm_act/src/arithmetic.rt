@@ -1,21 +1,20 @@
-ghost use Rattle.std.specs.Prelude.{◌≡◌, ◌+◌, ◌≤◌, length, IfSome};
-ghost use Rattle.jc_ops.specs.declared.operation.Width.TheVariants as widths;
-ghost use Rattle.jc_ops.specs.declared.operation.Arithmetic.TheVariants as arithmetic;
+ghost use Rattle.std.specs.Prelude.{◌≡◌, ◌+◌, ◌≤◌, length, IfSome, ◌<◌};
 ghost use Rattle.vm_store.specs.State.{IsRunning, top};
 ghost use Rattle.vm_step.specs.Act.{goes};
-ghost use Rattle.vm_step.specs.Numbers.{number_width, number_cells, replaced};
+ghost use Rattle.vm_step.specs.Numbers.{number_width, number_cells, replaced, handle_at, short_at, int_on, pushed};
 ghost use Rattle.vm_step.specs.Values.{arithmetic_act};
 ghost use Rattle.vm_act.specs.Lead.{goes_unless};
 ghost use Rattle.vm_act.specs.Widths.{computed_of, computed_to};
+ghost use Rattle.jc_ops.specs.declared.operation.Width.TheVariants as widths;
+ghost use Rattle.jc_ops.specs.declared.operation.Arithmetic.TheVariants as arithmetic;
 
-use crate::number::{int_on, push_int, push_short, short_on};
 use jc_ops::{Arithmetic, Operator, Width};
 use vm_arithmetic::{
-    compare_ints, int_to_byte, int_to_short, negate_int, negate_short, of_ints, of_shorts,
-    short_to_byte,
+    compare_ints, high_word, int_of_words, int_to_byte, int_to_short, low_word, negate_int,
+    negate_short, of_ints, of_shorts, short_of_word, short_to_byte,
 };
 use vm_step::Exception;
-use vm_store::Store;
+use vm_store::{CellForm, Store};
 
 /// Puts a number in place of those that it is computed of, or tells what is thrown instead.
 pub fn compute<S: Store>(store: &mut S, computed: Arithmetic) -> Option<Exception>
@@ -140,4 +139,62 @@ fn replace_by_int<S: Store>(store: &mut S, taken: usize, number: i32)
 {
     store.discard(taken);
     push_int(store, number);
+}
+
+/// The handle in a cell, by its number from the top; it is 0 for null.
+pub fn handle_on<S: Store>(store: &S, n: usize) -> u16
+    requires well { S.well store.now }
+    requires running { IsRunning (S.state store.now) }
+    requires there { n < length (top (S.state store.now)).stack }
+    ensures { result ≡ handle_at S.Cell.cells (top (S.state store.now)).stack n }
+{
+    store.cell(n).word()
+}
+
+/// The short in a cell, by its number from the top.
+pub fn short_on<S: Store>(store: &S, n: usize) -> i16
+    requires well { S.well store.now }
+    requires running { IsRunning (S.state store.now) }
+    requires there { n < length (top (S.state store.now)).stack }
+    ensures { result ≡ short_at S.Cell.cells (top (S.state store.now)).stack n }
+{
+    short_of_word(store.cell(n).word())
+}
+
+/// The int whose low half lies under so many cells.
+pub fn int_on<S: Store>(store: &S, n: u8) -> i32
+    requires well { S.well store.now }
+    requires running { IsRunning (S.state store.now) }
+    requires there { n + 1 < length (top (S.state store.now)).stack }
+    ensures { result ≡ int_on S.Cell.cells (top (S.state store.now)).stack n }
+{
+    int_of_words(
+        store.cell(n as usize + 1).word(),
+        store.cell(n as usize).word(),
+    )
+}
+
+/// Pushes a short.
+pub fn push_short<S: Store>(store: &mut S, number: i16)
+    requires well { S.well store.old }
+    requires running { IsRunning (S.state store.old) }
+    requires room { length (top (S.state store.old)).stack < S.stack_room }
+    ensures state { S.state store.new ≡ pushed (S.state store.old) (number_cells S.Cell.cells widths.Short number) }
+    ensures well { S.well store.new }
+    ensures fixed { S.fixed store.new ≡ S.fixed store.old }
+{
+    store.push(S::Cell::short(number));
+}
+
+/// Pushes the two halves of an int, the high one first.
+pub fn push_int<S: Store>(store: &mut S, number: i32)
+    requires well { S.well store.old }
+    requires running { IsRunning (S.state store.old) }
+    requires room { length (top (S.state store.old)).stack + 1 < S.stack_room }
+    ensures state { S.state store.new ≡ pushed (S.state store.old) (number_cells S.Cell.cells widths.Int number) }
+    ensures well { S.well store.new }
+    ensures fixed { S.fixed store.new ≡ S.fixed store.old }
+{
+    store.push(S::Cell::high(high_word(number)));
+    store.push(S::Cell::low(low_word(number)));
 }

@@ -2,16 +2,16 @@ ghost use Rattle.std.specs.Prelude.{◌≡◌, ◌+◌, ◌<◌, ◌≤◌, ℕ,
 ghost use Rattle.jc_base.specs.declared.ty.Ty.TheVariants.{Class};
 ghost use Rattle.jc_base.specs.Class.{IsClass};
 ghost use Rattle.jc_base.specs.Order.{Below};
-ghost use Rattle.jc_base.specs.Dispatch.{dispatched};
+ghost use Rattle.jc_base.specs.Dispatch.{dispatched, package_of, nearest_of, visible_in};
 ghost use Rattle.jc_ops.specs.Sound.{IsCalleeOf, receiver_count};
-ghost use Rattle.jc_ops.specs.declared.operation.Choice.TheVariants as choices;
 ghost use Rattle.vm_store.specs.State.{IsRunning, top, nth};
 ghost use Rattle.vm_store.specs.Objects.{object_at, kinds};
 ghost use Rattle.vm_step.specs.Calls.{args_of, call_act, chosen_act, class_of, made_at, readied, served};
 ghost use Rattle.vm_act.specs.Lead.{told, Stays, LeadStands, FramesStay, TakesCells};
 ghost use Rattle.vm_act.specs.Reaches.{HasReceiver};
+ghost use Rattle.jc_ops.specs.declared.operation.Choice.TheVariants as choices;
 
-use crate::{Lead, dispatched, handle_on, served};
+use crate::{Lead, handle_on, served};
 use jc_base::{Ty, World, public_methods_run};
 use jc_ops::{Callee, Choice, Want};
 use vm_step::Exception;
@@ -227,4 +227,46 @@ fn served_by(world: &World<'_>, callee: Callee, class: u16, token: u8, of: u16) 
     let _classes = world.classes();
     public_methods_run(world);
     served(world, class, token, of)
+}
+
+/// The method that an object of class `of` runs for a token of a class, which is package-visible from 128 on.
+#[tactic(auto, unfolding(jc_base::specs::Dispatch::dispatched, jc_base::specs::Dispatch::package_of, jc_base::specs::Dispatch::visible_in))]
+pub fn dispatched(world: &World<'_>, class: u16, token: u8, of: u16) -> Option<u16>
+    requires class { class < length world.now.classes.records }
+    requires of { IsClass world.now.classes of }
+    ensures { result ≡ dispatched world.now.classes class token of }
+{
+    if token < 128 {
+        world.classes().public_entry(of, token)
+    } else {
+        let nearest = nearest_of(world, world.class(class).package, of)?;
+        world.classes().visible_entry(nearest, token - 128)
+    }
+}
+
+/// The nearest class of a package among a class and its superclasses.
+fn nearest_of(world: &World<'_>, home: u16, of: u16) -> Option<u16>
+    requires { IsClass world.now.classes of }
+    ensures is { result ≡ nearest_of world.now.classes home of }
+    ensures class { IfSome result (IsClass world.now.classes) }
+{
+    let mut at = of;
+    'climb: loop {
+        if home_of(world, at) == home {
+            return Some(at);
+        }
+        match world.classes().parent(at) {
+            Some(parent) => at = parent,
+            None => return None,
+        }
+    }
+}
+
+/// The package of a class.
+#[tactic(auto, unfolding(jc_base::specs::Dispatch::package_of))]
+fn home_of(world: &World<'_>, class: u16) -> u16
+    requires { class < length world.now.classes.records }
+    ensures { result ≡ package_of world.now.classes class }
+{
+    world.class(class).package
 }

@@ -1,6 +1,5 @@
 ghost use Rattle.std.specs.Prelude.{◌≡◌, ◌+◌, ◌≤◌, length};
 ghost use Rattle.jc_base.specs.Cell.{width};
-ghost use Rattle.jc_ops.specs.declared.operation.Holder.TheVariants as holders;
 ghost use Rattle.vm_store.specs.State.{IsRunning, top};
 ghost use Rattle.vm_store.specs.Objects.{object_cells};
 ghost use Rattle.vm_store.specs.Value.{value_on, kept_value, with_object_value};

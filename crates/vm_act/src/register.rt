@@ -1,10 +1,12 @@
-ghost use Rattle.std.specs.Prelude.{◌≡◌, ◌+◌, ◌<◌, ◌≤◌, length};
-ghost use Rattle.vm_store.specs.State.{IsRunning, top};
+ghost use Rattle.std.specs.Prelude.{◌≡◌, ◌+◌, ◌<◌, ◌≤◌, length, ◌++◌, take};
+ghost use Rattle.vm_store.specs.State.{IsRunning, top, with_stack};
 ghost use Rattle.vm_step.specs.Numbers.{number_width, int_in};
-ghost use Rattle.vm_step.specs.Values.{with_load, with_store, with_increment};
+ghost use Rattle.vm_step.specs.Values.{with_load, with_store, with_increment, with_move, constant_cells, with_constant};
 ghost use Rattle.vm_act.specs.Widths.{sort_width};
+ghost use Rattle.vm_act.specs.Moves.{move_asks, move_adds, move_drops};
 
-use jc_ops::{Sort, Width};
+use crate::arithmetic::{push_int, push_short};
+use jc_ops::{Constant, Move, Sort, Width};
 use vm_arithmetic::{high_word, int_of_words, int_to_short, low_word, short_of_word};
 use vm_store::{CellForm, CellKind, Store};
 
@@ -100,4 +102,65 @@ fn int_in<S: Store>(store: &S, register: u16) -> i32
         store.register(register).word(),
         store.register(register + 1).word(),
     )
+}
+
+/// Moves cells on the operand stack.
+#[tactic(auto, using(crate::proofs::Copies::copied_under))]
+pub fn move_cells<S: Store>(store: &mut S, moved: Move)
+    requires well { S.well store.old }
+    requires running { IsRunning (S.state store.old) }
+    requires cells { move_asks moved ≤ length (top (S.state store.old)).stack }
+    requires room { length (top (S.state store.old)).stack + move_adds moved ≤ S.stack_room + move_drops moved }
+    ensures state { S.state store.new ≡ with_move moved (S.state store.old) }
+    ensures well { S.well store.new }
+    ensures fixed { S.fixed store.new ≡ S.fixed store.old }
+{
+    match moved {
+        Move::Pop => store.discard(1),
+        Move::PopTwo => store.discard(2),
+        Move::Duplicate => copy(store, 1),
+        Move::DuplicateTwo => copy(store, 2),
+        Move::CopyUnder { copied, under } => {
+            copy(store, copied as usize);
+            store.rotate(copied as usize + under as usize, copied as usize);
+        }
+        Move::Exchange { top, under } => {
+            store.rotate(top as usize + under as usize, top as usize);
+        }
+    }
+}
+
+/// Pushes copies of the top cells, in their order.
+fn copy<S: Store>(store: &mut S, count: usize)
+    requires well { S.well store.old }
+    requires running { IsRunning (S.state store.old) }
+    requires cells { count ≤ length (top (S.state store.old)).stack }
+    requires room { length (top (S.state store.old)).stack + count ≤ S.stack_room }
+    ensures state { S.state store.new
+        ≡ with_stack (S.state store.old) (take count (top (S.state store.old)).stack ++ (top (S.state store.old)).stack) }
+    ensures well { S.well store.new }
+    ensures fixed { S.fixed store.new ≡ S.fixed store.old }
+{
+    'copies: for _n in 0..count {
+        // The next cell to be copied has come down by one.
+        let cell = store.cell(count - 1);
+        store.push(cell);
+    }
+}
+
+/// Pushes a constant.
+pub fn push_constant<S: Store>(store: &mut S, constant: Constant)
+    requires well { S.well store.old }
+    requires running { IsRunning (S.state store.old) }
+    requires room { length (top (S.state store.old)).stack + length (constant_cells S.Cell.cells constant) ≤ S.stack_room }
+    ensures state { S.state store.new ≡ with_constant S.Cell.cells constant (S.state store.old) }
+    ensures well { S.well store.new }
+    ensures fixed { S.fixed store.new ≡ S.fixed store.old }
+{
+    match constant {
+        Constant::Nothing => {}
+        Constant::Null => store.push(S::Cell::reference(0)),
+        Constant::Short(number) => push_short(store, int_to_short(number)),
+        Constant::Int(number) => push_int(store, number),
+    }
 }

@@ -23,8 +23,8 @@ use Rattle.vm_step.specs.Raising.{Outcome, running}
 use Rattle.vm_step.specs.Settled.{settled, goes_to, unless_fault}
 use Rattle.vm_step.specs.Step.{Fetches}
 use Rattle.vm_step.specs.Tests.{fault_before}
-use Rattle.vm_act.specs.declared.lead.Lead.{Lead}
-use Rattle.vm_act.specs.declared.lead.Lead.TheVariants as leads
+use Rattle.vm_act.specs.declared.acting.Lead.{Lead}
+use Rattle.vm_act.specs.declared.acting.Lead.TheVariants as leads
 use Rattle.vm_act.specs.Lead.{told, Stays, FramesStay, SameMemory, value_cells, value_width}
 use Rattle.vm_act.specs.Reaches.{Reaches}
 use Rattle.vm_check.specs.Shaped.{IsShapedFrame, IsShapedFor, IsShapedObject, IsShaped, HasKnownTypes, CanTest}

@@ -6,10 +6,10 @@ use Rattle.jc_base.specs.World.{Linked}
 use Rattle.vm_store.specs.State.{State, IsRunning, top, without_top}
 use Rattle.vm_store.specs.Objects.{kinds}
 use Rattle.vm_step.specs.Fields.{holder_width}
-use Rattle.vm_act.specs.declared.lead.Lead.{Lead}
-use Rattle.vm_act.specs.declared.lead.Lead.TheVariants as leads
-use Rattle.vm_act.specs.declared.lead.Put.{Put}
-use Rattle.vm_act.specs.declared.lead.Put.TheVariants as puts
+use Rattle.vm_act.specs.declared.acting.Lead.{Lead}
+use Rattle.vm_act.specs.declared.acting.Lead.TheVariants as leads
+use Rattle.vm_act.specs.declared.acting.Put.{Put}
+use Rattle.vm_act.specs.declared.acting.Put.TheVariants as puts
 use Rattle.vm_act.specs.Lead.{value_width}
 use Rattle.vm_run.specs.declared.known.Known.{Known}
 use Rattle.vm_run.specs.Known.{LandsAt, CanResume}

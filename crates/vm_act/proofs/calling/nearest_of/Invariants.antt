@@ -1,7 +1,7 @@
 use Rattle.std.proofs.Common.{◌≡◌, length}
 use Rattle.jc_base.specs.Class.{IsClass, chain}
 use Rattle.jc_base.specs.Dispatch.{nearest_of}
-use Rattle.vm_act.proofs.dispatching.nearest_of.Given as goal
+use Rattle.vm_act.proofs.calling.nearest_of.Given as goal
 
 -- what is asked from here is what was asked from the class
 abbrev pub invariant-climb : goal.invariant-climb

@@ -1,7 +1,7 @@
 use Rattle.std.proofs.Common.{◌-◌, ◌∷◌, ap, ◌∙◌, arith}
 use Rattle.vm_store.specs.State.{top, nth, with_stack}
 use Rattle.vm_act.proofs.Copies.{copied_more}
-use Rattle.vm_act.proofs.moving.copy.Goals as goal
+use Rattle.vm_act.proofs.register.copy.Goals as goal
 
 pub copies-preserved : goal.copies-preserved
 copies-preserved g c =

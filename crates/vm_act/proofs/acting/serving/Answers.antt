@@ -2,7 +2,7 @@ use Rattle.std.proofs.Common.{sym, ◌∙◌, ap, subst}
 use Rattle.std.specs.Prelude.{find}
 use Rattle.jc_base.specs.Class.{ClassTable, IsNextOnChain, IsEndOfChain}
 use Rattle.vm_act.proofs.Climbing.{Is, own-entries, serving-here, serving-next, serving-end}
-use Rattle.vm_act.proofs.serving.serving.Goals as goal
+use Rattle.vm_act.proofs.acting.serving.Goals as goal
 
 pub returns-in-Some : goal.returns-in-Some
 returns-in-Some c =

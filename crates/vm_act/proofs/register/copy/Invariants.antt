@@ -1,6 +1,6 @@
 use Rattle.std.proofs.Common.{◌≡◌, ◌-◌, ◌++◌, take, drop}
 use Rattle.vm_store.specs.State.{top, with_stack}
-use Rattle.vm_act.proofs.moving.copy.Given as goal
+use Rattle.vm_act.proofs.register.copy.Given as goal
 
 -- the last of the cells are copied so far
 abbrev pub invariant-copies : goal.invariant-copies

@@ -1,7 +1,7 @@
 use Rattle.std.proofs.Common.{◌≡◌, length}
 use Rattle.jc_base.specs.Class.{IsClass, chain}
 use Rattle.vm_step.specs.Calls.{serving}
-use Rattle.vm_act.proofs.serving.serving.Given as goal
+use Rattle.vm_act.proofs.acting.serving.Given as goal
 
 -- what is asked from here is what was asked from the class
 abbrev pub invariant-climb : goal.invariant-climb

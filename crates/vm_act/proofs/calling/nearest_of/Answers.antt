@@ -3,7 +3,7 @@ use Rattle.std.proofs.lemmas.Bool.{eq-eqb, ne_eqb}
 use Rattle.jc_base.specs.Class.{ClassTable, IsNextOnChain, IsEndOfChain}
 use Rattle.jc_base.specs.Dispatch.{package_of}
 use Rattle.vm_act.proofs.Climbing.{nearest-here, nearest-next, nearest-end}
-use Rattle.vm_act.proofs.dispatching.nearest_of.Goals as goal
+use Rattle.vm_act.proofs.calling.nearest_of.Goals as goal
 
 pub returns-then-home_of-home-clause-is : goal.returns-then-home_of-home-clause-is
 returns-then-home_of-home-clause-is c =
