@@ -5,8 +5,7 @@ ghost use Rattle.vm_step.specs.Methods.{code_at};
 ghost use Rattle.vm_step.specs.Settled.{is_over, is_target_place, fault_next, fault_target, place_number};
 ghost use Rattle.vm_run.specs.Known.{KnowPlaces, LandsAt};
 
-use crate::code::code;
-use crate::known::Known;
+use crate::known::{Known, code};
 use jc_base::World;
 use jc_decode::instructions_are_listed;
 use vm_step::Fault;

@@ -2,6 +2,7 @@ ghost use Rattle.std.specs.Prelude.{◌≡◌, [], None, length, sum_by};
 ghost use Rattle.jc_base.specs.Cell.{width};
 ghost use Rattle.vm_store.specs.Store.{IsOf};
 ghost use Rattle.vm_step.specs.Start.{start_fault, entry_state};
+ghost use Rattle.vm_run.specs.Starts.{StartStatesErase, StartsAreSized};
 
 use crate::arrays::{make_argument_arrays, make_initial_arrays};
 use crate::frame::hand_arguments;
@@ -29,4 +30,16 @@ pub fn begin<S: Store>(store: &mut S, world: &World<'_>, entry: u16, args: &Args
     store.begin(world, entry);
     let types = world.method(entry).sig.args.as_slice();
     hand_arguments(store, types, args, world.array_count());
+}
+
+/// A run of words begins with the words of the state in which one of tagged cells begins.
+pub fn starts_erase()
+    ensures { StartStatesErase }
+{}
+
+/// The state in which a run begins has registers for its entry, and cells for each static field.
+pub fn starts_are_sized(world: &World<'_>)
+    ensures { StartsAreSized world.now }
+{
+    let _facts = world.classes();
 }

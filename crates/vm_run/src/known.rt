@@ -3,8 +3,8 @@ ghost use Rattle.jc_control.specs.WellFormed.{IsPlace};
 ghost use Rattle.vm_step.specs.Methods.{code_at, instruction_at};
 ghost use Rattle.vm_run.specs.Known.{KnowsAt};
 
-use crate::code::code;
 use crate::places::MarkedPlaces;
+use cap_bytes::View;
 use jc_base::World;
 use jc_decode::{Placed, decode_known, instructions_are_listed};
 
@@ -49,4 +49,14 @@ fn placed(world: &World<'_>, method: u16, place: u16) -> Option<Placed>
         Some(insn) => Some(Placed { place, insn }),
         None => None,
     }
+}
+
+/// The bytes of a method's code, none where it has no code.
+pub fn code<'a>(world: &World<'a>, method: u16) -> View<'a>
+    requires { method < length world.now.methods }
+    ensures is { result.bytes.now ≡ code_at world.now method }
+    ensures short { length result.bytes.now ≤ 32767 }
+{
+    let _record = world.method(method);
+    View::of(world.code(method))
 }

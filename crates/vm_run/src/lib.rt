@@ -6,8 +6,6 @@
 
 mod after;
 mod arrays;
-mod code;
-mod ending;
 mod entry;
 mod frame;
 mod known;
@@ -16,23 +14,15 @@ mod places;
 mod refusal;
 mod returning;
 mod running;
-mod settling;
-mod starts;
 mod statics;
-mod stepping;
-mod turning;
 mod unwinding;
 
 pub use after::fault_next;
-pub use ending::finish;
-pub use entry::begin;
+pub use entry::{begin, starts_are_sized, starts_erase};
 pub use known::{Known, fetch};
-pub use outcome::{enter_call, go_to, jump_to, make_array, make_instance};
+pub use outcome::{enter_call, finish, go_to, jump_to, make_array, make_instance};
 pub use places::MarkedPlaces;
 pub use refusal::start_fault;
 pub use returning::{give_cell, give_int, give_nothing};
-pub use running::run;
-pub use starts::{starts_are_sized, starts_erase};
-pub use stepping::step;
-pub use turning::Turning;
+pub use running::{Turning, run, step};
 pub use unwinding::{raise, throw_object, unwind};

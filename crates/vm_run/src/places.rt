@@ -4,7 +4,7 @@ ghost use Rattle.vm_step.specs.Methods.{code_at, instruction_at};
 ghost use Rattle.vm_step.specs.Settled.{is_there, is_target_place};
 ghost use Rattle.vm_run.specs.Marked.{AreMarked};
 
-use crate::code::code;
+use crate::known::code;
 use jc_base::World;
 use jc_control::{Flags, instruction_places};
 use jc_decode::instructions_are_listed;

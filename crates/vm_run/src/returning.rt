@@ -6,9 +6,8 @@ ghost use Rattle.vm_step.specs.Settled.{given_to, return_place};
 ghost use Rattle.vm_run.specs.Known.{KnowsAt, CanResume};
 ghost use Rattle.vm_run.specs.Turn.{with_ending};
 
-use crate::ending::finish;
 use crate::known::{Known, fetch};
-use crate::outcome::go_to;
+use crate::outcome::{finish, go_to};
 use jc_base::World;
 use vm_step::{Ending, Plain, Value};
 use vm_store::Store;

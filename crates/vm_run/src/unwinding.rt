@@ -9,7 +9,7 @@ ghost use Rattle.vm_step.specs.Calls.{class_with_methods};
 ghost use Rattle.vm_step.specs.Raising.{catches, caught_by, unwound, thrown, raised};
 ghost use Rattle.vm_run.specs.Turn.{with_ending, AreMethods, IsOfClass};
 
-use crate::ending::finish;
+use crate::outcome::finish;
 use jc_base::{Handler, Ty, World, below};
 use vm_step::{Ending, Exception, Fault, Plain};
 use vm_store::{CellForm, ObjectKind, Store};

@@ -8,7 +8,7 @@ use Rattle.vm_step.specs.Step.{Steps, misplaced, unresolved, performs}
 use Rattle.vm_run.specs.Known.{KnowsAt}
 use Rattle.jc_base.proofs.Lists.{IsSomeAnd-some}
 use Rattle.vm_run.proofs.Performing.{top-frame, fetched, knows-here, none-tests, fault-tests}
-use Rattle.vm_run.proofs.stepping.step.Goals as goal
+use Rattle.vm_run.proofs.running.step.Goals as goal
 
 pub fetch-requires-clause-method : goal.fetch-requires-clause-method
 fetch-requires-clause-method g c =

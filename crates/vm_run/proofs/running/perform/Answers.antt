@@ -10,7 +10,7 @@ use Rattle.vm_act.specs.Lead.{told}
 use Rattle.vm_step.specs.Performed.{act}
 use Rattle.jc_base.proofs.Lists.{IsSomeAnd-some}
 use Rattle.vm_run.proofs.Performing.{top-frame, can-test, methods-after, fetched, reaches-by, leads-on, same-outcome}
-use Rattle.vm_run.proofs.stepping.perform.Goals as goal
+use Rattle.vm_run.proofs.running.perform.Goals as goal
 
 pub method-requires-2 : goal.method-requires-2
 method-requires-2 g c =

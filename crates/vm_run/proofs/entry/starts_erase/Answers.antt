@@ -1,4 +1,4 @@
-use Rattle.vm_run.proofs.starts.starts_erase.Goals as goal
+use Rattle.vm_run.proofs.entry.starts_erase.Goals as goal
 use Rattle.vm_step.proofs.Erased.{entry-erased}
 
 pub returns : goal.returns
