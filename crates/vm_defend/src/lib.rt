@@ -4,12 +4,10 @@
 #![tactic(auto)]
 
 mod laws;
-mod machine;
 mod reading;
 mod starting;
 mod state;
 
 pub use laws::{slots_are_inside, starts_are_shaped};
-pub use machine::run;
 pub use starting::{StartEnd, start, static_cells};
-pub use state::State;
+pub use state::{State, run};

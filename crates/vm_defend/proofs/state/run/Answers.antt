@@ -1,6 +1,6 @@
 -- a run from a typed state comes to a typed state, and answers no fault
 use Rattle.vm_defend.proofs.Safely.{goes-safely}
-use Rattle.vm_defend.proofs.machine.run.Goals as goal
+use Rattle.vm_defend.proofs.state.run.Goals as goal
 
 pub returns-clause-safe : goal.returns-clause-safe
 returns-clause-safe c =
