@@ -5,13 +5,9 @@
 //! `card_verify` accepts, the steps of `vm_run` and the laws of `law_sound` and `law_erasure`.
 #![tactic(auto)]
 
-mod live_frames;
 mod machine;
-mod memory;
 mod object;
-mod object_words;
 mod reading;
-mod sizing;
 mod starting;
 mod storing;
 mod window;
@@ -19,8 +15,7 @@ mod word_machine;
 mod words;
 
 pub use machine::Machine;
-pub use memory::Sizes;
-pub use object_words::{object_cell, object_elements, object_kind};
-pub use sizing::sizes;
-pub use starting::start;
+pub use object::{object_cell, object_elements, object_kind};
+pub use starting::{sizes, start};
+pub use window::Sizes;
 pub use words::{Counts, WordStore};

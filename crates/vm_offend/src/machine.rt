@@ -1,21 +1,21 @@
-ghost use Rattle.std.specs.Prelude.{◌≡◌, ◌<◌, ℕ, List, length, None, Some, IfSome, option_map, unwrap_or};
+ghost use Rattle.std.specs.Prelude.{◌≡◌, ◌<◌, ℕ, List, length, None, Some, IfSome, option_map, unwrap_or, ◌+◌, ◌*◌, ◌≤◌, slice_index};
 ghost use Rattle.card_verify.specs.Answers.{AreAccepted};
 ghost use Rattle.vm_store.specs.declared.cell.Cell.{Cell};
 ghost use Rattle.vm_store.specs.Cells.{tagged};
 ghost use Rattle.vm_store.specs.State.{State};
 ghost use Rattle.vm_defend.specs.Reading.{static_value, array_kind, array_length, array_value};
 ghost use Rattle.vm_defend.specs.Safe.{IsPlainEnding};
-ghost use Rattle.vm_step.specs.declared.ending.Ending.TheVariants as endings;
 ghost use Rattle.vm_step.specs.declared.ending.Plain.TheVariants.{Spent};
 ghost use Rattle.vm_step.specs.Raising.{Outcome};
-ghost use Rattle.vm_offend.specs.Words.{AreObjectsLaid};
+ghost use Rattle.vm_offend.specs.Words.{AreObjectsLaid, window, frames_in};
 ghost use Rattle.vm_offend.specs.Sized.{static_cells};
 ghost use Rattle.vm_offend.specs.Reads.{AreObjectsOf, AreStaticsOf, AreFramesLaid};
 ghost use Rattle.vm_offend.specs.Held.{state_of};
-ghost use Rattle.law_chains.specs.FrameWords.{live_words};
+ghost use Rattle.law_chains.specs.FrameWords.{live_words, frame_words};
+ghost use Rattle.vm_step.specs.declared.ending.Ending.TheVariants as endings;
 
 use crate::reading::{length_of, number_at, numbers_of, value_at};
-use crate::{Counts, WordStore, live_frames, storing};
+use crate::{Counts, WordStore, storing, window};
 use card_verify::Accepted;
 use jc_base::{Ty, World};
 use law_erasure::words_run_alike;
@@ -151,7 +151,7 @@ impl Machine {
             → AreWordsOf accepted.now self.now ram.now heap statics o
             → live_words accepted.now (state_of o).frames ≡ result }
     {
-        live_frames::live_words(accepted.world(), ram, self.counts)
+        live_words(accepted.world(), ram, self.counts)
     }
 }
 
@@ -177,4 +177,47 @@ fn plain(ending: Option<Ending>) -> Option<Plain>
         Some(Ending::Plain(plain)) => Some(plain),
         Some(Ending::Faulted(_)) => unreachable!(),
     }
+}
+
+/// The words of the live frames together.
+pub(crate) fn live_words(world: &World<'_>, ram: &[u16], counts: Counts) -> u32
+    requires { AreFramesLaid ram.now counts }
+    ensures { result ≡ live_words world.now (frames_in world.now.methods ram.now counts.frames) }
+{
+    let mut words = 0;
+    'frames: for n in 0..counts.frames {
+        words += frame_words(world, method_of(ram, n));
+    }
+    words
+}
+
+/// The method of a frame.
+fn method_of(ram: &[u16], n: u16) -> u16
+    requires { 513 * n + 513 ≤ length ram.now }
+    ensures { result ≡ slice_index (window ram.now n) 0 }
+{
+    let from = window::WORDS * usize::from(n);
+    let words = &ram[from..from + window::WORDS];
+    words[0]
+}
+
+/// The words of a frame of a method.
+fn frame_words(world: &World<'_>, method: u16) -> u32
+    ensures is { result ≡ frame_words world.now method }
+    ensures most { result ≤ 768 }
+{
+    if method < world.method_count() {
+        let method = world.method(method);
+        words_of(method.nargs, method.max_locals, method.max_stack)
+    } else {
+        0
+    }
+}
+
+/// The words of a frame with so many argument words, other registers and cells of the operand stack.
+fn words_of(nargs: u8, max_locals: u8, max_stack: u8) -> u32
+    ensures is { result ≡ 3 + nargs + max_locals + max_stack }
+    ensures most { result ≤ 768 }
+{
+    3 + u32::from(nargs) + u32::from(max_locals) + u32::from(max_stack)
 }

@@ -1,9 +1,13 @@
 //! The header of an object in three words: its kind, the number of its first cell, and how many
 //! elements it has.
-ghost use Rattle.std.specs.Prelude.{◌≡◌, ◌+◌, ◌*◌, ◌<◌, length, slice_index, slice_set};
-ghost use Rattle.vm_store.specs.Kind.{IsNumbered};
-ghost use Rattle.vm_offend.specs.Words.{kind_of_word, word_of_kind, header_at};
+ghost use Rattle.std.specs.Prelude.{◌≡◌, ◌+◌, ◌*◌, ◌<◌, length, slice_index, slice_set, Some, IsSome, option_map};
+ghost use Rattle.vm_store.specs.Kind.{IsNumbered, kind_of_handle};
+ghost use Rattle.vm_offend.specs.Words.{kind_of_word, word_of_kind, header_at, AreObjectsLaid, objects_state};
+ghost use Rattle.vm_store.specs.Cells.{words};
+ghost use Rattle.vm_store.specs.Objects.{kinds, object_at, object_cells, element_count};
+ghost use Rattle.vm_store.specs.State.{nth};
 
+use crate::words::Counts;
 use vm_store::{ObjectHeader, ObjectKind};
 
 /// Where the cells of objects begin.
@@ -88,4 +92,50 @@ pub fn set_cell(heap: &mut [u16], n: usize, i: usize, cell: u16)
 {
     let start = heap[3 * n + 1] as usize;
     heap[FIRST_CELL + (start + i)] = cell;
+}
+
+/// The number of objects.
+fn object_count(_heap: &[u16], counts: Counts) -> u16
+    ensures { result ≡ length (objects_state _heap.now counts).heap }
+{
+    counts.objects
+}
+
+/// What the object of a handle is, where there is one.
+pub fn object_kind(heap: &[u16], counts: Counts, handle: u16) -> Option<ObjectKind>
+    requires { AreObjectsLaid heap.now counts }
+    ensures { result ≡ option_map (λ o. o.kind) (object_at (objects_state heap.now counts) handle) }
+{
+    if 0 < handle && handle <= object_count(heap, counts) {
+        Some(kind_there(heap, counts, handle))
+    } else {
+        None
+    }
+}
+
+/// What the object of a handle is.
+pub(crate) fn kind_there(heap: &[u16], counts: Counts, handle: u16) -> ObjectKind
+    requires laid { AreObjectsLaid heap.now counts }
+    requires there { IsSome (object_at (objects_state heap.now counts) handle) }
+    ensures { kind_of_handle (kinds (objects_state heap.now counts)) handle ≡ Some result }
+{
+    header(heap, handle as usize - 1).kind
+}
+
+/// How many elements the array of a handle has, or how many cells the instance.
+pub fn object_elements(heap: &[u16], counts: Counts, handle: u16) -> u16
+    requires laid { AreObjectsLaid heap.now counts }
+    requires there { IsSome (object_at (objects_state heap.now counts) handle) }
+    ensures { option_map element_count (object_at (objects_state heap.now counts) handle) ≡ Some result }
+{
+    header(heap, handle as usize - 1).elements
+}
+
+/// A cell of the object of a handle.
+pub fn object_cell(heap: &[u16], counts: Counts, handle: u16, i: usize) -> u16
+    requires laid { AreObjectsLaid heap.now counts }
+    requires there { i < length (object_cells (objects_state heap.now counts) handle) }
+    ensures { result ≡ nth words (object_cells (objects_state heap.now counts) handle) i }
+{
+    cell(heap, handle as usize - 1, i)
 }

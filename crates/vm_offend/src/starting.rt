@@ -1,18 +1,32 @@
 ghost use Rattle.std.specs.Prelude.{◌≡◌, None, Some, IfOk, IfErr, OnErr};
+ghost use Rattle.vm_offend.specs.Sized.{static_cells, AreSized};
 ghost use Rattle.vm_step.specs.Start.{start_fault};
 ghost use Rattle.law_sound.specs.Soundness.{IsFaultFree};
-ghost use Rattle.vm_offend.specs.Sized.{AreSized};
 ghost use Rattle.vm_offend.specs.Held.{IsRunOf};
 ghost use Rattle.vm_offend.specs.Begun.{IsBegun};
 
 use crate::machine::Machine;
 use crate::storing::begin;
+use crate::window::Sizes;
 use crate::{Counts, WordStore};
 use card_verify::Accepted;
 use jc_base::World;
 use law_sound::typed_code_never_fails;
 use vm_run::{start_fault, starts_are_sized, starts_erase};
 use vm_step::{Args, StartFault};
+
+/// The memory that a run of the world needs.
+pub fn sizes(world: &World<'_>) -> Sizes
+    ensures ram { result.ram ≡ 32832 }
+    ensures heap { result.heap ≡ 45056 }
+    ensures statics { result.statics ≡ static_cells world.now }
+{
+    Sizes {
+        ram: 32832,
+        heap: 45056,
+        statics: vm_defend::static_cells(world) as usize,
+    }
+}
 
 /// Begins a run of a method with these arguments, in memory of the lengths that `sizes` tells, whatever it holds. No run of
 /// an accepted world meets a fault, whether this one begins or not.

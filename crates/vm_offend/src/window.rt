@@ -8,6 +8,17 @@ ghost use Rattle.vm_offend.specs.Words.{frame_in, FitsWindow};
 use jc_base::World;
 use vm_store::{register_count, rotate_cells};
 
+/// How many words of memory a run of a world is lent.
+#[derive(Clone, Copy)]
+pub struct Sizes {
+    /// For 64 frames.
+    pub ram: usize,
+    /// For 4,096 objects with 32,768 cells together.
+    pub heap: usize,
+    /// For the static fields.
+    pub statics: usize,
+}
+
 /// The words of one frame.
 pub const WORDS: usize = 513;
 

@@ -2,8 +2,7 @@ ghost use Rattle.std.specs.Prelude.{◌≡◌, ◌+◌, ◌*◌, ◌<◌, ◌≤
 ghost use Rattle.vm_store.specs.State.{IsRunning, top, first_frame, register_count};
 ghost use Rattle.vm_offend.specs.Words.{AreLaid, FitsWindow, FitWindows, frame_in, frames_in, called_words, words_state};
 
-use crate::object::{FIRST_CELL, set_cell, set_header};
-use crate::object_words::{kind_there, object_cell, object_elements};
+use crate::object::{FIRST_CELL, kind_there, object_cell, object_elements, set_cell, set_header};
 use crate::window;
 use jc_base::{Classes, Ty, World};
 use vm_store::{ObjectHeader, ObjectKind, Store, fill_array, fill_instance};

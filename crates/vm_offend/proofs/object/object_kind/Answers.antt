@@ -2,8 +2,8 @@ use Rattle.std.proofs.Common.{◌<◌, ◌≤◌, ℕ, length, arith}
 use Rattle.vm_store.specs.State.{State}
 use Rattle.vm_offend.specs.Words.{objects_state}
 use Rattle.vm_offend.proofs.Erased.{none-null, none-past}
-use Rattle.vm_offend.proofs.object_words.object_kind.Goals.{else-handle-gt0-via-then-handle-gt0+else-handle-object_count, else-handle-gt0-via-else-handle-gt0}
-use Rattle.vm_offend.proofs.object_words.object_kind.Goals as goal
+use Rattle.vm_offend.proofs.object.object_kind.Goals.{else-handle-gt0-via-then-handle-gt0+else-handle-object_count, else-handle-gt0-via-else-handle-gt0}
+use Rattle.vm_offend.proofs.object.object_kind.Goals as goal
 
 pub returns-else-handle-gt0 : goal.returns-else-handle-gt0
 returns-else-handle-gt0 c =

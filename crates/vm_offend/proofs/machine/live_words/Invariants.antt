@@ -1,7 +1,7 @@
 use Rattle.std.proofs.Common.{◌≡◌, ◌≤◌, ◌*◌}
 use Rattle.law_chains.specs.FrameWords.{live_words}
 use Rattle.vm_offend.specs.Words.{frames_in}
-use Rattle.vm_offend.proofs.live_frames.live_words.Given as goal
+use Rattle.vm_offend.proofs.machine.live_words.Given as goal
 
 abbrev pub invariant-frames : goal.invariant-frames
 invariant-frames l = record {

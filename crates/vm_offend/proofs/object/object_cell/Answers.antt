@@ -2,7 +2,7 @@ use Rattle.std.proofs.Common.{◌+◌, ◌-◌, sym, ◌∙◌, arith}
 use Rattle.std.proofs.lemmas.List.{get_or-drop}
 use Rattle.vm_offend.specs.Words.{header_at}
 use Rattle.vm_offend.proofs.ObjectWords.{cell-header-inside, cell-inside, cell-there}
-use Rattle.vm_offend.proofs.object_words.object_cell.Goals as goal
+use Rattle.vm_offend.proofs.object.object_cell.Goals as goal
 
 pub cell-requires-clause-there : goal.cell-requires-clause-there
 cell-requires-clause-there c = omega (arith, cell-header-inside c.args.heap.now c.args.counts c.requires.laid c.args.handle c.args.i c.requires.there)

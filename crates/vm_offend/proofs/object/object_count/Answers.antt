@@ -3,7 +3,7 @@ use Rattle.std.proofs.lemmas.List.{length-map}
 use Rattle.vm_store.specs.Layout.{object_in}
 use Rattle.vm_offend.specs.Words.{headers_in}
 use Rattle.vm_offend.proofs.WordHeaps.{length-headers_in}
-use Rattle.vm_offend.proofs.object_words.object_count.Goals as goal
+use Rattle.vm_offend.proofs.object.object_count.Goals as goal
 
 pub returns : goal.returns
 returns c =

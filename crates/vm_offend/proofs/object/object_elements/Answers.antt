@@ -2,7 +2,7 @@ use Rattle.std.proofs.Common.{sym, ap, ◌∙◌, arith}
 use Rattle.std.specs.Prelude.{Some}
 use Rattle.vm_store.specs.declared.cell.ObjectHeader.{ObjectHeader}
 use Rattle.vm_offend.proofs.ObjectWords.{header-inside, elements-there}
-use Rattle.vm_offend.proofs.object_words.object_elements.Goals as goal
+use Rattle.vm_offend.proofs.object.object_elements.Goals as goal
 
 pub header-requires : goal.header-requires
 header-requires c = omega (arith, header-inside c.args.heap.now c.args.counts c.requires.laid c.args.handle c.requires.there)
