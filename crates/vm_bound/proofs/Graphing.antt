@@ -12,10 +12,10 @@ use Rattle.jc_base.proofs.Lists.{slice_get-some}
 use Rattle.digraph.specs.Graph.{Edge}
 use Rattle.law_chains.specs.Calls.{HasCode}
 use Rattle.jc_decode.proofs.Elements.{nothing-in}
-use Rattle.vm_bound.specs.declared.vertex.Meaning.{Meaning}
-use Rattle.vm_bound.specs.declared.vertex.Meaning.TheVariants.{Described, Entries, Span}
-use Rattle.vm_bound.specs.declared.vertex.Vertex.{Vertex}
-use Rattle.vm_bound.specs.declared.vertex.Vertex.TheVariants.{Means}
+use Rattle.vm_bound.specs.declared.graph.Meaning.{Meaning}
+use Rattle.vm_bound.specs.declared.graph.Meaning.TheVariants.{Described, Entries, Span}
+use Rattle.vm_bound.specs.declared.graph.Vertex.{Vertex}
+use Rattle.vm_bound.specs.declared.graph.Vertex.TheVariants.{Means}
 use Rattle.vm_bound.specs.Vertices.{Stands}
 use Rattle.vm_bound.specs.Blocks.{IsHalf, blocks_of}
 use Rattle.vm_bound.specs.Edges.{Leads, LeadsToBlocks, leads_block, leads_below, leads_half}

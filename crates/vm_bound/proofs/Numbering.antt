@@ -10,9 +10,9 @@ use Rattle.jc_base.specs.World.{Linked, IsWorld}
 use Rattle.jc_base.proofs.Lists.{slice_get-some}
 use Rattle.digraph.specs.Graph.{next, IsGraph}
 use Rattle.vm_bound.specs.declared.spread.Spread.{Spread}
-use Rattle.vm_bound.specs.declared.vertex.Meaning.{Meaning}
-use Rattle.vm_bound.specs.declared.vertex.Vertex.{Vertex}
-use Rattle.vm_bound.specs.declared.vertex.Vertex.TheVariants.{Method, Means}
+use Rattle.vm_bound.specs.declared.graph.Meaning.{Meaning}
+use Rattle.vm_bound.specs.declared.graph.Vertex.{Vertex}
+use Rattle.vm_bound.specs.declared.graph.Vertex.TheVariants.{Method, Means}
 use Rattle.vm_bound.specs.Vertices.{Stands, Extends, IsFitBelow}
 use Rattle.vm_bound.specs.Edges.{Leads}
 use Rattle.vm_bound.specs.Rows.{AreTargets, HasVertex, HasNumber, AreNumbers, AreRows}

@@ -15,9 +15,9 @@ use Rattle.jc_decode.specs.declared.insn.Placed.{Placed}
 use Rattle.jc_decode.specs.Listing.{listing}
 use Rattle.jc_decode.proofs.Elements.{nothing-in}
 use Rattle.vm_bound.specs.declared.spread.Block.{Block}
-use Rattle.vm_bound.specs.declared.vertex.Meaning.TheVariants.{Entries, Span}
-use Rattle.vm_bound.specs.declared.vertex.Vertex.{Vertex}
-use Rattle.vm_bound.specs.declared.vertex.Vertex.TheVariants.{Method, Means}
+use Rattle.vm_bound.specs.declared.graph.Meaning.TheVariants.{Entries, Span}
+use Rattle.vm_bound.specs.declared.graph.Vertex.{Vertex}
+use Rattle.vm_bound.specs.declared.graph.Vertex.TheVariants.{Method, Means}
 use Rattle.vm_bound.specs.Vertices.{IsFit}
 use Rattle.vm_bound.specs.Edges.{target, token_told, shares, Owns, IsSupplied, LeadsFromMethod, LeadsToBlocks, leads_block}
 use Rattle.vm_bound.specs.Edges.{LeadsFromEntries, leads_own, leads_below, LeadsFromSpan, leads_half, leads_supplied}

@@ -29,10 +29,10 @@ use Rattle.digraph.specs.Graph.{Edge, next}
 use Rattle.digraph.specs.Helpers.{Via, via_edge, via_helper, Tells}
 use Rattle.law_chains.specs.Calls.{Calls, MayRun, RunsBelow, ServesSome, HasCode}
 use Rattle.vm_bound.specs.declared.spread.Block.{Block}
-use Rattle.vm_bound.specs.declared.vertex.Meaning.{Meaning}
-use Rattle.vm_bound.specs.declared.vertex.Meaning.TheVariants.{Described, Entries, Span}
-use Rattle.vm_bound.specs.declared.vertex.Vertex.{Vertex}
-use Rattle.vm_bound.specs.declared.vertex.Vertex.TheVariants.{Method, Means}
+use Rattle.vm_bound.specs.declared.graph.Meaning.{Meaning}
+use Rattle.vm_bound.specs.declared.graph.Meaning.TheVariants.{Described, Entries, Span}
+use Rattle.vm_bound.specs.declared.graph.Vertex.{Vertex}
+use Rattle.vm_bound.specs.declared.graph.Vertex.TheVariants.{Method, Means}
 use Rattle.vm_bound.specs.Vertices.{Stands}
 use Rattle.vm_bound.specs.Blocks.{IsHalf, Under, under_one, under_half, named, AreBlocks, blocks_of}
 use Rattle.vm_bound.specs.Edges.{target_of, target_in, target, shares, token_told, Owns}

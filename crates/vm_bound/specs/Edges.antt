@@ -20,9 +20,9 @@ use Rattle.jc_ops.specs.Row.{row_at}
 use Rattle.law_chains.specs.Calls.{HasCode}
 use Rattle.vm_bound.specs.declared.spread.Block.{Block}
 use Rattle.vm_bound.specs.declared.spread.Spread.{Spread}
-use Rattle.vm_bound.specs.declared.vertex.Meaning.TheVariants.{Described, Entries, Span}
-use Rattle.vm_bound.specs.declared.vertex.Vertex.{Vertex}
-use Rattle.vm_bound.specs.declared.vertex.Vertex.TheVariants.{Method, Means}
+use Rattle.vm_bound.specs.declared.graph.Meaning.TheVariants.{Described, Entries, Span}
+use Rattle.vm_bound.specs.declared.graph.Vertex.{Vertex}
+use Rattle.vm_bound.specs.declared.graph.Vertex.TheVariants.{Method, Means}
 use Rattle.vm_bound.specs.Blocks.{IsHalf, named, blocks_of}
 
 -- ---- from a method

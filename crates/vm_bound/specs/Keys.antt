@@ -4,8 +4,8 @@ use Rattle.std.specs.Prelude.{◌==◌, IsTrue}
 use Rattle.std.specs.Cmp.{IsPartialEquivalence, IsEquivalence}
 use Rattle.std.specs.Hash.{u32}
 use Rattle.std.proofs.lemmas.Bool.{and_parts, eqb-true, eq-eqb, false≢true}
-use Rattle.vm_bound.specs.declared.vertex.Meaning.{Meaning}
-use Rattle.vm_bound.specs.declared.vertex.Meaning.TheVariants.{Described, Entries, Span}
+use Rattle.vm_bound.specs.declared.graph.Meaning.{Meaning}
+use Rattle.vm_bound.specs.declared.graph.Meaning.TheVariants.{Described, Entries, Span}
 use Rattle.vm_bound.specs.Vertices.{same_meaning, meaning_code}
 
 pub meaning-equal : (a b : Meaning) → same_meaning a b ≡ true → a ≡ b

@@ -6,9 +6,9 @@ use Rattle.digraph.specs.Graph.{next}
 use Rattle.jc_base.specs.declared.record.MethodRec.{MethodRec}
 use Rattle.vm_bound.specs.declared.spread.Block.{Block}
 use Rattle.vm_bound.specs.declared.spread.Spread.{Spread}
-use Rattle.vm_bound.specs.declared.vertex.Meaning.{Meaning}
-use Rattle.vm_bound.specs.declared.vertex.Vertex.{Vertex}
-use Rattle.vm_bound.specs.declared.vertex.Vertex.TheVariants.{Method}
+use Rattle.vm_bound.specs.declared.graph.Meaning.{Meaning}
+use Rattle.vm_bound.specs.declared.graph.Vertex.{Vertex}
+use Rattle.vm_bound.specs.declared.graph.Vertex.TheVariants.{Method}
 use Rattle.vm_bound.specs.Vertices.{Stands, IsFit}
 use Rattle.vm_bound.specs.Blocks.{IsSpread}
 use Rattle.vm_bound.specs.Edges.{Owns, LeadsToBlocks, Leads}

@@ -2,10 +2,10 @@
 -- machine chooses a method.
 use Rattle.std.specs.Prelude.{◌≡◌, ℕ, ◌+◌, ◌-◌, ◌*◌, ◌≤◌, ◌<◌, ◌==◌, ◌&&◌, Bool, false, List, length, Some, slice_get, ⊤}
 use Rattle.jc_base.specs.World.{Linked}
-use Rattle.vm_bound.specs.declared.vertex.Meaning.{Meaning}
-use Rattle.vm_bound.specs.declared.vertex.Meaning.TheVariants.{Described, Entries, Span}
-use Rattle.vm_bound.specs.declared.vertex.Vertex.{Vertex}
-use Rattle.vm_bound.specs.declared.vertex.Vertex.TheVariants.{Method, Means}
+use Rattle.vm_bound.specs.declared.graph.Meaning.{Meaning}
+use Rattle.vm_bound.specs.declared.graph.Meaning.TheVariants.{Described, Entries, Span}
+use Rattle.vm_bound.specs.declared.graph.Vertex.{Vertex}
+use Rattle.vm_bound.specs.declared.graph.Vertex.TheVariants.{Method, Means}
 
 -- among these meanings a vertex has this number: a method its own, and a meaning that of its place, counted from the methods on
 abbrev pub Stands : ℕ → List Meaning → Vertex → ℕ → Type 0

@@ -4,8 +4,8 @@ use Rattle.std.proofs.Common.{refl, inl, inr, arith}
 use Rattle.jc_base.specs.World.{Linked}
 use Rattle.jc_ops.specs.declared.operation.Choice.TheVariants as choices
 use Rattle.vm_step.specs.declared.ending.StartFault.TheVariants.{NoEntry}
-use Rattle.vm_bound.specs.declared.vertex.Meaning.TheVariants.{Described, Entries}
-use Rattle.vm_bound.specs.declared.vertex.Vertex.TheVariants.{Method, Means}
+use Rattle.vm_bound.specs.declared.graph.Meaning.TheVariants.{Described, Entries}
+use Rattle.vm_bound.specs.declared.graph.Vertex.TheVariants.{Method, Means}
 use Rattle.vm_bound.specs.Vertices.{Stands}
 use Rattle.vm_bound.specs.Blocks.{Under, under_one, under_half}
 use Rattle.vm_bound.specs.Edges.{target_of}

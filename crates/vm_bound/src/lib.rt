@@ -5,21 +5,17 @@
 //! It stands on the ways of `digraph`, the calls of `law_chains` and the operations of `jc_ops`.
 #![tactic(auto)]
 
-mod blocks;
 mod bounding;
 mod bounds;
 mod ends;
 mod graph;
-mod meaning_targets;
 mod meanings;
 mod method_targets;
-mod naming;
 mod nearest;
 mod order;
 mod spread;
 mod subclasses;
 mod sweep;
-mod vertex;
 mod weighing;
 
 pub use bounding::bound;

@@ -3,7 +3,7 @@ ghost use Rattle.vm_bound.specs.Vertices.{IsFit};
 ghost use Rattle.vm_bound.specs.Edges.{LeadsFromMethod, target_of, target};
 ghost use Rattle.vm_bound.specs.Rows.{AreTargets};
 
-use crate::vertex::{Meaning, Vertex};
+use crate::graph::{Meaning, Vertex};
 use cap_bytes::View;
 use jc_base::World;
 use jc_decode::{Instructions, Placed};

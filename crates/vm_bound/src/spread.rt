@@ -2,10 +2,10 @@ ghost use Rattle.std.specs.Prelude.{◌≡◌, ◌≤◌, ◌<◌, IfOk, IfSome,
 ghost use Rattle.vm_bound.specs.Blocks.{IsSpread, IsOrder, AreBlocksOf, AreAllBlocks};
 ghost use Rattle.vm_bound.specs.Runs.{AreEnds, AreNaming, AreAllNaming};
 
-use crate::blocks::interface_blocks;
 use crate::ends::all_ends;
-use crate::naming::all_naming;
+use crate::graph::interface_blocks;
 use crate::order::class_order;
+use crate::subclasses::all_naming;
 use digraph::Row;
 use jc_base::{Items, World};
 use std::alloc::{AllocError, Global};

@@ -2,7 +2,7 @@ ghost use Rattle.std.specs.Prelude.{◌≡◌, ◌≤◌, ◌<◌, All, IfOk, On
 ghost use Rattle.std.specs.List.Sorted.{IsNonDecreasing};
 ghost use Rattle.vm_bound.specs.Runs.{AreRuns, IsByInnermost, Sweeps};
 
-use crate::blocks::add_run;
+use crate::graph::add_run;
 use crate::spread::Block;
 use std::alloc::{AllocError, Global};
 

@@ -2,7 +2,7 @@ use Rattle.std.proofs.Common.{◌≡◌, ◌<◌, ◌∷◌, [], length, Some, s
 use Rattle.std.specs.Prelude.{slice_get, Contains}
 use Rattle.std.proofs.lemmas.List.{length-append}
 use Rattle.std.proofs.lemmas.Option.{slice_get_within}
-use Rattle.vm_bound.specs.declared.vertex.Vertex.TheVariants.{Method, Means}
+use Rattle.vm_bound.specs.declared.graph.Vertex.TheVariants.{Method, Means}
 use Rattle.vm_bound.specs.Vertices.{Stands}
 use Rattle.vm_bound.specs.Edges.{Leads}
 use Rattle.vm_bound.specs.Rows.{AreRows, AreNumbers, IsCallGraph}
