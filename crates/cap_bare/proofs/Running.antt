@@ -7,7 +7,7 @@ use Rattle.std.proofs.lemmas.List.Elements.{All-contains}
 use Rattle.std.proofs.Math.ListN.{length-set}
 use Rattle.std.specs.Prelude.{if◌then◌else◌, ℤ, pos, IfSome, MatchBool, nat_lt}
 use Rattle.jc_decode.specs.declared.insn.CodeEnd.{CodeEnd}
-use Rattle.cap_bare.specs.declared.bare.Bare.{Bare}
+use Rattle.cap_bare.specs.declared.format.Bare.{Bare}
 use Rattle.jc_decode.specs.declared.insn.Insn.{Insn}
 use Rattle.jc_decode.specs.declared.insn.Placed.{Placed}
 use Rattle.jc_decode.specs.Listing.{falls, jumps, targets}

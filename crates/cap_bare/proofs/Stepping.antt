@@ -6,7 +6,7 @@ use Rattle.std.specs.Int.{w16, w32}
 use lib.Signed.{non_neg}
 use mir.Val.{Fits, to_z, of_z}
 use Rattle.jc_decode.specs.declared.insn.CodeEnd.{CodeEnd}
-use Rattle.cap_bare.specs.declared.bare.Bare.{Bare}
+use Rattle.cap_bare.specs.declared.format.Bare.{Bare}
 use Rattle.cap_bare.specs.declared.instruction.Instruction.{Instruction}
 use Rattle.jc_decode.specs.declared.insn.Insn.{Insn}
 use Rattle.jc_decode.specs.Places.{place_after}

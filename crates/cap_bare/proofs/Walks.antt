@@ -8,7 +8,7 @@ use Rattle.jc_decode.proofs.Elements.{Contains-either, nothing-in}
 use Rattle.jc_decode.proofs.InstructionLists.{IsFound, found-in, err-of}
 use Rattle.std.proofs.Math.ListN.{length-set}
 use Rattle.std.specs.Prelude.{if◌then◌else◌, pos, IfSome, IsSomeAnd, MatchBool, slice_get}
-use Rattle.cap_bare.specs.declared.bare.Bare.{Bare}
+use Rattle.cap_bare.specs.declared.format.Bare.{Bare}
 use Rattle.jc_decode.specs.declared.insn.Placed.{Placed}
 use Rattle.jc_decode.specs.Listing.{falls, targets}
 use Rattle.jc_decode.specs.Places.{place_after}

@@ -12,7 +12,7 @@ use Rattle.jc_decode.specs.Listing.{targets}
 use Rattle.jc_decode.specs.Places.{place_after}
 use Rattle.jc_ops.specs.declared.operation.Operator.{Operator}
 use Rattle.vm_arithmetic.specs.Arithmetic.{of_shorts, short_to_byte, succeeds}
-use Rattle.cap_bare.specs.declared.bare.Bare.{Bare}
+use Rattle.cap_bare.specs.declared.format.Bare.{Bare}
 use Rattle.cap_bare.specs.declared.run.BareEnd.{BareEnd}
 use Rattle.cap_bare.specs.declared.run.BareEnd.TheVariants.{Returned, Spent}
 use Rattle.cap_bare.specs.declared.instruction.Instruction.{Instruction}

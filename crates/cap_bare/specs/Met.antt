@@ -2,7 +2,7 @@
 -- refuses one (Leroy 2002, section 3).
 use Rattle.std.specs.Prelude.{ℕ, ◌<◌, ◌≤◌, ◌≡◌, ◌≢◌, List, [], ◌++◌, length, replicate, slice_set, Option, Some}
 use Rattle.std.specs.Prelude.{None, IfSome, IsTrue, if◌then◌else◌}
-use Rattle.cap_bare.specs.declared.bare.Bare.{Bare}
+use Rattle.cap_bare.specs.declared.format.Bare.{Bare}
 use Rattle.cap_bare.specs.declared.instruction.Instruction.{Instruction}
 use Rattle.jc_decode.specs.declared.insn.Placed.{Placed}
 use Rattle.jc_decode.specs.Listing.{falls, jumps}

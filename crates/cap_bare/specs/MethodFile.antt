@@ -4,7 +4,7 @@ use Rattle.cap_bytes.specs.Grammar.{Grammar, give, number, u1, rest, that, ◌>>
 use Rattle.cap_bytes.specs.Spelling.{Stands, Breaks, info_of}
 use Rattle.cap_components.specs.declared.fault.PackFault.{PackFault}
 use Rattle.cap_components.specs.declared.fault.PackFault.TheVariants.{Form, MethodLength}
-use Rattle.cap_bare.specs.declared.bare.Bare.{Bare}
+use Rattle.cap_bare.specs.declared.format.Bare.{Bare}
 
 -- a header, and the bytes of the code
 pub record MethodFile : Type 0 where

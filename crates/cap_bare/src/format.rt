@@ -1,6 +1,7 @@
-ghost use Rattle.std.specs.Prelude.{◌≡◌};
+ghost use Rattle.std.specs.Prelude.{◌≡◌, ◌≤◌, length, IfOk, Ok};
+ghost use Rattle.jc_decode.specs.Decoding.{decoded, FitsLayout, IsWithin};
 ghost use Rattle.jc_decode.specs.Layout.{layout_of};
-ghost use Rattle.jc_decode.specs.Decoding.{FitsLayout};
+ghost use Rattle.cap_bare.specs.Code.{fetched};
 ghost use Rattle.cap_bare.specs.Format.{instruction_format, resolved, instruction_of, FitsFormat};
 
 use self::BareFormat::{Constant, Implied, Increments, Loads, Stores};
@@ -8,8 +9,38 @@ use crate::instruction::Instruction;
 use crate::instruction::Instruction::{
     Binary, Compare, Duplicate, Goto, Load, Negate, Nop, Pop, Push, Return, Store, Test, ToByte,
 };
-use jc_decode::Insn;
+use cap_bytes::View;
+use jc_decode::{CodeEnd, Insn, decode};
 use jc_ops::{Operator, Order};
+
+/// The numbers in the header of a bare method, each at most 15, since the compact header of a method has four
+/// bits for each (Java Card 2.2 VM Specification, section 6.9).
+#[derive(Clone, Copy)]
+pub struct Bare {
+    /// The number of arguments.
+    pub nargs: u8,
+    /// The number of local variables, without the arguments.
+    pub max_locals: u8,
+    /// The most cells that the operand stack may hold.
+    pub max_stack: u8,
+}
+
+/// The instruction that begins at a place, of those that bare methods have.
+#[tactic(auto, unfolding(crate::specs::Code::fetched))]
+pub fn fetch(code: View<'_>, place: u16) -> Result<Insn, CodeEnd>
+    requires { length code.bytes.now ≤ 32767 }
+    ensures value { result ≡ fetched code.entry.bytes.now place }
+    ensures decoded { IfOk result (λ i. decoded code.entry.bytes.now place ≡ Ok i) }
+    ensures within { IfOk result (λ i. IsWithin code.entry.bytes.now place i) }
+    ensures operands { IfOk result (λ i. FitsLayout i (layout_of i.op)) }
+{
+    if let Some(opcode) = code.u1(u32::from(place)) {
+        if BareFormat::of(opcode).is_none() {
+            return Err(CodeEnd::OutOfScope(opcode));
+        }
+    }
+    decode(code, place)
+}
 
 /// How an opcode and its operands make an instruction of a bare method.
 #[derive(Clone, Copy)]

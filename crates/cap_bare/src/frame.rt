@@ -1,8 +1,9 @@
-ghost use Rattle.std.specs.Prelude.{◌≡◌, ◌<◌, ◌≤◌, ◌+◌, pos, [], ◌∷◌, ◌++◌, length, drop, replicate, slice_index_or, slice_set, if◌then◌else◌};
+ghost use Rattle.std.specs.Prelude.{◌≡◌, ◌<◌, ◌≤◌, ◌+◌, pos, [], ◌∷◌, ◌++◌, length, drop, replicate, slice_index_or, slice_set};
+ghost use Rattle.std.specs.Prelude.{if◌then◌else◌};
 ghost use Rattle.vm_arithmetic.specs.Arithmetic.{succeeds};
 ghost use Rattle.cap_bare.specs.Machine.{acted, frame, leads, top_of_stack, second};
 
-use crate::bare::Bare;
+use crate::format::Bare;
 use crate::instruction::{Instruction, binary};
 use arrayvec::ArrayVec;
 use jc_ops::Order;

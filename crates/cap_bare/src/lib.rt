@@ -5,20 +5,16 @@
 //! and takes no memory.
 #![tactic(auto)]
 
-mod bare;
-mod code;
 mod fault;
 mod format;
 mod frame;
 mod instruction;
-mod laws;
 mod method;
 mod run;
 mod verify;
 
-pub use bare::Bare;
 pub use fault::{BareFault, BareKind};
-pub use laws::bare_laws;
+pub use format::Bare;
 pub use method::{BareMethod, bare_method};
 pub use run::{BareEnd, bare_run};
-pub use verify::bare_verify;
+pub use verify::{bare_laws, bare_verify};

@@ -6,7 +6,7 @@ ghost use Rattle.cap_bare.specs.Typing.{IsCompact};
 ghost use Rattle.cap_bare.specs.MethodFile.{compact_header, method_info, IsFileFault};
 ghost use Rattle.cap_bare.specs.BareFile.{file, IsVerifiable};
 
-use crate::bare::Bare;
+use crate::format::Bare;
 use cap_bytes::{Cursor, FormFault, FormKind, View};
 use cap_components::PackFault;
 

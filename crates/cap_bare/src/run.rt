@@ -4,9 +4,7 @@ ghost use Rattle.cap_bare.specs.Typing.{BareTyping, IsCompact, register_count};
 ghost use Rattle.cap_bare.specs.Machine.{RunAnswers, after, branch_target, entered, step, IsSafe};
 ghost use Rattle.cap_bare.specs.Leading.{state_in_frame, stepped};
 
-use crate::bare::Bare;
-use crate::code::fetch;
-use crate::format::instruction_of;
+use crate::format::{Bare, fetch, instruction_of};
 use crate::frame::{Frame, Lead};
 use cap_bytes::View;
 use jc_decode::{Placed, target};

@@ -4,16 +4,14 @@ ghost use Rattle.jc_decode.specs.Layout.{layout_of};
 ghost use Rattle.jc_decode.specs.Listing.{targets};
 ghost use Rattle.cap_bare.specs.Code.{instructions, IsFirstFlaw, IsFlawKind, IsPlace, IsTargetPlace, IsWellFormed, HasInstruction};
 ghost use Rattle.cap_bare.specs.Typing.{BareTyping, IsCompact};
-ghost use Rattle.cap_bare.specs.Laws.{LeadsOn};
+ghost use Rattle.cap_bare.specs.Laws.{LeadsOn, PlacesAreTold, RefusalIsOne};
 ghost use Rattle.cap_bare.specs.Met.{IsRefused};
 ghost use Rattle.cap_bare.specs.Walk.{is_at, is_place, is_target, applied, passed, first_wrong, WalksFind};
 ghost use Rattle.cap_bare.specs.Window.{IsFromOn, IsSuffixAt, IsTrailing};
 ghost use Rattle.cap_bare.specs.Machine.{IsFaultFree};
 
-use crate::bare::Bare;
-use crate::code::fetch;
 use crate::fault::{BareFault, BareKind};
-use crate::format::instruction_of;
+use crate::format::{Bare, fetch, instruction_of};
 use crate::instruction::Instruction;
 use cap_bytes::{View, are_bytes};
 use jc_decode::{Placed, target};
@@ -259,3 +257,10 @@ fn find_wrong(code: View<'_>, bare: Bare) -> Result<(), BareFault>
     }
     Ok(())
 }
+
+/// A bare method has one refusal at most; and the places at which the machine goes on are those at which an instruction
+/// of the code begins.
+pub fn bare_laws()
+    ensures one { RefusalIsOne }
+    ensures places { PlacesAreTold }
+{}

@@ -5,7 +5,7 @@ use Rattle.cap_bytes.proofs.Laws.{is_exact}
 use Rattle.cap_frame.specs.Frame.{component}
 use Rattle.cap_components.specs.declared.fault.PackFault.{PackFault}
 use Rattle.cap_components.specs.declared.fault.PackFault.TheVariants.{Form, MethodLength}
-use Rattle.cap_bare.specs.declared.bare.Bare.{Bare}
+use Rattle.cap_bare.specs.declared.format.Bare.{Bare}
 use Rattle.cap_bare.specs.MethodFile.{MethodFile, method_info, IsFileFault}
 use Rattle.capcheck_core.specs.MethodFile.{method_tag, IsMethodFile, RefusesFile}
 

@@ -5,7 +5,7 @@ use Rattle.std.specs.Prelude.{◌≡◌, ℕ, ◌<◌, ◌≤◌, ◌*◌, List,
 use Rattle.std.specs.FinMap as map
 use Rattle.std.specs.List.{AllZip}
 use Rattle.cap_files.specs.Folder.{Folders, IsThere}
-use Rattle.cap_bare.specs.declared.bare.Bare.{Bare}
+use Rattle.cap_bare.specs.declared.format.Bare.{Bare}
 use Rattle.cap_gen.specs.Generated.{generated_parts}
 use Rattle.cap_gen.specs.Linked.{roles}
 use Rattle.cap_index.specs.Indexes.{has_code}

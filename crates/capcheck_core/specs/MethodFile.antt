@@ -5,7 +5,7 @@ use Rattle.cap_bytes.specs.Spelling.{Stands, Breaks, file_of}
 use Rattle.cap_frame.specs.Frame.{component}
 use Rattle.cap_components.specs.declared.fault.PackFault.{PackFault}
 use Rattle.cap_components.specs.declared.fault.PackFault.TheVariants.{Form}
-use Rattle.cap_bare.specs.declared.bare.Bare.{Bare}
+use Rattle.cap_bare.specs.declared.format.Bare.{Bare}
 use Rattle.cap_bare.specs.MethodFile.{method_info, IsFileFault}
 
 -- the tag of the Method component
