@@ -4,12 +4,9 @@
 //! It stands on the steps of a method in two worlds, of `law_alike`, and on card typings, of `card_typing`.
 #![tactic(auto)]
 
-mod like_endings;
-mod retyped;
 mod sharing;
 
-pub use like_endings::{kept_are_renamed, renamed_end_alike};
-pub use retyped::{
-    operations_are_renumbered, renamed_are_typed, renumbered_apply, shared_have_types,
+pub use sharing::{
+    kept_are_renamed, methods_share_in_one_way, operations_are_renumbered, renamed_are_typed,
+    renamed_end_alike, renumbered_apply, shared_have_types, sharing_is_one, written_stay_apart,
 };
-pub use sharing::{methods_share_in_one_way, sharing_is_one, written_stay_apart};

@@ -1,5 +1,5 @@
 use Rattle.law_share.proofs.Carried.{renamed-are-typed}
-use Rattle.law_share.proofs.retyped.renamed_are_typed.Goals as goal
+use Rattle.law_share.proofs.sharing.renamed_are_typed.Goals as goal
 
 pub returns : goal.returns
 returns c =

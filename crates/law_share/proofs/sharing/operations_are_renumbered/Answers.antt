@@ -1,5 +1,5 @@
 use Rattle.law_share.proofs.Numbering.{operations-are-renumbered, renumbered-begin-alike, renumbered-stay-apart}
-use Rattle.law_share.proofs.retyped.operations_are_renumbered.Goals as goal
+use Rattle.law_share.proofs.sharing.operations_are_renumbered.Goals as goal
 
 pub returns-clause-same : goal.returns-clause-same
 returns-clause-same c = operations-are-renumbered c.args.world.now c.classes.ensures.links

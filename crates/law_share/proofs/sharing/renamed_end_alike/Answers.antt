@@ -1,6 +1,6 @@
 use Rattle.law_share.proofs.Ending.{renamed-end-alike}
 use Rattle.law_share.proofs.InStep.{in-step}
-use Rattle.law_share.proofs.like_endings.renamed_end_alike.Goals as goal
+use Rattle.law_share.proofs.sharing.renamed_end_alike.Goals as goal
 
 pub returns-clause-alike : goal.returns-clause-alike
 returns-clause-alike c =
