@@ -21,8 +21,8 @@ use Rattle.law_share.specs.Sharing.{AreAllotted, none_allotted, more_allotted, F
 use Rattle.law_share.specs.Sharing.{numbered_variable, end_of, fits_after, fits_before, fits_with}
 use Rattle.law_share.specs.Sharing as sharing
 use Rattle.xf_allot.specs.declared.allotting.Allotment.{Allotment}
-use Rattle.xf_allot.specs.declared.variable.Allotted.{Allotted}
-use Rattle.xf_allot.specs.declared.variable.Variable.{Variable}
+use Rattle.xf_allot.specs.declared.fitting.Allotted.{Allotted}
+use Rattle.xf_allot.specs.declared.fitting.Variable.{Variable}
 use Rattle.xf_allot.specs.Allotting.{AllFit, IsSized, LiesBefore, MeetsOne, given_of, numbers_from, Gives, IsAllottedTo, AreAllottedBy}
 use Rattle.xf_allot.specs.Graph.{AreApart, apart_forth, apart_back, apart_first, AreFound}
 use Rattle.xf_allot.specs.Variable.{allotted_of, variable_of, IsFirstOf, HasNone}

@@ -8,8 +8,8 @@ use Rattle.law_share.specs.Variable as law
 use Rattle.law_share.specs.Sharing.{AreAllotted, FitsBeside, IsLeastFit, IsNumbered}
 use Rattle.law_share.specs.Sharing as sharing
 use Rattle.xf_allot.specs.declared.allotting.Allotment.{Allotment}
-use Rattle.xf_allot.specs.declared.variable.Allotted.{Allotted}
-use Rattle.xf_allot.specs.declared.variable.Variable.{Variable}
+use Rattle.xf_allot.specs.declared.fitting.Allotted.{Allotted}
+use Rattle.xf_allot.specs.declared.fitting.Variable.{Variable}
 use Rattle.xf_allot.specs.Graph.{AreApart}
 use Rattle.xf_allot.specs.Variable.{allotted_of, variable_of}
 

@@ -4,8 +4,8 @@ use Rattle.jc_base.specs.declared.ty.Ty.{Ty}
 use Rattle.law_share.specs.Variable.{AreVariables}
 use Rattle.law_share.specs.Variable as law
 use Rattle.law_share.specs.Sharing as sharing
-use Rattle.xf_allot.specs.declared.variable.Variable.{Variable}
-use Rattle.xf_allot.specs.declared.variable.Allotted.{Allotted}
+use Rattle.xf_allot.specs.declared.fitting.Variable.{Variable}
+use Rattle.xf_allot.specs.declared.fitting.Allotted.{Allotted}
 
 abbrev pub variable_of : Variable → law.Variable
 variable_of k = record { register = k.register; width = k.width; ty = k.ty }

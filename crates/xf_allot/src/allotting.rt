@@ -5,8 +5,7 @@ ghost use Rattle.xf_allot.specs.Allotting.{AreAllottedBy, IsAllottedTo, LiesBefo
 ghost use Rattle.xf_allot.specs.Graph.{AreFound};
 ghost use Rattle.xf_allot.specs.Variable.{HasNone, allotted_of};
 
-use crate::fitting::least_fit;
-use crate::variable::{Allotted, variable_at};
+use crate::fitting::{Allotted, least_fit, variable_at};
 use jc_base::Ty;
 use jc_control::Subject;
 use std::alloc::{AllocError, Global};

@@ -12,6 +12,5 @@ mod edges;
 mod fitting;
 mod sharing;
 mod uses;
-mod variable;
 
 pub use sharing::{Sharing, share_registers};

@@ -3,7 +3,7 @@ use Rattle.std.proofs.lemmas.List.{take_all}
 use Rattle.std.proofs.lemmas.List.Elements.{All-more}
 use Rattle.jc_base.specs.declared.ty.Ty.TheVariants.{Bottom}
 use Rattle.law_share.specs.Sharing.{FitsBeside}
-use Rattle.xf_allot.specs.declared.variable.Allotted.{Allotted}
+use Rattle.xf_allot.specs.declared.fitting.Allotted.{Allotted}
 use Rattle.xf_allot.specs.Allotting.{AllFit}
 use Rattle.jc_control.specs.Subject.{method, world_of}
 use Rattle.xf_allot.specs.Variable.{allotted_of, variable_of}

@@ -4,7 +4,7 @@ use Rattle.jc_base.specs.declared.ty.Ty.TheVariants.{Bottom, IntHigh}
 use Rattle.law_share.specs.Variable.{IsWhole}
 use Rattle.xf_allot.specs.Variable.{IsFirstOf}
 use Rattle.xf_allot.proofs.Variables.{unwhole-there, whole-there}
-use Rattle.xf_allot.proofs.variable.variable_at.Goals as goal
+use Rattle.xf_allot.proofs.fitting.variable_at.Goals as goal
 
 pub returns-then-not-is_whole-clause-none : goal.returns-then-not-is_whole-clause-none
 returns-then-not-is_whole-clause-none c =

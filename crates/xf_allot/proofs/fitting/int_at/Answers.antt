@@ -2,7 +2,7 @@ use Rattle.std.proofs.Common.{◌≡◌, ◌+◌, suc, get_or, sym, ap, ◌∙�
 use Rattle.std.proofs.lemmas.Bool.{false≢true}
 use Rattle.jc_base.specs.declared.ty.Ty.TheVariants.{Bottom}
 use Rattle.xf_allot.proofs.Variables.{high-alone, high-other, int-there}
-use Rattle.xf_allot.proofs.variable.int_at.Goals as goal
+use Rattle.xf_allot.proofs.fitting.int_at.Goals as goal
 
 pub returns-then-low-types-clause-none : goal.returns-then-low-types-clause-none
 returns-then-low-types-clause-none c =
