@@ -14,13 +14,11 @@ mod found;
 mod home;
 mod laws;
 mod plan;
-mod value;
 mod walk;
 
 pub use finding::{HomeEnd, homes};
 pub use found::Homes;
-pub use home::Home;
+pub use home::{Home, value_at, value_of};
 pub use laws::{homes_are_one, homes_serve, needed_are_kept};
 pub use plan::{Plan, home_of};
-pub use value::{value_at, value_of};
 pub use walk::{HomeWalk, has, is_new, operands, same_value};

@@ -2,19 +2,20 @@ ghost use Rattle.std.specs.Prelude.{◌≡◌, ◌↔◌, ◌+◌, ◌≤◌, tr
 ghost use Rattle.jc_control.specs.Method.{IsMethodOf};
 ghost use Rattle.jc_rules.specs.Typing.{HaveSameRegisters};
 ghost use Rattle.xf_homes.specs.Home.{register_count};
-ghost use Rattle.xf_homes.specs.Walk.{local_of, is_covered, caught_events, caught_of, local_events, locals_events, cells_events, operands_of, operands_at, keeps_stack, place_events, code_events, has, with_home_of_value, with_events};
+ghost use Rattle.xf_homes.specs.Walk.{local_of, is_covered, caught_events, caught_of, local_events, locals_events, cells_events};
+ghost use Rattle.xf_homes.specs.Walk.{operands_of, operands_at, keeps_stack, place_events, code_events, has, with_home_of_value};
+ghost use Rattle.xf_homes.specs.Walk.{with_events};
 ghost use Rattle.xf_homes.specs.Asked.{HandlersAreAsked, LocalsAreKnown, NoneIsNew, AreStill, is_new, knows, last_after, last_local};
 ghost use Rattle.xf_homes.specs.Subject.{walked, frames_of};
 
-use crate::home::Home;
-use crate::value::value_at;
+use crate::home::{Home, value_at};
 use cap_bytes::View;
 use indexmap::IndexSet;
 use jc_base::{Handler, MethodRec, Ty, World, same_type, types_are_ordered};
 use jc_control::{ControlFlow, covers};
 use jc_decode::{Instructions, Placed};
 use jc_ops::{Branch, Operation, Site, Width, resolve};
-use jc_rules::{HeldFrame, Typing};
+use jc_rules::Typing;
 use std::alloc::AllocError;
 
 /// A walk over the code of a method, at whose reached places its types are asked for.
