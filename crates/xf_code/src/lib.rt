@@ -5,16 +5,13 @@
 #![tactic(auto)]
 
 mod body;
-mod branch;
 mod edge;
 mod emitter;
-mod fall;
 mod field;
 mod group;
 mod handlers;
 mod jump;
 mod moves;
-mod next_reached;
 mod rewriting;
 mod ways;
 

@@ -14,8 +14,7 @@ ghost use Rattle.law_rewritten_typing.specs.Typed.{HasTypingByHomes};
 ghost use Rattle.law_groups.specs.Matching.{MatchesMethod};
 
 use crate::emitter::{Emitter, Output, put};
-use crate::next_reached::next_reached;
-use crate::ways::Stubs;
+use crate::ways::{Stubs, next_reached};
 use cap_bytes::{View, are_bytes};
 use jc_base::World;
 use jc_control::{ControlEnd, control_flow, flaws_decide, instructions_are_placed};

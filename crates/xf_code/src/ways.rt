@@ -5,13 +5,16 @@ ghost use Rattle.jc_decode.specs.Listing.{targets};
 ghost use Rattle.xf_homes.specs.PlannedMethod.{source};
 ghost use Rattle.xf_emission.specs.Jump.{each_once, lead, leads, stub, stubs_of, AreLed, IsNearBy};
 ghost use Rattle.xf_code.specs.Ways.{way_labels};
+ghost use Rattle.xf_homes.specs.Plan.{first_reached};
+ghost use Rattle.xf_code.specs.NextReached.{AreNextReached};
 
 use crate::emitter::{Emitted, Emitter, Output, put};
 use crate::jump::{Fork, goto, stub_label, target_place};
 use indexmap::IndexSet;
 use jc_control::Targets;
 use jc_decode::{Item, Placed};
-use std::alloc::AllocError;
+use std::alloc::{AllocError, Global};
+use xf_homes::Plan;
 
 /// The stubs so far, and what is copied on the way that is looked at.
 #[derive(Drop)]
@@ -142,5 +145,36 @@ impl Emitter<'_> {
         let ways = self.ways(fork.placed)?;
         let labels = self.put_ways(fork, ways.as_slice(), stubs)?;
         self.labels_by(fork, &ways, labels.as_slice())
+    }
+}
+
+/// By place of the code, the first place from there on that control reaches, or the end of the code.
+pub fn next_reached(alloc: Global, plan: &Plan<'_>) -> Result<Vec<u16>, AllocError>
+    requires { length plan.now.walk.code.bytes.now ≤ 65535 }
+    ensures { IfOk result (λ next. AreNextReached (source plan.now) next.items) }
+{
+    let end = plan.walk.code.bytes.len() as u16;
+    let mut next = vec![in alloc; end; end as usize]?;
+    let mut after = end;
+    let mut place = end;
+    'places: while place > 0 {
+        place -= 1;
+        if plan.walk.typing.reached(place) {
+            after = place;
+        }
+        next[place as usize] = after;
+    }
+    Ok(next)
+}
+
+impl Emitter<'_> {
+    /// The first place from a place on that control reaches, or the end of the code.
+    pub fn first_reached(&self, place: u16) -> u16
+        ensures { result ≡ first_reached (source self.now.plan) place }
+    {
+        match self.next.get(place as usize) {
+            Some(reached) => *reached,
+            None => place,
+        }
     }
 }

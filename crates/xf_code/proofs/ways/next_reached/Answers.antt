@@ -3,8 +3,8 @@ use Rattle.xf_homes.specs.Plan.{first_reached}
 use Rattle.xf_homes.specs.PlannedMethod.{source}
 use Rattle.xf_code.specs.NextReached.{AreNextFrom}
 use Rattle.xf_code.proofs.Reaching.{end-reached, here-reached, later-reached, from-before}
-use Rattle.xf_code.proofs.next_reached.next_reached.Goals as goal
-use Rattle.xf_code.proofs.next_reached.next_reached.Goals.{then-reached, else-reached}
+use Rattle.xf_code.proofs.ways.next_reached.Goals as goal
+use Rattle.xf_code.proofs.ways.next_reached.Goals.{then-reached, else-reached}
 
 pub places-init : goal.places-init
 places-init c =

@@ -2,7 +2,7 @@ use Rattle.std.proofs.Common.{◌≡◌, ◌≤◌, length}
 use Rattle.xf_homes.specs.Plan.{first_reached}
 use Rattle.xf_homes.specs.PlannedMethod.{source}
 use Rattle.xf_code.specs.NextReached.{AreNextFrom}
-use Rattle.xf_code.proofs.next_reached.next_reached.Given as goal
+use Rattle.xf_code.proofs.ways.next_reached.Given as goal
 
 abbrev pub invariant-places : goal.invariant-places
 invariant-places l = record {
