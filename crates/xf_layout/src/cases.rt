@@ -1,9 +1,8 @@
-ghost use Rattle.std.specs.Prelude.{◌≡◌, ◌≤◌, ◌+◌, Ok, OnOk, IsTrue, length, slice_index};
+ghost use Rattle.std.specs.Prelude.{◌≡◌, ◌≤◌, ◌+◌, Ok, OnOk, IsTrue, length, slice_index, pos, ◌-ℤ◌};
 ghost use Rattle.jc_decode.specs.Decoding.{decoded};
 ghost use Rattle.jc_decode.specs.Cases.{cases, is_switch, with_default};
 ghost use Rattle.xf_layout.specs.Laid.{AreInReach, AddsSwitch, led};
 
-use crate::distance::distance;
 use crate::places::LabelPlaces;
 use cap_bytes::View;
 use jc_decode::{Insn, Labels, bytes_read_back, encode, set_case};
@@ -61,4 +60,13 @@ fn lead_cases(bytes: &mut [u8], switch: Insn, labels: &[u16], places: &LabelPlac
         let offset = distance(here, places.at(*label));
         set_case(bytes, 0, switch, n as u32, offset);
     }
+}
+
+/// The distance from a place of a method's code to another.
+pub fn distance(from: u32, to: u32) -> i16
+    requires from { from ≤ 32767 }
+    requires to { to ≤ 32767 }
+    ensures { result ≡ pos to -ℤ pos from }
+{
+    (i64::from(to) - i64::from(from)) as i16
 }

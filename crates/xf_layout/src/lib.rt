@@ -5,7 +5,6 @@
 #![tactic(auto)]
 
 mod cases;
-mod distance;
 mod form;
 mod handlers;
 mod laws;
@@ -13,9 +12,7 @@ mod laying;
 mod places;
 mod plan;
 mod settling;
-mod symbols;
-mod widening;
 
 pub use form::Form;
 pub use laws::{laid_is_no_longer, plain_sizes_agree, shortest_is_one};
-pub use symbols::{LayEnd, lay};
+pub use laying::{LayEnd, lay};

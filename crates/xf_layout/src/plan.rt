@@ -4,8 +4,7 @@ ghost use Rattle.xf_layout.specs.Plan.{IsLayoutPlan};
 
 use crate::form::Form;
 use crate::places::LabelPlaces;
-use crate::settling::settle;
-use crate::widening::{shortest_forms, widen};
+use crate::settling::{settle, shortest_forms, widen};
 use jc_decode::{Item, short_is_no_longer};
 use std::alloc::{AllocError, Global};
 

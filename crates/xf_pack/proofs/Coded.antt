@@ -24,8 +24,8 @@ use Rattle.xf_emission.specs.Emission.{AreSymbolsOf}
 use Rattle.xf_emission.specs.Live.{KeepsLive}
 use Rattle.xf_emission.specs.Numbers.{HasNumbers}
 use Rattle.law_laid.specs.Laws.{LaidIsTyped}
-use Rattle.xf_layout.specs.declared.symbols.LayEnd.{LayEnd}
-use Rattle.xf_layout.specs.declared.symbols.LayEnd.TheVariants.{MethodLong, Memory as NoBytes}
+use Rattle.xf_layout.specs.declared.laying.LayEnd.{LayEnd}
+use Rattle.xf_layout.specs.declared.laying.LayEnd.TheVariants.{MethodLong, Memory as NoBytes}
 use Rattle.xf_layout.specs.Shortest.{ReachesTooFar, StandsShortest}
 use Rattle.law_rewritten_typing.specs.Typed.{HasTypingByHomes}
 use Rattle.law_transform.specs.Laid.{IsLaidFor}

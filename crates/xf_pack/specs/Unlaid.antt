@@ -6,8 +6,8 @@ use Rattle.xf_homes.specs.declared.finding.HomeEnd.{HomeEnd}
 use Rattle.xf_homes.specs.declared.finding.HomeEnd.TheVariants as homes
 use Rattle.xf_code.specs.declared.rewriting.RewriteEnd.{RewriteEnd}
 use Rattle.xf_code.specs.declared.rewriting.RewriteEnd.TheVariants as rewriting
-use Rattle.xf_layout.specs.declared.symbols.LayEnd.{LayEnd}
-use Rattle.xf_layout.specs.declared.symbols.LayEnd.TheVariants as layout
+use Rattle.xf_layout.specs.declared.laying.LayEnd.{LayEnd}
+use Rattle.xf_layout.specs.declared.laying.LayEnd.TheVariants as layout
 use Rattle.xf_pack.specs.declared.end.MethodLimit.{MethodLimit}
 use Rattle.xf_pack.specs.declared.end.MethodLimit.TheVariants.{Registers, StackLimit, MethodLong}
 use Rattle.xf_pack.specs.declared.end.TransformEnd.{TransformEnd}

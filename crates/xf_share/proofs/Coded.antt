@@ -20,8 +20,8 @@ use Rattle.law_shared_world.specs.SharedCode.{IsSharedFor}
 use Rattle.xf_allot.specs.declared.sharing.Sharing.{Sharing}
 use Rattle.xf_allot.specs.Sharing.{AnswersSharing}
 use Rattle.xf_allot.proofs.Subjects.{its-count}
-use Rattle.xf_layout.specs.declared.symbols.LayEnd.{LayEnd}
-use Rattle.xf_layout.specs.declared.symbols.LayEnd.TheVariants.{MethodLong, Memory}
+use Rattle.xf_layout.specs.declared.laying.LayEnd.{LayEnd}
+use Rattle.xf_layout.specs.declared.laying.LayEnd.TheVariants.{MethodLong, Memory}
 use Rattle.xf_layout.specs.Shortest.{ReachesTooFar, StandsShortest}
 use Rattle.xf_share.specs.Numbering.{IsReadable, IsRenumbered, locals_of, number_of}
 use Rattle.xf_last.specs.Fits.{FitsMethod}

@@ -9,7 +9,7 @@ use Rattle.jc_decode.specs.declared.symbols.Laid.{Laid}
 use Rattle.law_shared_world.specs.SharedCode.{HasSharedCode, IsSharedElement}
 use Rattle.xf_last.specs.Last.{BeginsLast}
 use Rattle.xf_last.proofs.Passing.{below-more}
-use Rattle.xf_layout.specs.declared.symbols.LayEnd.{LayEnd}
+use Rattle.xf_layout.specs.declared.laying.LayEnd.{LayEnd}
 use Rattle.xf_share.specs.Ends.{HaveCardTypings, IsSharedTooLong, TellsOf}
 use Rattle.xf_share.specs.Passes.{IsSharedAt}
 use Rattle.xf_share.specs.Unlaid.{IsSharedLong, TellsUnlaid, unlaid}

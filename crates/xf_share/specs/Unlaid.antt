@@ -5,8 +5,8 @@ use Rattle.jc_control.specs.Method.{Method, IsMethodOf, method_in}
 use Rattle.jc_decode.specs.Symbols.{plain_size}
 use Rattle.law_renumbered.specs.Numbers.{AreNumbersOf}
 use Rattle.law_renumbered.specs.Symbols.{renumbered_method}
-use Rattle.xf_layout.specs.declared.symbols.LayEnd.{LayEnd}
-use Rattle.xf_layout.specs.declared.symbols.LayEnd.TheVariants.{MethodLong, Memory}
+use Rattle.xf_layout.specs.declared.laying.LayEnd.{LayEnd}
+use Rattle.xf_layout.specs.declared.laying.LayEnd.TheVariants.{MethodLong, Memory}
 use Rattle.xf_layout.specs.Shortest.{ReachesTooFar}
 use Rattle.xf_share.specs.declared.end.ShareEnd.{ShareEnd}
 use Rattle.xf_share.specs.declared.end.ShareEnd.TheVariants as ends

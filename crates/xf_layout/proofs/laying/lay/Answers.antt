@@ -11,7 +11,7 @@ use Rattle.xf_layout.specs.Laid.{IsPlacedRange}
 use Rattle.xf_layout.proofs.Least.{long-always}
 use Rattle.xf_layout.proofs.Reached.{range-placed, items-end}
 use Rattle.xf_layout.proofs.Whole.{laid-items, stands-at}
-use Rattle.xf_layout.proofs.symbols.lay.Goals as goal
+use Rattle.xf_layout.proofs.laying.lay.Goals as goal
 
 pub of-requires-clause-items : goal.of-requires-clause-items
 of-requires-clause-items c =

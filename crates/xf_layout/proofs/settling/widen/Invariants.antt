@@ -2,7 +2,7 @@ use Rattle.std.proofs.Common.{◌≡◌, ◌+◌, ◌++◌, take, drop}
 use Rattle.std.specs.Prelude.{count_by, slice_index}
 use Rattle.xf_layout.specs.Form.{length_of_forms}
 use Rattle.xf_layout.specs.Widening.{is_short_jump, widened}
-use Rattle.xf_layout.proofs.widening.widen.Given as goal
+use Rattle.xf_layout.proofs.settling.widen.Given as goal
 
 abbrev pub invariant-forms : goal.invariant-forms
 invariant-forms l = record {
