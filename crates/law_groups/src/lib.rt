@@ -3,12 +3,9 @@
 //! It stands on the moves between homes, of `law_homes`, and on where rewritten code is laid, of `law_laid`.
 #![tactic(auto)]
 
-mod all;
-mod branches;
-mod fields;
-mod increments;
 mod laws;
-mod stores;
 
-pub use all::{groups_run, rewritten_matches};
-pub use laws::{groups_are_entered, groups_catch, groups_stand_at_steps, places_are_renamed};
+pub use laws::{
+    groups_are_entered, groups_catch, groups_run, groups_stand_at_steps, places_are_renamed,
+    rewritten_matches,
+};

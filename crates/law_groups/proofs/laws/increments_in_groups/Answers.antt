@@ -2,7 +2,7 @@ use Rattle.std.proofs.Common.{◌≡◌, subst}
 use Rattle.jc_base.specs.Laws.{IsOrderOfTypes}
 use Rattle.jc_base.specs.World.{Linked}
 use Rattle.law_groups.proofs.Counting.{increment-runs}
-use Rattle.law_groups.proofs.increments.increments_in_groups.Goals as goal
+use Rattle.law_groups.proofs.laws.increments_in_groups.Goals as goal
 
 pub returns : goal.returns
 returns c =

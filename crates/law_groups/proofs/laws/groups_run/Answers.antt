@@ -1,5 +1,5 @@
 use Rattle.law_groups.proofs.Running.{groups-run}
-use Rattle.law_groups.proofs.all.groups_run.Goals as goal
+use Rattle.law_groups.proofs.laws.groups_run.Goals as goal
 
 pub returns : goal.returns
 returns c =

@@ -5,7 +5,7 @@ use Rattle.law_groups.proofs.Choosing.{alone-group}
 use Rattle.law_groups.proofs.Deepening.{over-group}
 use Rattle.law_groups.proofs.OneGroup.{turn-by}
 use Rattle.law_groups.proofs.Turning.{goto-group}
-use Rattle.law_groups.proofs.branches.branch_groups_run.Goals as goal
+use Rattle.law_groups.proofs.laws.branch_groups_run.Goals as goal
 
 pub returns-clause-gotos : goal.returns-clause-gotos
 returns-clause-gotos c w s place z t o i laid typed group equal step stays ex =

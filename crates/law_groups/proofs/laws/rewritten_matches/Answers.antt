@@ -1,5 +1,5 @@
 use Rattle.law_groups.proofs.Matching.{rewritten-matches}
-use Rattle.law_groups.proofs.all.rewritten_matches.Goals as goal
+use Rattle.law_groups.proofs.laws.rewritten_matches.Goals as goal
 
 pub returns : goal.returns
 returns c =

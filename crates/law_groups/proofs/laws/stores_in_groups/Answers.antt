@@ -1,5 +1,5 @@
 use Rattle.law_groups.proofs.Storing.{store-bodies-run}
-use Rattle.law_groups.proofs.stores.stores_in_groups.Goals as goal
+use Rattle.law_groups.proofs.laws.stores_in_groups.Goals as goal
 
 pub returns : goal.returns
 returns c = record {

@@ -1,5 +1,5 @@
 use Rattle.law_groups.proofs.ThisFields.{this-reads-run}
-use Rattle.law_groups.proofs.fields.fields_in_groups.Goals as goal
+use Rattle.law_groups.proofs.laws.fields_in_groups.Goals as goal
 
 pub returns : goal.returns
 returns c = record {

@@ -1,5 +1,5 @@
 use Rattle.law_groups.proofs.ThisWritesAnywhere.{this-writes-run}
-use Rattle.law_groups.proofs.fields.writes_in_groups.Goals as goal
+use Rattle.law_groups.proofs.laws.writes_in_groups.Goals as goal
 
 pub returns : goal.returns
 returns c = record {
