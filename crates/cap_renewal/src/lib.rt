@@ -5,23 +5,18 @@
 //! whose components it copies.
 #![tactic(auto)]
 
-mod applets;
-mod classes;
 mod descriptors;
 mod exports;
-mod framed;
 mod members;
 mod names;
 mod new_methods;
 mod pool;
 mod tables;
 
-pub use applets::renew_applets;
-pub use classes::renew_classes;
 pub use descriptors::renew_descriptor;
-pub use exports::renew_export;
-pub use framed::file_of;
-pub use members::{class_file, descriptor_file};
+pub use exports::{renew_applets, renew_export};
+pub use members::{class_file, descriptor_file, file_of};
 pub use names::{applet_file, export_file, pool_file};
 pub use new_methods::{NewMethod, NewMethods};
 pub use pool::renew_pool;
+pub use tables::renew_classes;

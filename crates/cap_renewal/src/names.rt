@@ -8,7 +8,7 @@ ghost use Rattle.cap_renewal.specs.ExportEdits.{export_edits, renewed_exported};
 ghost use Rattle.cap_renewal.specs.NewMethods.{to};
 ghost use Rattle.cap_renewal.specs.PoolEdits.{pool_edits, renewed_entry};
 
-use crate::framed::file_of;
+use crate::members::file_of;
 use crate::{NewMethods, renew_applets, renew_export, renew_pool};
 use cap_package::Package;
 use std::alloc::{AllocError, Global};

@@ -4,7 +4,7 @@ use Rattle.cap_bytes.specs.Edit.{patched_all}
 use Rattle.cap_renewal.specs.AppletEdits.{applet_edits, applet_width, applets_edits}
 use Rattle.cap_renewal.specs.NewMethods.{to}
 use Rattle.cap_renewal.proofs.Items.{IsRenewing}
-use Rattle.cap_renewal.proofs.applets.renew_applets.Given as goal
+use Rattle.cap_renewal.proofs.exports.renew_applets.Given as goal
 
 abbrev pub invariant-applets : goal.invariant-applets
 invariant-applets l =

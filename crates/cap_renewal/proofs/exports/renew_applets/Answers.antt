@@ -8,7 +8,7 @@ use Rattle.cap_renewal.proofs.Items.{IsRenewing, IsNext, renewing_next, renewing
 use Rattle.cap_renewal.proofs.AppletItems.{applet_item, applets_begin, applets_inside, applets_fit, applets_renewed}
 use Rattle.cap_bytes.specs.Renewal.{Renews}
 use Rattle.cap_renewal.proofs.News.{keeps_small}
-use Rattle.cap_renewal.proofs.applets.renew_applets.Goals as goal
+use Rattle.cap_renewal.proofs.exports.renew_applets.Goals as goal
 
 pub applets-init : goal.applets-init
 applets-init c =

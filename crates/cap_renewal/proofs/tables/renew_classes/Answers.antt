@@ -8,7 +8,7 @@ use Rattle.cap_renewal.proofs.Steps.{one_class}
 use Rattle.cap_bytes.specs.Renewal.{Renews}
 use Rattle.cap_renewal.proofs.News.{keeps_small}
 use Rattle.cap_renewal.proofs.ClassItems.{classes_inside, classes_fit, classes_renewed, classes_room}
-use Rattle.cap_renewal.proofs.classes.renew_classes.Goals as goal
+use Rattle.cap_renewal.proofs.tables.renew_classes.Goals as goal
 
 pub classes-init : goal.classes-init
 classes-init c =

@@ -4,7 +4,7 @@ use Rattle.cap_bytes.specs.Edit.{patched_all}
 use Rattle.cap_renewal.specs.ClassEdits.{classes_edits}
 use Rattle.cap_renewal.specs.NewMethods.{to}
 use Rattle.cap_renewal.specs.Rooms.{AllRooms}
-use Rattle.cap_renewal.proofs.classes.renew_classes.Given as goal
+use Rattle.cap_renewal.proofs.tables.renew_classes.Given as goal
 
 abbrev pub invariant-classes : goal.invariant-classes
 invariant-classes l = record {

@@ -6,7 +6,7 @@ use Rattle.cap_bytes.specs.Edit.{patched_all}
 use Rattle.cap_renewal.specs.Along.{table_edits}
 use Rattle.cap_renewal.specs.NewMethods.{to}
 use Rattle.cap_renewal.proofs.Steps.{two_tables}
-use Rattle.cap_renewal.proofs.classes.write_class.Goals as goal
+use Rattle.cap_renewal.proofs.tables.write_class.Goals as goal
 
 pub returns-clause-value : goal.returns-clause-value
 returns-clause-value c =
