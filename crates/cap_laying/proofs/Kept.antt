@@ -9,8 +9,8 @@ use Rattle.std.specs.List.{flat_map}
 use Rattle.std.proofs.lemmas.List.{drop_more}
 use Rattle.byteorder.specs.Endian.{big_bytes}
 use Rattle.cap_frame.specs.DirectoryFormat.{Custom, DirectoryItems}
-use Rattle.cap_laying.specs.declared.sizes.IndexChange.{IndexChange}
-use Rattle.cap_laying.specs.declared.sizes.ComponentSizes.{ComponentSizes}
+use Rattle.cap_laying.specs.declared.writing.IndexChange.{IndexChange}
+use Rattle.cap_laying.specs.declared.writing.ComponentSizes.{ComponentSizes}
 use Rattle.cap_laying.specs.DirectoryBytes.{AreShort, custom_bytes, customs_size, directory_bytes}
 use Rattle.cap_laying.specs.NewDirectory.{head_of, index_entry, kept_bytes, kept_count, kept_size, new_directory, new_size, sizes_from, stays_in_index}
 

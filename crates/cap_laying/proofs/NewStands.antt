@@ -9,9 +9,9 @@ use Rattle.byteorder.specs.Endian.{big_bytes}
 use Rattle.cap_bytes.specs.declared.fault.Format.{Format}
 use Rattle.cap_bytes.specs.Grammar.{is_aid_length}
 use Rattle.cap_frame.specs.DirectoryFormat.{Custom, DirectoryItems, is_new_tag, and_that_of, none, size_count}
-use Rattle.cap_laying.specs.declared.sizes.IndexChange.{IndexChange}
-use Rattle.cap_laying.specs.declared.sizes.IndexChange.TheVariants.{Kept, Dropped, Written}
-use Rattle.cap_laying.specs.declared.sizes.ComponentSizes.{ComponentSizes}
+use Rattle.cap_laying.specs.declared.writing.IndexChange.{IndexChange}
+use Rattle.cap_laying.specs.declared.writing.IndexChange.TheVariants.{Kept, Dropped, Written}
+use Rattle.cap_laying.specs.declared.writing.ComponentSizes.{ComponentSizes}
 use Rattle.cap_laying.specs.DirectoryBytes.{AreShort, custom_bytes, customs_size, directory_bytes}
 use Rattle.cap_laying.specs.WrittenDirectory.{AreSmall, AreCustoms, MayStand}
 use Rattle.cap_laying.specs.NewDirectory.{index_entry, new_directory, new_size, own_size, sizes_from, stays_in_index}

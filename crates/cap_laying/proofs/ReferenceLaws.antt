@@ -1,6 +1,6 @@
 -- Places that are told from the first on.
 use Rattle.std.proofs.Common.{◌≡◌, ℕ, List, [], ◌++◌, refl, ap, ◌∙◌}
-use Rattle.cap_laying.specs.declared.told.ToldPlaces.{ToldPlaces}
+use Rattle.cap_laying.specs.declared.location_component.ToldPlaces.{ToldPlaces}
 use Rattle.cap_laying.specs.Distances.{distances}
 use Rattle.cap_laying.specs.Telling.{AppendsDistances}
 use Rattle.cap_laying.proofs.Tellings.{told_more}

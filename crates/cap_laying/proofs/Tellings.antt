@@ -3,7 +3,7 @@ use Rattle.std.proofs.Common.{◌≡◌, ◌≤◌, ◌+◌, ◌-◌, ◌/◌, �
 use Rattle.std.proofs.Common.{replicate, take, drop, refl, sym, ap, ◌∙◌, arith, append_assoc, length, length-append, take-append-drop}
 use Rattle.std.proofs.lemmas.List.{append-nil, length-replicate}
 use Rattle.std.proofs.Math.Seq.{take-append_seam}
-use Rattle.cap_laying.specs.declared.told.ToldPlaces.{ToldPlaces}
+use Rattle.cap_laying.specs.declared.location_component.ToldPlaces.{ToldPlaces}
 use Rattle.cap_laying.specs.Distances.{distance_bytes, distances, last_of, Rise, places_in}
 use Rattle.cap_laying.specs.Telling.{AppendsDistances, IsFew}
 

@@ -7,9 +7,9 @@ use Rattle.std.specs.List.{flat_map}
 use Rattle.byteorder.specs.Endian.{big_bytes}
 use Rattle.cap_frame.specs.Tags.{index_aid}
 use Rattle.cap_frame.specs.DirectoryFormat.{Custom, DirectoryItems}
-use Rattle.cap_laying.specs.declared.sizes.IndexChange.{IndexChange}
-use Rattle.cap_laying.specs.declared.sizes.IndexChange.TheVariants.{Kept, Dropped, Written}
-use Rattle.cap_laying.specs.declared.sizes.ComponentSizes.{ComponentSizes}
+use Rattle.cap_laying.specs.declared.writing.IndexChange.{IndexChange}
+use Rattle.cap_laying.specs.declared.writing.IndexChange.TheVariants.{Kept, Dropped, Written}
+use Rattle.cap_laying.specs.declared.writing.ComponentSizes.{ComponentSizes}
 use Rattle.cap_laying.specs.DirectoryBytes.{custom_bytes, customs_size}
 
 -- the size of the component with a tag, which was another

@@ -1,6 +1,6 @@
 -- Places that are told after others.
 use Rattle.std.specs.Prelude.{◌≡◌, ◌≤◌, ℕ, List, ◌++◌, length}
-use Rattle.cap_laying.specs.declared.told.ToldPlaces.{ToldPlaces}
+use Rattle.cap_laying.specs.declared.location_component.ToldPlaces.{ToldPlaces}
 use Rattle.cap_laying.specs.Distances.{distances, last_of}
 
 -- the places were told: their distances were appended, and the last of them is the last one now

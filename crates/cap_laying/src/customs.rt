@@ -4,7 +4,7 @@ ghost use Rattle.cap_laying.specs.DirectoryBytes.{AreShort, custom_bytes, custom
 ghost use Rattle.cap_laying.specs.NewDirectory.{index_entry, kept_count, kept_size, stays_in_index};
 ghost use Rattle.cap_frame.specs.Directory.{custom_seen, directory_items};
 
-use crate::sizes::IndexChange;
+use crate::writing::IndexChange;
 use cap_frame::{CustomEntry, Directory};
 use std::alloc::AllocError;
 

@@ -5,7 +5,7 @@ ghost use Rattle.jc_decode.specs.Encoding.{IsAllowed};
 ghost use Rattle.jc_decode.specs.Listing.{listing};
 ghost use Rattle.jc_decode.specs.PoolIndex.{bytes_of_index, pool_index};
 
-use crate::told::ToldPlaces;
+use crate::location_component::ToldPlaces;
 use cap_bytes::View;
 use jc_decode::{IndexWidth, Insn, decode};
 use std::alloc::AllocError;

@@ -7,33 +7,21 @@
 #![tactic(auto)]
 
 mod blocks;
-mod bodies;
-mod catches;
 mod customs;
 mod entries;
-mod headers;
 mod indices;
-mod info;
 mod location_component;
 mod member;
 mod method_component;
 mod places;
-mod reference_locations;
-mod references;
-mod sizes;
-mod told;
 mod writing;
-mod written_directory;
-mod written_methods;
 
-pub use catches::tell_catches;
+pub use entries::tell_catches;
 pub use indices::tell_indices;
-pub use info::directory_info;
-pub use location_component::component_info;
+pub use location_component::{ToldPlaces, component_info};
 pub use member::{Body, WrittenMember};
 pub use method_component::{Written, write_methods};
-pub use reference_locations::{components_stand, places_read_back};
-pub use sizes::{ComponentSizes, IndexChange};
-pub use told::ToldPlaces;
-pub use written_directory::directories_stand;
-pub use written_methods::{headers_read_back, infos_are_written, methods_stand};
+pub use writing::{
+    ComponentSizes, IndexChange, components_stand, directories_stand, directory_info,
+    headers_read_back, infos_are_written, methods_stand, places_read_back,
+};

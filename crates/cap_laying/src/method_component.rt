@@ -3,11 +3,10 @@ ghost use Rattle.cap_laying.specs.Blocks.{total_handlers};
 ghost use Rattle.cap_laying.specs.Members.{MayBeWritten};
 ghost use Rattle.cap_laying.specs.WrittenSeen.{WritesMethods};
 
-use crate::blocks::{block_order, handler_count, indexes, put_table};
-use crate::bodies::{by_offset, put_bodies};
+use crate::blocks::{block_order, by_offset, handler_count, indexes, put_bodies, put_table};
+use crate::location_component::references;
 use crate::member::WrittenMember;
 use crate::places::{end_of, news};
-use crate::references::references;
 use cap_renewal::NewMethods;
 use std::alloc::{AllocError, Global};
 

@@ -2,7 +2,7 @@ ghost use Rattle.std.specs.Prelude.{◌≡◌, ◌≤◌, ◌<◌, ◌+◌, IfOk
 ghost use Rattle.cap_laying.specs.Member.{body_size, methods_end_from};
 ghost use Rattle.cap_laying.specs.NewPlaces.{AreSmallBodies, IsSmallBody, new_method, news_from};
 
-use crate::headers::header_size;
+use crate::entries::header_size;
 use crate::member::{Body, WrittenMember};
 use cap_renewal::{NewMethod, NewMethods};
 use std::alloc::{AllocError, Global};

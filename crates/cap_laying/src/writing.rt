@@ -1,14 +1,55 @@
-ghost use Rattle.std.specs.Prelude.{◌≡◌, ◌≤◌, ◌<◌, ◌-◌, ◌++◌, length, slice_index, OnOk};
+ghost use Rattle.std.specs.Prelude.{◌≡◌, ◌≤◌, ◌<◌, ◌-◌, ◌++◌, length, slice_index, OnOk, IfOk};
+ghost use Rattle.cap_laying.specs.NewDirectory.{drops, head_of, new_directory, new_size, sizes_from, own_size};
 ghost use Rattle.std.specs.List.{flat_map};
 ghost use Rattle.byteorder.specs.Endian.{big_bytes};
 ghost use Rattle.cap_laying.specs.DirectoryBytes.{AreShort, directory_bytes};
-ghost use Rattle.cap_laying.specs.NewDirectory.{head_of, new_directory, new_size, sizes_from};
 ghost use Rattle.cap_frame.specs.Directory.{directory_items};
+ghost use Rattle.cap_laying.specs.WrittenDirectory.{DirectoriesStand};
+ghost use Rattle.cap_laying.specs.WrittenMethods.{HeadersReadBack, InfosAreWritten};
+ghost use Rattle.cap_laying.specs.Standing.{WrittenMethodsStand};
+ghost use Rattle.cap_laying.specs.Component.{ComponentsStand};
+ghost use Rattle.cap_laying.specs.ReferenceLocations.{PlacesReadBack};
+ghost use Rattle.cap_bytes.specs.Spelling.{Stands};
+ghost use Rattle.cap_frame.specs.DirectoryFormat.{directory_info, size_count};
 
 use crate::customs::{index_extent, measure, put_customs, put_index};
-use crate::sizes::ComponentSizes;
+use cap_bytes::{Format, are_bytes};
 use cap_frame::Directory;
-use std::alloc::AllocError;
+use std::alloc::{AllocError, Global};
+
+/// What becomes of the custom component with the tag 128, that of a target index.
+#[derive(Clone, Copy)]
+pub enum IndexChange {
+    /// Its entry stays, if there is one.
+    Kept,
+    /// Its entry is left out.
+    Dropped,
+    /// A target index takes its place, whose info has so many bytes. Its entry is the last one.
+    Written(u16),
+}
+
+impl IndexChange {
+    /// Whether the entry that the source has is left out.
+    pub(crate) fn drops(self) -> bool
+        ensures { result ≡ drops self }
+    {
+        match self {
+            IndexChange::Kept => false,
+            IndexChange::Dropped | IndexChange::Written(_) => true,
+        }
+    }
+}
+
+/// What the Directory of a package says of the components that are written anew.
+#[derive(Clone, Copy)]
+pub struct ComponentSizes {
+    /// The bytes of the info of the Method component.
+    pub methods: u16,
+    /// Those of the ReferenceLocation component.
+    pub references: u16,
+    /// What becomes of the target index.
+    pub index: IndexChange,
+}
 
 /// Appends the info of the Directory with other sizes; it has sizes for so many components, 11 in format 2.1 and
 /// 12 in format 2.2. Where there is no memory some bytes may be appended.
@@ -99,5 +140,64 @@ fn new_size(own: u16, new: ComponentSizes, tag: u8, old: u16) -> u16
         9 => new.references,
         12 => 0,
         _ => old,
+    }
+}
+
+/// The info that is written stands for its items.
+pub fn directories_stand()
+    ensures { DirectoriesStand }
+{}
+
+/// Where the bytes of a header stand, its numbers are read.
+pub fn headers_read_back()
+    ensures { HeadersReadBack }
+{}
+
+/// The info stands for its handler table, and each method stands in it where the one before it ends.
+pub fn infos_are_written()
+    ensures { InfosAreWritten }
+{}
+
+/// Each of the methods that are written stands at its new offset.
+pub fn methods_stand()
+    ensures { WrittenMethodsStand }
+{}
+
+/// Rising places are those that their distances tell.
+pub fn places_read_back()
+    ensures { PlacesReadBack }
+{}
+
+/// The info that is written stands for its two lists.
+pub fn components_stand()
+    ensures { ComponentsStand }
+{}
+
+/// The info of the Directory of a package whose methods are written anew, in the format of the package: with the sizes
+/// of the components that are written, 0 for Debug, and an entry for the target index, where one is written.
+pub fn directory_info(
+    alloc: Global,
+    directory: &Directory<'_>,
+    format: Format,
+    new: ComponentSizes,
+) -> Result<Vec<u8>, AllocError>
+    requires { Stands (directory_info format) directory.now.info.bytes.now (directory_items directory.now) }
+    ensures stands { IfOk result (λ info. Stands (directory_info format) info.items (new_directory new (directory_items directory.now))) }
+    ensures size { IfOk result (λ info. length info.items ≡ own_size new (directory_items directory.now)) }
+    ensures short { IfOk result (λ info. length info.items ≤ 65535) }
+{
+    are_bytes(directory.info().bytes);
+    let mut info = Vec::new(alloc);
+    put_directory(directory, size_count(format), new, &mut info)?;
+    Ok(info)
+}
+
+/// How many components the Directory has a size for.
+fn size_count(format: Format) -> u8
+    ensures { result ≡ size_count format }
+{
+    match format {
+        Format::V21 => 11,
+        Format::V22 => 12,
     }
 }

@@ -8,8 +8,8 @@ use Rattle.cap_frame.specs.Tags.{index_aid}
 use Rattle.cap_frame.specs.DirectoryFormat.{Custom, is_new_tag, and_that_of}
 use Rattle.cap_laying.specs.WrittenDirectory.{AreCustoms}
 use Rattle.cap_laying.specs.NewDirectory.{drops, stays_in_index, index_entry, new_customs}
-use Rattle.cap_laying.specs.declared.sizes.IndexChange.{IndexChange}
-use Rattle.cap_laying.specs.declared.sizes.IndexChange.TheVariants.{Kept, Dropped, Written}
+use Rattle.cap_laying.specs.declared.writing.IndexChange.{IndexChange}
+use Rattle.cap_laying.specs.declared.writing.IndexChange.TheVariants.{Kept, Dropped, Written}
 
 abbrev pub has_tag : ℕ → Custom → Bool
 has_tag tag c = c.tag == tag

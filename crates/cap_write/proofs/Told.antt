@@ -29,7 +29,7 @@ use Rattle.law_package.proofs.Lists.{Each, Has, each_at, none_each}
 use Rattle.cap_package.proofs.Agreed.{agrees}
 use Rattle.law_package.proofs.Sized.{directory_read}
 use Rattle.cap_laying.specs.NewDirectory.{new_size, sizes_from}
-use Rattle.cap_laying.specs.declared.sizes.ComponentSizes.{ComponentSizes}
+use Rattle.cap_laying.specs.declared.writing.ComponentSizes.{ComponentSizes}
 use Rattle.cap_laying.proofs.Kept.{size_known}
 use Rattle.cap_laying.proofs.NewStands.{sizes_counted}
 use Rattle.cap_write.proofs.Customs.{has_tag}

@@ -19,7 +19,7 @@ use Rattle.cap_renewal.specs.DescriptorEdits.{descriptor_edits, renewed_descript
 use Rattle.cap_renewal.specs.ExportEdits.{export_edits, renewed_exported}
 use Rattle.cap_renewal.specs.PoolEdits.{pool_edits, renewed_entry}
 use Rattle.cap_renewal.specs.Files.{IsRenewed, IsRenewedIf, file_bytes}
-use Rattle.cap_laying.specs.declared.sizes.ComponentSizes.{ComponentSizes}
+use Rattle.cap_laying.specs.declared.writing.ComponentSizes.{ComponentSizes}
 use Rattle.cap_laying.specs.NewDirectory.{new_directory, own_size}
 use Rattle.cap_laying.specs.declared.method_component.Written.{Written}
 use Rattle.cap_write.specs.declared.index.NewIndex.{NewIndex}

@@ -5,8 +5,8 @@ use Rattle.cap_package.specs.Customs.{CustomItems, custom_in}
 use Rattle.cap_components.specs.PackageRecord.{PackageRecord}
 use Rattle.jc_decode.specs.declared.symbols.Laid.{Laid}
 use Rattle.cap_index.specs.TargetIndex.{IsIndexOf}
-use Rattle.cap_laying.specs.declared.sizes.IndexChange.{IndexChange}
-use Rattle.cap_laying.specs.declared.sizes.IndexChange.TheVariants as change
+use Rattle.cap_laying.specs.declared.writing.IndexChange.{IndexChange}
+use Rattle.cap_laying.specs.declared.writing.IndexChange.TheVariants as change
 use Rattle.cap_write.specs.declared.index.NewIndex.{NewIndex}
 use Rattle.cap_write.specs.declared.index.NewIndex.TheVariants as variant
 

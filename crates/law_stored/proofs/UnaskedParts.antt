@@ -17,7 +17,7 @@ use Rattle.cap_components.specs.Parts.{Lent, held}
 use Rattle.cap_components.specs.Saying.{Says, SaysIf}
 use Rattle.cap_components.proofs.Saying.{part_read}
 use Rattle.cap_package.specs.StandsFor.{StandsFor}
-use Rattle.cap_laying.specs.declared.sizes.ComponentSizes.{ComponentSizes}
+use Rattle.cap_laying.specs.declared.writing.ComponentSizes.{ComponentSizes}
 use Rattle.cap_laying.specs.Members.{new_places, written_info}
 use Rattle.cap_laying.specs.NewDirectory.{new_directory, new_customs}
 use Rattle.cap_laying.specs.References.{written_references}

@@ -1,5 +1,0 @@
-use Rattle.cap_laying.proofs.Components.{components_stand}
-use Rattle.cap_laying.proofs.reference_locations.components_stand.Goals as goal
-
-pub returns : goal.returns
-returns c = components_stand
