@@ -6,8 +6,8 @@ use Rattle.cap_laying.specs.declared.member.WrittenMember.{WrittenMember}
 use Rattle.cap_laying.specs.Members.{MayBeWritten, written_size}
 use Rattle.law_package.specs.Changes.{sources}
 use Rattle.law_package.specs.Writing.{AreMembersOf}
-use Rattle.cap_write.specs.declared.end.WriteEnd.{WriteEnd}
-use Rattle.cap_write.specs.declared.end.WriteEnd.TheVariants.{PartLong, Memory}
+use Rattle.cap_write.specs.declared.files.WriteEnd.{WriteEnd}
+use Rattle.cap_write.specs.declared.files.WriteEnd.TheVariants.{PartLong, Memory}
 use Rattle.cap_write.specs.Described.{member_seen}
 use Rattle.cap_write.specs.PlainComponent.{plain_component}
 

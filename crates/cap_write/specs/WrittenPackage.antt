@@ -16,8 +16,8 @@ use Rattle.cap_laying.specs.Member.{by_offset}
 use Rattle.cap_laying.specs.Members.{new_places, start_of, written_info, written_size}
 use Rattle.cap_laying.specs.References.{block_catches, method_indices, written_references}
 use Rattle.cap_laying.specs.Standing.{AllStand}
-use Rattle.cap_write.specs.declared.end.WriteEnd.{WriteEnd}
-use Rattle.cap_write.specs.declared.end.WriteEnd.TheVariants.{PartLong, Memory}
+use Rattle.cap_write.specs.declared.files.WriteEnd.{WriteEnd}
+use Rattle.cap_write.specs.declared.files.WriteEnd.TheVariants.{PartLong, Memory}
 use Rattle.cap_write.specs.WrittenMethods.{AreMembersFor, IsLong}
 use Rattle.cap_write.specs.NewIndex.{Index, IsNewIndex}
 use Rattle.cap_write.specs.Files.{IsAppletFile, IsClassFile, IsDescriptorFile, IsDirectoryFile, IsExportFile, IsFramed, IsPoolFile}

@@ -1,14 +1,15 @@
-ghost use Rattle.std.specs.Prelude.{◌≡◌, IfOk};
+ghost use Rattle.std.specs.Prelude.{◌≡◌, IfOk, IsNone, OnOk};
 ghost use Rattle.cap_components.specs.Parts.{held};
 ghost use Rattle.cap_renewal.specs.Files.{file_seen};
 ghost use Rattle.cap_write.specs.Files.{AreShortInfos, IsFileOf, index_file};
 ghost use Rattle.cap_write.specs.NewIndex.{IsShortIndex, index_seen};
+ghost use Rattle.cap_write.specs.Filed.{AreFiled, PutsFile};
 
-use crate::directory::directory_file;
 use crate::index::NewIndex;
+use crate::write::directory_file;
 use cap_bytes::Part;
 use cap_laying::Written;
-use cap_package::{Package, Parts};
+use cap_package::{OwnedParts, Package, Parts};
 use cap_renewal::{applet_file, class_file, descriptor_file, export_file, file_of, pool_file};
 use std::alloc::{AllocError, Global};
 
@@ -62,5 +63,60 @@ fn kept_file(alloc: Global, parts: &Parts<'_>, tag: u8) -> Result<Option<Vec<u8>
     match parts.get(Part(tag)) {
         Some(bytes) => Ok(Some(bytes.to_vec(alloc)?)),
         None => Ok(None),
+    }
+}
+
+/// The parts of a package with these methods and this target index, by rising tag.
+pub(crate) fn all_parts(
+    alloc: Global,
+    package: &Package<'_, '_>,
+    written: &Written,
+    index: &NewIndex,
+) -> Result<OwnedParts, AllocError>
+    requires { AreShortInfos written.now index.now }
+    ensures { IfOk result (AreFiled (IsFileOf «package».now written.now index.now) 256) }
+{
+    let mut parts = OwnedParts::new(alloc);
+    'tags: for tag in 0..256u16 {
+        put_part(alloc, package, written, index, tag as u8, &mut parts)?;
+    }
+    Ok(parts)
+}
+
+/// Appends the part with a tag, if there is one.
+fn put_part(
+    alloc: Global,
+    package: &Package<'_, '_>,
+    written: &Written,
+    index: &NewIndex,
+    tag: u8,
+    parts: &mut OwnedParts,
+) -> Result<(), AllocError>
+    requires short { AreShortInfos written.now index.now }
+    requires absent { IsNone (held parts.old tag) }
+    ensures { OnOk result (PutsFile (IsFileOf «package».now written.now index.now tag) tag parts.old parts.new) }
+{
+    match file(alloc, package, written, index, tag)? {
+        Some(bytes) => parts.put(Part(tag), bytes),
+        None => Ok(()),
+    }
+}
+
+/// Why a package is not written.
+#[derive(Clone, Copy)]
+pub enum WriteEnd {
+    /// The info of the Method component would be above 65,535 bytes; with its plain size in bytes.
+    PartLong(u32),
+    Memory,
+}
+
+impl From<AllocError> for WriteEnd {
+    ghost use Rattle.std.specs.Prelude.{◌≡◌};
+    ghost use Rattle.cap_write.specs.declared.files.WriteEnd.TheVariants.{Memory};
+
+    ghost from_gives = { λ _ end. end ≡ Memory };
+
+    fn from(_error: AllocError) -> WriteEnd {
+        WriteEnd::Memory
     }
 }

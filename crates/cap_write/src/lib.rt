@@ -5,16 +5,11 @@
 //! that keep their length, and on `cap_index` for the target index.
 #![tactic(auto)]
 
-mod described;
-mod directory;
-mod end;
-mod facts;
 mod files;
 mod index;
 mod methods;
-mod parts;
 mod plain;
 mod write;
 
-pub use end::WriteEnd;
+pub use files::WriteEnd;
 pub use write::write_package;

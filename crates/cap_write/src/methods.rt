@@ -5,9 +5,8 @@ ghost use Rattle.cap_write.specs.Condition.{MayBeLaid};
 ghost use Rattle.cap_write.specs.SmallStacks.{HaveSmallStacks};
 ghost use Rattle.cap_write.specs.WrittenMethods.{AreMembersFor, TellsLong};
 
-use crate::described::members;
-use crate::end::WriteEnd;
-use crate::plain::plain_component;
+use crate::files::WriteEnd;
+use crate::plain::{members, plain_component};
 use cap_laying::{Written, WrittenMember};
 use cap_package::{Package, interface_offsets};
 use jc_decode::Laid;

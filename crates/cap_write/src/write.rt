@@ -1,16 +1,20 @@
-ghost use Rattle.std.specs.Prelude.{IfOk, IfErr};
+ghost use Rattle.std.specs.Prelude.{IfOk, IfErr, ◌≡◌};
 ghost use Rattle.cap_write.specs.Condition.{MayBeLaid};
 ghost use Rattle.cap_write.specs.WrittenPackage.{HaveRewritten, IsWritten, TellsWriteEnd};
+ghost use Rattle.cap_write.specs.Files.{AreShortInfos, IsDirectoryFile};
+ghost use Rattle.cap_write.specs.NewIndex.{IsShortIndex, change_of, index_seen};
+ghost use Rattle.cap_laying.specs.WrittenDirectory.{MayStand};
 
-use crate::end::WriteEnd;
-use crate::facts::directory_fits;
-use crate::index::new_index;
+use crate::files::{WriteEnd, all_parts};
+use crate::index::{NewIndex, new_index};
 use crate::methods::{members_of, write_methods};
-use crate::parts::all_parts;
+use cap_bytes::are_bytes;
+use cap_laying::{ComponentSizes, IndexChange, Written, directory_info};
 use cap_package::{OwnedParts, Package};
+use cap_renewal::file_of;
 use jc_decode::Laid;
 use law_package::{rewritten_is_a_package, writing_rewrites};
-use std::alloc::Global;
+use std::alloc::{AllocError, Global};
 
 /// Writes a package with other code of its methods, in its own format. The list has an element for each method record of
 /// the Descriptor, in its order: the code of the method, and None for one that is abstract or of an interface. The parts
@@ -41,4 +45,46 @@ pub fn write_package(
     let index = new_index(alloc, package, laid)?;
     let parts = all_parts(alloc, package, &written, &index)?;
     Ok(parts)
+}
+
+/// The file of the Directory of a package with these methods and this target index.
+pub(crate) fn directory_file(
+    alloc: Global,
+    package: &Package<'_, '_>,
+    written: &Written,
+    index: &NewIndex,
+) -> Result<Vec<u8>, AllocError>
+    requires { AreShortInfos written.now index.now }
+    ensures { IfOk result (λ file. IsDirectoryFile «package».now written.now.info.items
+        written.now.references.items (index_seen index.now) file.items) }
+{
+    let directory = package.directory();
+    let header = package.header();
+    let sizes = ComponentSizes {
+        methods: written.info.len() as u16,
+        references: written.references.len() as u16,
+        index: change_of(index),
+    };
+    let info = directory_info(alloc, &directory, header.format(), sizes)?;
+    file_of(alloc, 2, &info)
+}
+
+/// What becomes of the entry for the target index.
+fn change_of(index: &NewIndex) -> IndexChange
+    requires { IsShortIndex (index_seen index.now) }
+    ensures { result ≡ change_of (index_seen index.now) }
+{
+    match index {
+        NewIndex::Kept => IndexChange::Kept,
+        NewIndex::Dropped => IndexChange::Dropped,
+        NewIndex::Written(info) => IndexChange::Written(info.len() as u16),
+    }
+}
+
+/// The Directory of a package has numbers and tags that their items hold: a fact for proofs, and no work.
+pub(crate) fn directory_fits(package: &Package<'_, '_>)
+    ensures { MayStand «package».now.header.format «package».now.directory }
+{
+    let directory = package.directory();
+    are_bytes(directory.info().bytes);
 }

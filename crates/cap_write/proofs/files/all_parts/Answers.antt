@@ -1,6 +1,6 @@
 use Rattle.cap_write.specs.Files.{IsFileOf}
 use Rattle.cap_write.proofs.Risen.{filed_more}
-use Rattle.cap_write.proofs.parts.all_parts.Goals as goal
+use Rattle.cap_write.proofs.files.all_parts.Goals as goal
 
 pub tags-preserved : goal.tags-preserved
 tags-preserved c =

@@ -2,7 +2,7 @@ use Rattle.std.proofs.Common.{subst}
 use Rattle.cap_bytes.specs.declared.view.View.{View}
 use Rattle.cap_bytes.specs.Bytes.{AreBytes}
 use Rattle.cap_laying.proofs.ReadDirectory.{read_may_stand}
-use Rattle.cap_write.proofs.facts.directory_fits.Goals as goal
+use Rattle.cap_write.proofs.write.directory_fits.Goals as goal
 
 pub returns : goal.returns
 returns c =

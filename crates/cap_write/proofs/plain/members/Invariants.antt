@@ -4,7 +4,7 @@ use Rattle.cap_desc.specs.ClassRecords.{described_left}
 use Rattle.cap_desc.specs.Descriptors.{descriptor_seen}
 use Rattle.cap_write.specs.Described.{member_seen, seen_classes}
 use Rattle.cap_write.specs.SmallStacks.{HaveSmallStacks}
-use Rattle.cap_write.proofs.described.members.Given as goal
+use Rattle.cap_write.proofs.plain.members.Given as goal
 
 abbrev pub invariant-classes : goal.invariant-classes
 invariant-classes l = record {

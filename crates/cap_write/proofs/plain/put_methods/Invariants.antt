@@ -2,7 +2,7 @@ use Rattle.std.proofs.Common.{◌≡◌, ◌++◌, map}
 use Rattle.cap_desc.specs.MemberLists.{methods_left}
 use Rattle.cap_write.specs.Described.{member_seen, seen_methods}
 use Rattle.cap_write.specs.SmallStacks.{HaveSmallStacks}
-use Rattle.cap_write.proofs.described.put_methods.Given as goal
+use Rattle.cap_write.proofs.plain.put_methods.Given as goal
 
 abbrev pub invariant-methods : goal.invariant-methods
 invariant-methods l = record {
