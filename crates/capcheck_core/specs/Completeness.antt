@@ -20,7 +20,7 @@ use Rattle.cap_package.specs.StandsFor.{StandsFor}
 use Rattle.jc_base.specs.World.{Linked}
 use Rattle.jc_control.specs.Method.{Method}
 use Rattle.jc_control.specs.Asked.{IsOfLast}
-use Rattle.xf_pack.specs.declared.end.MethodLimit.{MethodLimit}
+use Rattle.xf_pack.specs.declared.transforming.MethodLimit.{MethodLimit}
 use Rattle.xf_pack.specs.Ends.{AreAcceptedLibraries, IsPartLong, IsTypedLast}
 use Rattle.xf_pack.specs.Limits.{PassesLimit}
 use Rattle.xf_share.specs.Ends.{IsSharedTooLong, IsSharedPartLong}

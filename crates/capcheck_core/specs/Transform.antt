@@ -6,8 +6,8 @@ use Rattle.cap_package.specs.PackageRecord.{PackageRecord}
 use Rattle.card_typing.specs.declared.fault.CardFault.{CardFault}
 use Rattle.jc_base.specs.World.{Linked}
 use Rattle.jc_flow.specs.declared.inference.FlowEnd.{FlowEnd}
-use Rattle.xf_pack.specs.declared.end.MethodLimit.{MethodLimit}
-use Rattle.xf_pack.specs.declared.end.MethodLimit.TheVariants.{Registers, StackLimit, MethodLong}
+use Rattle.xf_pack.specs.declared.transforming.MethodLimit.{MethodLimit}
+use Rattle.xf_pack.specs.declared.transforming.MethodLimit.TheVariants.{Registers, StackLimit, MethodLong}
 use Rattle.xf_pack.specs.Ends.{IsRefusedLibrary, IsUntypedLast, IsLimited, IsPartLong}
 use Rattle.xf_pack.specs.Transformed.{IsTransformed}
 use Rattle.cap_text.specs.declared.line.MethodNumber.{MethodNumber}

@@ -31,7 +31,7 @@ use Rattle.law_rewritten_typing.specs.Typed.{HasTypingByHomes}
 use Rattle.law_transform.specs.Laid.{IsLaidFor}
 use Rattle.xf_last.specs.Fits.{FitsMethod}
 use Rattle.xf_last.proofs.Passing.{method-of}
-use Rattle.xf_pack.specs.declared.end.MethodLimit.TheVariants as limits
+use Rattle.xf_pack.specs.declared.transforming.MethodLimit.TheVariants as limits
 use Rattle.xf_pack.specs.Limits.{HasHomes}
 use Rattle.xf_pack.specs.Passes.{IsRewrittenTo, IsTypedBy}
 use Rattle.xf_pack.specs.Unlaid.{IsUnlaid, TellsUnlaid, of_homes, of_layout, of_rewriting}

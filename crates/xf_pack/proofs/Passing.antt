@@ -15,7 +15,7 @@ use Rattle.jc_rules.specs.Flow.{HasFlowTyping}
 use Rattle.law_transform.specs.Laid.{HasLaidCode, IsLaidElement}
 use Rattle.xf_last.specs.Last.{BeginsLast}
 use Rattle.xf_last.proofs.Passing.{below-more}
-use Rattle.xf_pack.specs.declared.end.MethodLimit.{MethodLimit}
+use Rattle.xf_pack.specs.declared.transforming.MethodLimit.{MethodLimit}
 use Rattle.xf_pack.specs.declared.unlaid.LayingEnd.{LayingEnd}
 use Rattle.xf_pack.specs.Ends.{AreAcceptedLibraries, IsLimited, IsTypedLast, IsUntypedLast, TellsOf}
 use Rattle.xf_pack.specs.Passes.{IsKeptTyping, IsLaidAt, IsTypingAt}

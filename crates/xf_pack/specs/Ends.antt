@@ -20,9 +20,9 @@ use Rattle.law_relink.specs.Last.{and_last}
 use Rattle.jc_rules.specs.Demand.{Frame}
 use Rattle.jc_rules.specs.Flow.{HasFlowTyping}
 use Rattle.law_transform.specs.Laid.{AreLaidOf, HasLaidCode}
-use Rattle.xf_pack.specs.declared.end.MethodLimit.{MethodLimit}
-use Rattle.xf_pack.specs.declared.end.TransformEnd.{TransformEnd}
-use Rattle.xf_pack.specs.declared.end.TransformEnd.TheVariants.{Link, Library, Typing, Limit, PartLong, Memory}
+use Rattle.xf_pack.specs.declared.transforming.MethodLimit.{MethodLimit}
+use Rattle.xf_pack.specs.declared.transforming.TransformEnd.{TransformEnd}
+use Rattle.xf_pack.specs.declared.transforming.TransformEnd.TheVariants.{Link, Library, Typing, Limit, PartLong, Memory}
 use Rattle.xf_pack.specs.Limits.{PassesLimit}
 
 -- each method with code of the libraries has a card typing

@@ -12,8 +12,8 @@ use Rattle.xf_homes.specs.Answer.{TakeTooManyRegisters, IsTypingOf}
 use Rattle.xf_homes.specs.Order.{AreHomes, register_sum}
 use Rattle.xf_emission.specs.Emission.{AreSymbolsOf}
 use Rattle.xf_layout.specs.Shortest.{ReachesTooFar}
-use Rattle.xf_pack.specs.declared.end.MethodLimit.{MethodLimit}
-use Rattle.xf_pack.specs.declared.end.MethodLimit.TheVariants.{Registers, StackLimit, MethodLong}
+use Rattle.xf_pack.specs.declared.transforming.MethodLimit.{MethodLimit}
+use Rattle.xf_pack.specs.declared.transforming.MethodLimit.TheVariants.{Registers, StackLimit, MethodLong}
 
 -- the homes by the method's least typing take this many registers, more than a method may have
 pub record HasTooManyHomes (w : Linked) (m : Method) (n : ℕ) : Type 0 where

@@ -8,10 +8,10 @@ use Rattle.xf_code.specs.declared.rewriting.RewriteEnd.{RewriteEnd}
 use Rattle.xf_code.specs.declared.rewriting.RewriteEnd.TheVariants as rewriting
 use Rattle.xf_layout.specs.declared.laying.LayEnd.{LayEnd}
 use Rattle.xf_layout.specs.declared.laying.LayEnd.TheVariants as layout
-use Rattle.xf_pack.specs.declared.end.MethodLimit.{MethodLimit}
-use Rattle.xf_pack.specs.declared.end.MethodLimit.TheVariants.{Registers, StackLimit, MethodLong}
-use Rattle.xf_pack.specs.declared.end.TransformEnd.{TransformEnd}
-use Rattle.xf_pack.specs.declared.end.TransformEnd.TheVariants as ends
+use Rattle.xf_pack.specs.declared.transforming.MethodLimit.{MethodLimit}
+use Rattle.xf_pack.specs.declared.transforming.MethodLimit.TheVariants.{Registers, StackLimit, MethodLong}
+use Rattle.xf_pack.specs.declared.transforming.TransformEnd.{TransformEnd}
+use Rattle.xf_pack.specs.declared.transforming.TransformEnd.TheVariants as ends
 use Rattle.xf_pack.specs.declared.unlaid.LayingEnd.{LayingEnd}
 use Rattle.xf_pack.specs.declared.unlaid.LayingEnd.TheVariants.{Passed, Memory}
 use Rattle.xf_pack.specs.Limits.{PassesLimit}

@@ -5,8 +5,8 @@ use Rattle.jc_control.specs.Method.{Method, IsMethodOf, method_in}
 use Rattle.jc_flow.specs.declared.inference.FlowEnd.{FlowEnd}
 use Rattle.jc_flow.specs.declared.inference.FlowEnd.TheVariants as flow
 use Rattle.jc_flow.specs.Infer.{LacksTyping, TellsEnd}
-use Rattle.xf_pack.specs.declared.end.TransformEnd.{TransformEnd}
-use Rattle.xf_pack.specs.declared.end.TransformEnd.TheVariants.{Typing, Memory}
+use Rattle.xf_pack.specs.declared.transforming.TransformEnd.{TransformEnd}
+use Rattle.xf_pack.specs.declared.transforming.TransformEnd.TheVariants.{Typing, Memory}
 
 -- the method has code, and the end says why it has no typing
 pub record IsUntyped (w : Linked) (end : FlowEnd) (m : Method) : Type 0 where

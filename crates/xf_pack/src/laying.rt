@@ -9,7 +9,7 @@ ghost use Rattle.xf_last.specs.Last.{BeginsLast, EachFrom};
 ghost use Rattle.xf_pack.specs.Passes.{IsLaidAt, IsRewrittenTo, IsTypedBy, IsTypingAt};
 ghost use Rattle.xf_pack.specs.Unlaid.{TellsUnlaid};
 
-use crate::end::TransformEnd;
+use crate::transforming::TransformEnd;
 use crate::unlaid::{LayingEnd, unlaid};
 use cap_bytes::View;
 use jc_base::World;

@@ -4,13 +4,10 @@
 //! writes the package.
 #![tactic(auto)]
 
-mod end;
 mod laying;
-mod libraries;
 mod transforming;
 mod typing;
 mod unlaid;
 mod writing;
 
-pub use end::{MethodLimit, TransformEnd};
-pub use transforming::{transform, transform_linked};
+pub use transforming::{MethodLimit, TransformEnd, transform, transform_linked};

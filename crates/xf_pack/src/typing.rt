@@ -5,7 +5,7 @@ ghost use Rattle.xf_last.specs.Last.{BeginsLast, EachFrom};
 ghost use Rattle.xf_pack.specs.Passes.{IsTypingAt};
 ghost use Rattle.xf_pack.specs.Untyped.{HasNoTyping, untyped};
 
-use crate::end::TransformEnd;
+use crate::transforming::TransformEnd;
 use jc_base::World;
 use jc_flow::{FlowEnd, infer};
 use jc_rules::Typing;

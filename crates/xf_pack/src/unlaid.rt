@@ -1,7 +1,7 @@
 ghost use Rattle.std.specs.Prelude.{◌≡◌};
 ghost use Rattle.xf_pack.specs.Unlaid.{unlaid};
 
-use crate::end::{MethodLimit, TransformEnd};
+use crate::transforming::{MethodLimit, TransformEnd};
 use xf_code::RewriteEnd;
 use xf_homes::HomeEnd;
 use xf_layout::LayEnd;

@@ -5,7 +5,7 @@ ghost use Rattle.xf_last.specs.Last.{BeginsLast, EachFrom};
 ghost use Rattle.xf_pack.specs.Passes.{IsLaidAt};
 ghost use Rattle.xf_pack.specs.Transformed.{IsTransformed};
 
-use crate::end::TransformEnd;
+use crate::transforming::TransformEnd;
 use cap_package::{OwnedParts, Packages};
 use cap_write::{WriteEnd, write_package};
 use jc_base::World;

@@ -4,7 +4,7 @@ use Rattle.cap_package.specs.PackageRecord.{PackageRecord}
 use Rattle.cap_package.specs.Parts.{Lent}
 use Rattle.jc_base.specs.World.{Linked}
 use Rattle.jc_link.specs.World.{IsLinked}
-use Rattle.xf_pack.specs.declared.end.TransformEnd.{TransformEnd}
+use Rattle.xf_pack.specs.declared.transforming.TransformEnd.{TransformEnd}
 use Rattle.xf_pack.specs.Transformed.{AreTransformed, IsTransformed}
 use Rattle.xf_pack.proofs.transforming.transform.Goals as goal
 

@@ -3,7 +3,7 @@ use Rattle.std.proofs.Common.{refl, arith}
 use Rattle.card_verify.proofs.Answering.{accepted-more}
 use Rattle.jc_control.specs.Method.{method_with}
 use Rattle.xf_last.proofs.Passing.{below-carded, library-below, refused-method}
-use Rattle.xf_pack.proofs.libraries.accept_libraries.Goals as goal
+use Rattle.xf_pack.proofs.transforming.accept_libraries.Goals as goal
 
 pub returns-in-Err-clause-end : goal.returns-in-Err-clause-end
 returns-in-Err-clause-end c = λ ps.
