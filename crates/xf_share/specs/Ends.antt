@@ -19,8 +19,8 @@ use Rattle.law_renumbered.specs.Numbers.{AreNumbersOf}
 use Rattle.law_renumbered.specs.Symbols.{renumbered_method}
 use Rattle.law_shared_world.specs.SharedCode.{AreSharedOf, HasSharedCode}
 use Rattle.xf_layout.specs.Shortest.{ReachesTooFar}
-use Rattle.xf_share.specs.declared.end.ShareEnd.{ShareEnd}
-use Rattle.xf_share.specs.declared.end.ShareEnd.TheVariants.{Link, Refused, MethodLong, PartLong, Memory}
+use Rattle.xf_share.specs.declared.sharing.ShareEnd.{ShareEnd}
+use Rattle.xf_share.specs.declared.sharing.ShareEnd.TheVariants.{Link, Refused, MethodLong, PartLong, Memory}
 
 -- each method with code has a card typing
 abbrev pub HaveCardTypings : Linked → Type 0

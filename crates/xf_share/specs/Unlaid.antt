@@ -8,8 +8,8 @@ use Rattle.law_renumbered.specs.Symbols.{renumbered_method}
 use Rattle.xf_layout.specs.declared.laying.LayEnd.{LayEnd}
 use Rattle.xf_layout.specs.declared.laying.LayEnd.TheVariants.{MethodLong, Memory}
 use Rattle.xf_layout.specs.Shortest.{ReachesTooFar}
-use Rattle.xf_share.specs.declared.end.ShareEnd.{ShareEnd}
-use Rattle.xf_share.specs.declared.end.ShareEnd.TheVariants as ends
+use Rattle.xf_share.specs.declared.sharing.ShareEnd.{ShareEnd}
+use Rattle.xf_share.specs.declared.sharing.ShareEnd.TheVariants as ends
 
 -- the method has code, which is too long with the numbers that its variables share, and its plain size is this
 pub record IsSharedLong (w : Linked) (n : ℕ) (m : Method) : Type 0 where

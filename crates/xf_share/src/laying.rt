@@ -8,11 +8,10 @@ ghost use Rattle.xf_share.specs.Numbering.{IsRenumbered, number_of};
 ghost use Rattle.xf_last.specs.Fits.{FitsMethod};
 ghost use Rattle.xf_last.specs.Last.{BeginsLast, EachFrom};
 ghost use Rattle.xf_share.specs.Passes.{IsSharedAt};
-ghost use Rattle.xf_share.specs.Unlaid.{TellsUnlaid};
+ghost use Rattle.xf_share.specs.Unlaid.{TellsUnlaid, unlaid};
 
-use crate::end::ShareEnd;
-use crate::renumbering::symbols_of;
-use crate::unlaid::unlaid;
+use crate::numbering::symbols_of;
+use crate::sharing::ShareEnd;
 use cap_bytes::{View, are_bytes};
 use card_verify::verify_method;
 use jc_base::{Ty, World};
@@ -143,5 +142,15 @@ fn are_small(sharing: &Option<Sharing>)
 {
     if let Some(sharing) = sharing {
         are_bytes(sharing.numbers.as_slice());
+    }
+}
+
+/// What is told of a method for which no code is laid.
+pub(crate) fn unlaid(method: u16, end: LayEnd) -> ShareEnd
+    ensures { result ≡ unlaid method end }
+{
+    match end {
+        LayEnd::MethodLong(n) => ShareEnd::MethodLong { method, n },
+        LayEnd::Memory => ShareEnd::Memory,
     }
 }

@@ -6,17 +6,12 @@
 //! `cap_write`, and on the laws of worlds with such packages, of `law_shared_world`.
 #![tactic(auto)]
 
-mod accepting;
-mod end;
 mod fewer;
 mod items;
 mod laying;
 mod numbering;
-mod renumbering;
 mod sharing;
-mod unlaid;
 mod writing;
 
-pub use end::ShareEnd;
 pub use fewer::Fewer;
-pub use sharing::{share, share_linked};
+pub use sharing::{ShareEnd, share, share_linked};

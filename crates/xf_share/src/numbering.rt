@@ -1,9 +1,14 @@
-ghost use Rattle.std.specs.Prelude.{◌≡◌};
+ghost use Rattle.std.specs.Prelude.{◌≡◌, map, IfOk};
 ghost use Rattle.jc_decode.specs.Forms.{with_operand};
 ghost use Rattle.law_renumbered.specs.Instruction.{uses_register, renumbered_instruction};
-ghost use Rattle.xf_share.specs.Numbering.{number_of};
+ghost use Rattle.xf_share.specs.Numbering.{number_of, IsReadable, locals_of, symbols_of};
+ghost use Rattle.law_renumbered.specs.Symbols.{range_of};
 
-use jc_decode::Insn;
+use crate::items::items;
+use cap_bytes::View;
+use jc_base::{Handler, MethodRec};
+use jc_decode::{Insn, Range, Sequence, Symbols};
+use std::alloc::{AllocError, Global};
 use xf_allot::Sharing;
 
 /// An instruction with the register that it names, if any, under its new number.
@@ -60,4 +65,57 @@ fn with_operand(insn: Insn) -> Insn
         };
     }
     insn
+}
+
+/// A method's code with a label at each place, in which its registers have the numbers that its variables share.
+pub(crate) fn symbols_of(
+    alloc: Global,
+    rec: &MethodRec,
+    code: View<'_>,
+    sharing: &Option<Sharing>,
+) -> Result<Symbols, AllocError>
+    requires { IsReadable code.bytes.now }
+    ensures { IfOk result (λ symbols. symbols ≡ symbols_of rec.now code.entry.bytes.now sharing.now) }
+{
+    let items = items(alloc, code, sharing)?;
+    let ranges = ranges(alloc, rec.handlers.as_slice())?;
+    Ok(Symbols {
+        items: Sequence::of(items),
+        ranges: Sequence::of(ranges),
+        max_stack: rec.max_stack,
+        nargs: rec.nargs,
+        max_locals: locals_of(rec, sharing),
+    })
+}
+
+// The ranges of handlers, in their order.
+fn ranges(alloc: Global, handlers: &[Handler]) -> Result<Vec<Range>, AllocError>
+    ensures { IfOk result (λ ranges. ranges.items ≡ map range_of handlers.now) }
+{
+    let mut ranges = Vec::new(alloc);
+    'handlers: for handler in handlers {
+        ranges.push(range_of(*handler))?;
+    }
+    Ok(ranges)
+}
+
+fn range_of(handler: Handler) -> Range
+    ensures { result ≡ range_of handler }
+{
+    Range {
+        from: handler.start,
+        to: handler.end,
+        entry: handler.entry,
+        pool: handler.index,
+    }
+}
+
+// How many registers the method then has beyond its arguments.
+fn locals_of(rec: &MethodRec, sharing: &Option<Sharing>) -> u8
+    ensures { result ≡ locals_of rec.now sharing.now }
+{
+    match sharing {
+        Some(sharing) => sharing.locals,
+        None => rec.max_locals,
+    }
 }

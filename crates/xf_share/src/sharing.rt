@@ -1,16 +1,16 @@
-ghost use Rattle.std.specs.Prelude.{IfErr, IfOk};
+ghost use Rattle.std.specs.Prelude.{IfErr, IfOk, List, OnOk};
 ghost use Rattle.jc_link.specs.World.{IsLinked};
-ghost use Rattle.xf_share.specs.Ends.{TellsOf, TellsShare};
+ghost use Rattle.xf_share.specs.Ends.{TellsOf, TellsShare, HaveCardTypings};
 ghost use Rattle.xf_share.specs.Shared.{AreShared, IsSharedFrom};
+ghost use Rattle.cap_package.specs.PackageRecord.{PackageRecord};
 
-use crate::accepting::accept_all;
-use crate::end::ShareEnd;
 use crate::fewer::Fewer;
 use crate::laying::lay_last;
 use crate::writing::write_last;
 use cap_package::{OwnedParts, Packages};
+use card_verify::{CardFault, CardRoom, accept};
 use jc_base::World;
-use jc_link::{LinkEnd, link};
+use jc_link::{LinkEnd, LinkFault, link};
 use std::alloc::Global;
 use xf_last::first_of_last;
 
@@ -53,4 +53,32 @@ pub fn share_linked(
     let first = first_of_last(world);
     let laid = lay_last(alloc, world, first)?;
     write_last(alloc, packages, roles, world, first, laid.as_slice())
+}
+
+/// Verifies each method with code as a card does, in the order of their numbers. It takes no memory.
+pub(crate) fn accept_all(world: &World<'_>) -> Result<(), ShareEnd>
+    ensures accepted { OnOk result (HaveCardTypings world.now) }
+    ensures end { IfErr result (λ end. (packages : List PackageRecord) → TellsOf packages world.now end) }
+{
+    // Every fact on the world.
+    let _classes = world.classes();
+    match accept(world, &mut CardRoom::new()) {
+        Ok(_) => Ok(()),
+        Err((method, fault)) => Err(ShareEnd::Refused { method, fault }),
+    }
+}
+
+/// Why the registers of a package are not shared, in the order in which it is tried.
+#[derive(Clone, Copy)]
+pub enum ShareEnd {
+    /// The packages make no world.
+    Link(LinkFault),
+    /// A method has no card typing.
+    Refused { method: u16, fault: CardFault },
+    /// The code of a method of the last package would be above 32,767 bytes; `n` is its plain size.
+    MethodLong { method: u16, n: u32 },
+    /// The info of the Method component would be above 65,535 bytes; the number is its plain size.
+    PartLong(u32),
+    /// There is no memory.
+    Memory,
 }

@@ -5,8 +5,8 @@ ghost use Rattle.xf_last.specs.Last.{BeginsLast, EachFrom};
 ghost use Rattle.xf_share.specs.Passes.{IsSharedAt};
 ghost use Rattle.xf_share.specs.Shared.{IsSharedFrom};
 
-use crate::end::ShareEnd;
 use crate::fewer::{Fewer, laid_locals, locals_of_last};
+use crate::sharing::ShareEnd;
 use cap_package::Packages;
 use cap_write::{WriteEnd, write_package};
 use jc_base::World;

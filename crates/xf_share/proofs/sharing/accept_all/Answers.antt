@@ -3,7 +3,7 @@ use Rattle.std.proofs.Common.{refl, subst}
 use Rattle.card_verify.specs.Answers.{AreAccepted}
 use Rattle.jc_control.specs.Method.{method_with}
 use Rattle.xf_last.proofs.Passing.{all-carded, below-carded, refused-method}
-use Rattle.xf_share.proofs.accepting.accept_all.Goals as goal
+use Rattle.xf_share.proofs.sharing.accept_all.Goals as goal
 
 pub returns-in-Ok-clause-accepted : goal.returns-in-Ok-clause-accepted
 returns-in-Ok-clause-accepted c = all-carded c.args.world.now (subst AreAccepted c.in-Ok.ensures.world c.in-Ok.ensures.accepted)
