@@ -2,6 +2,7 @@ ghost use Rattle.std.specs.Prelude.{◌≡◌, ◌∷◌, ◌++◌, [], IsNone, 
 ghost use Rattle.cap_components.specs.Parts.{held};
 ghost use Rattle.cap_gen.specs.Generated.{generated_parts};
 ghost use Rattle.cap_gen.specs.Plain.{first_parts};
+ghost use Rattle.cap_gen.specs.GeneratedPackage.{MethodsAreTyped, GeneratedMethodsStand, PackagesLink, PartsStand, WorldsAreTyped};
 
 use crate::described::descriptor_file;
 use crate::methods::method_file;
@@ -49,3 +50,24 @@ pub fn generate(alloc: Global, seed: u32) -> Result<OwnedParts, AllocError>
     parts.put(Part(11), descriptor_file(alloc)?)?;
     Ok(parts)
 }
+
+/// The parts that are generated stand for a package.
+pub fn parts_stand()
+    ensures { PartsStand }
+{}
+
+/// Its methods and their handlers stand where the Descriptor tells.
+pub fn methods_stand()
+    ensures { GeneratedMethodsStand }
+{}
+
+/// A method of each kind has a dataflow typing in every world, whatever its constants are.
+pub fn methods_are_typed()
+    ensures { MethodsAreTyped }
+{}
+
+/// The package alone makes a world, in which each method has a dataflow typing.
+pub fn packages_link()
+    ensures links { PackagesLink }
+    ensures typed { WorldsAreTyped }
+{}

@@ -3,10 +3,10 @@
 #![tactic(auto)]
 
 mod described;
-mod generated_package;
 mod generating;
 mod methods;
 mod plain;
 
-pub use generated_package::{methods_are_typed, methods_stand, packages_link, parts_stand};
-pub use generating::{ROLES, generate};
+pub use generating::{
+    ROLES, generate, methods_are_typed, methods_stand, packages_link, parts_stand,
+};

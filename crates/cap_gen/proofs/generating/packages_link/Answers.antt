@@ -1,6 +1,6 @@
 use Rattle.cap_gen.proofs.Linking.{packages_link}
 use Rattle.cap_gen.proofs.Alone.{worlds_typed}
-use Rattle.cap_gen.proofs.generated_package.packages_link.Goals as goal
+use Rattle.cap_gen.proofs.generating.packages_link.Goals as goal
 
 pub returns-clause-links : goal.returns-clause-links
 returns-clause-links c = packages_link

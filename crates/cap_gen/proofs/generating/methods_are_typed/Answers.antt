@@ -1,5 +1,5 @@
 use Rattle.cap_gen.proofs.Typed.{kind_typed}
-use Rattle.cap_gen.proofs.generated_package.methods_are_typed.Goals as goal
+use Rattle.cap_gen.proofs.generating.methods_are_typed.Goals as goal
 
 pub returns : goal.returns
 returns c = kind_typed

@@ -1,5 +1,5 @@
 use Rattle.cap_gen.proofs.Placed.{methods_stand}
-use Rattle.cap_gen.proofs.generated_package.methods_stand.Goals as goal
+use Rattle.cap_gen.proofs.generating.methods_stand.Goals as goal
 
 pub returns : goal.returns
 returns c = methods_stand
