@@ -4,8 +4,8 @@
 //! make, and on `law_laid`, which says what worlds are that differ in code alone.
 #![tactic(auto)]
 
-mod names_again;
 mod world_again;
 
-pub use names_again::{classes_link, name_conditions_stay, names_link};
-pub use world_again::{laid_methods_stand, links_again};
+pub use world_again::{
+    classes_link, laid_methods_stand, links_again, name_conditions_stay, names_link,
+};

@@ -1,5 +1,5 @@
 use Rattle.law_relink.proofs.Names.{met_same, named_same}
-use Rattle.law_relink.proofs.names_again.names_link.Goals as goal
+use Rattle.law_relink.proofs.world_again.names_link.Goals as goal
 
 pub returns : goal.returns
 returns c = λ ps p q laid r. record {

@@ -1,5 +1,5 @@
 use Rattle.law_relink.proofs.Conditions.{conditions_same}
-use Rattle.law_relink.proofs.names_again.name_conditions_stay.Goals as goal
+use Rattle.law_relink.proofs.world_again.name_conditions_stay.Goals as goal
 
 pub returns : goal.returns
 returns c = conditions_same
