@@ -6,7 +6,5 @@
 #![tactic(auto)]
 
 mod accepted_world;
-mod like_endings;
 
-pub use accepted_world::{codes_are_bytes, laid_is_accepted};
-pub use like_endings::{laid_end_alike, worlds_end_alike};
+pub use accepted_world::{codes_are_bytes, laid_end_alike, laid_is_accepted, worlds_end_alike};

@@ -1,5 +1,5 @@
 use Rattle.law_transform.proofs.Laid.{laid-are-counterparts, laid-end-alike}
-use Rattle.law_transform.proofs.like_endings.laid_end_alike.Goals as goal
+use Rattle.law_transform.proofs.accepted_world.laid_end_alike.Goals as goal
 
 pub returns-clause-counterparts : goal.returns-clause-counterparts
 returns-clause-counterparts c =

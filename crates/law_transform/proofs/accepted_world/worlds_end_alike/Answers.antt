@@ -1,7 +1,7 @@
 use Rattle.law_transform.proofs.Beginning.{counterparts-end-alike, starts-are-met, steps-are-met}
 use Rattle.law_transform.proofs.Typed.{AreLaws}
-use Rattle.law_transform.proofs.like_endings.worlds_end_alike.Goals as goal
-use Rattle.law_transform.proofs.like_endings.worlds_end_alike.Goals.{After-records}
+use Rattle.law_transform.proofs.accepted_world.worlds_end_alike.Goals as goal
+use Rattle.law_transform.proofs.accepted_world.worlds_end_alike.Goals.{After-records}
 
 laws : (c : After-records) → AreLaws c.args.world.now
 laws c =
