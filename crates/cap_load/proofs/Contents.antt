@@ -5,7 +5,7 @@ use Rattle.std.specs.Prelude.{nat_le}
 use Rattle.cap_load.specs.declared.fault.StreamFault.{StreamFault}
 use Rattle.cap_load.specs.Reading.{shown}
 use Rattle.cap_load.specs.Loaded.{Loaded}
-use Rattle.cap_load.specs.declared.block.Block.TheVariants.{Left}
+use Rattle.cap_load.specs.declared.loader.Block.TheVariants.{Left}
 use Rattle.cap_load.specs.Taking.{content_fault, fault_by, or_full}
 
 none_full : (found : Option StreamFault) (loaded : Loaded) → or_full found loaded ≡ None → (length loaded.contents < loaded.room) × (found ≡ None)

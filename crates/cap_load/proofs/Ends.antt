@@ -6,12 +6,12 @@ use Rattle.std.specs.List.{AllByRecursion, concat}
 use Rattle.cap_components.specs.Parts.{Lent}
 use Rattle.cap_load.specs.declared.fault.StreamFault.{StreamFault}
 use Rattle.cap_load.specs.declared.fault.StreamFault.TheVariants.{Unfinished}
-use Rattle.cap_load.specs.declared.finish_end.FinishEnd.{FinishEnd}
-use Rattle.cap_load.specs.declared.finish_end.FinishEnd.TheVariants.{Fault, Memory}
+use Rattle.cap_load.specs.declared.fault.FinishEnd.{FinishEnd}
+use Rattle.cap_load.specs.declared.fault.FinishEnd.TheVariants.{Fault, Memory}
 use Rattle.cap_load.specs.declared.component.Next.TheVariants.{Tag}
 use Rattle.cap_load.specs.declared.component.Reading.{Reading}
-use Rattle.cap_load.specs.declared.block.Block.{Block}
-use Rattle.cap_load.specs.declared.block.Block.TheVariants.{Left, Ended}
+use Rattle.cap_load.specs.declared.loader.Block.{Block}
+use Rattle.cap_load.specs.declared.loader.Block.TheVariants.{Left, Ended}
 use Rattle.cap_load.specs.LoadFile.{IsBlock, stream_of, files_of, IsLoadFileWithin}
 use Rattle.cap_load.specs.Fault.{HasEnded, IsUnfinished, IsFirst, IsRefused}
 use Rattle.cap_load.specs.Loaded.{Loaded, IsFront, IsRead, StandsBy, StandsFor}

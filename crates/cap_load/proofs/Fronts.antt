@@ -7,8 +7,8 @@ use Rattle.std.proofs.lemmas.List.Folds.{concat-append}
 use Rattle.std.proofs.lemmas.Bool.{eqb-true, eqb-false, cond_both}
 use Rattle.std.specs.Prelude.{◌==◌}
 use Rattle.std.specs.List.{AllByRecursion, concat}
-use Rattle.cap_load.specs.declared.block.Block.{Block}
-use Rattle.cap_load.specs.declared.block.Block.TheVariants.{Left, Ended}
+use Rattle.cap_load.specs.declared.loader.Block.{Block}
+use Rattle.cap_load.specs.declared.loader.Block.TheVariants.{Left, Ended}
 use Rattle.cap_load.specs.LoadFile.{block, IsBlock, in_blocks}
 use Rattle.cap_load.specs.Fault.{GoesOn, HasEnded}
 use Rattle.cap_load.specs.Loaded.{IsLeft, IsFront}

@@ -10,8 +10,8 @@ use Rattle.cap_load.specs.declared.fault.StreamFault.TheVariants.{NoTag, Order, 
 use Rattle.cap_load.specs.declared.component.Next.{Next}
 use Rattle.cap_load.specs.declared.component.Next.TheVariants.{Tag, High, Low, Info}
 use Rattle.cap_load.specs.declared.component.Reading.{Reading}
-use Rattle.cap_load.specs.declared.block.Block.{Block}
-use Rattle.cap_load.specs.declared.block.Block.TheVariants.{Left, Ended}
+use Rattle.cap_load.specs.declared.loader.Block.{Block}
+use Rattle.cap_load.specs.declared.loader.Block.TheVariants.{Left, Ended}
 use Rattle.cap_load.specs.Order.{place, comes_before}
 use Rattle.cap_load.specs.LoadFile.{tag_of, files_of}
 use Rattle.cap_load.specs.Fault.{number, GoesOn, Begins, Follows, HasEnded, Shows}

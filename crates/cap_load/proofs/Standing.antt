@@ -5,8 +5,8 @@ use Rattle.std.proofs.lemmas.Bool.{eqb-true, eqb-false, cond_both}
 use Rattle.std.proofs.lemmas.List.{take-append-drop, take_more}
 use Rattle.cap_load.specs.declared.fault.StreamFault.{StreamFault}
 use Rattle.cap_load.specs.declared.component.Reading.{Reading}
-use Rattle.cap_load.specs.declared.block.Block.{Block}
-use Rattle.cap_load.specs.declared.block.Block.TheVariants.{Left}
+use Rattle.cap_load.specs.declared.loader.Block.{Block}
+use Rattle.cap_load.specs.declared.loader.Block.TheVariants.{Left}
 use Rattle.cap_load.specs.Fault.{number, Shows, Faultless, IsFirst}
 use Rattle.cap_load.specs.Loaded.{Loaded, IsFront, IsRead, StandsBy, StandsFor}
 use Rattle.cap_load.specs.Taking.{fault_by, moved_by, taken_by, taken}

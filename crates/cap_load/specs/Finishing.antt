@@ -1,8 +1,8 @@
 -- What a loader answers at the end.
 use Rattle.std.specs.Prelude.{◌≡◌, ℕ, List, Result, Ok, Err}
 use Rattle.cap_components.specs.Parts.{Lent}
-use Rattle.cap_load.specs.declared.finish_end.FinishEnd.{FinishEnd}
-use Rattle.cap_load.specs.declared.finish_end.FinishEnd.TheVariants.{Fault, Memory}
+use Rattle.cap_load.specs.declared.fault.FinishEnd.{FinishEnd}
+use Rattle.cap_load.specs.declared.fault.FinishEnd.TheVariants.{Fault, Memory}
 use Rattle.cap_load.specs.LoadFile.{AreFiles, IsLoadFileWithin}
 use Rattle.cap_load.specs.Fault.{IsRefused}
 use Rattle.cap_load.specs.Loaded.{Loaded, StandsFor}

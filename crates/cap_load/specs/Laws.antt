@@ -2,7 +2,7 @@
 use Rattle.std.specs.Prelude.{◌≡◌, ℕ, ◌≤◌, List, length}
 use Rattle.cap_components.specs.Parts.{Lent}
 use Rattle.cap_load.specs.declared.fault.StreamFault.{StreamFault}
-use Rattle.cap_load.specs.declared.blocks_end.BlocksEnd.TheVariants.{LoadLong}
+use Rattle.cap_load.specs.declared.fault.BlocksEnd.TheVariants.{LoadLong}
 use Rattle.cap_load.specs.LoadFile.{IsLoadFile, IsLoadFileWithin}
 use Rattle.cap_load.specs.Fault.{IsRefused}
 use Rattle.cap_load.specs.Packing.{IsPacked, IsTooLong}

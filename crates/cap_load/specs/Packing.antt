@@ -4,8 +4,8 @@ use Rattle.std.specs.List.{concat}
 use Rattle.cap_bytes.specs.Spelling.{Stands}
 use Rattle.cap_frame.specs.Frame.{component}
 use Rattle.cap_components.specs.Parts.{Lent, held}
-use Rattle.cap_load.specs.declared.blocks_end.BlocksEnd.{BlocksEnd}
-use Rattle.cap_load.specs.declared.blocks_end.BlocksEnd.TheVariants.{LoadLong, Memory}
+use Rattle.cap_load.specs.declared.fault.BlocksEnd.{BlocksEnd}
+use Rattle.cap_load.specs.declared.fault.BlocksEnd.TheVariants.{LoadLong, Memory}
 use Rattle.cap_load.specs.Order.{place}
 use Rattle.cap_load.specs.LoadFile.{IsBlock, stream_of, AreFiles}
 

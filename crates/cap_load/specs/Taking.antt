@@ -2,8 +2,8 @@
 use Rattle.std.specs.Prelude.{ℕ, ◌-◌, ◌==◌, [], ◌∷◌, ◌++◌, length, Option, Some, None, nat_le, if◌then◌else◌}
 use Rattle.cap_load.specs.declared.fault.StreamFault.{StreamFault}
 use Rattle.cap_load.specs.declared.fault.StreamFault.TheVariants.{Full, AfterEnd}
-use Rattle.cap_load.specs.declared.block.Block.{Block}
-use Rattle.cap_load.specs.declared.block.Block.TheVariants.{Left, Ended}
+use Rattle.cap_load.specs.declared.loader.Block.{Block}
+use Rattle.cap_load.specs.declared.loader.Block.TheVariants.{Left, Ended}
 use Rattle.cap_load.specs.Reading.{shown, read_byte}
 use Rattle.cap_load.specs.Loaded.{Loaded}
 

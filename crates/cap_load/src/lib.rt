@@ -4,21 +4,15 @@
 //! file is given.
 #![tactic(auto)]
 
-mod block;
-mod blocks_end;
 mod component;
 mod fault;
-mod finish_end;
 mod laws;
 mod loader;
 mod order;
 mod packing;
 
-pub use block::Block;
-pub use blocks_end::BlocksEnd;
 pub use component::{Next, Reading};
-pub use fault::StreamFault;
-pub use finish_end::FinishEnd;
+pub use fault::{BlocksEnd, FinishEnd, StreamFault};
 pub use laws::{not_both, one_fault, one_list, one_packed, packed_is_load_file, short_not_long};
-pub use loader::Loader;
+pub use loader::{Block, Loader};
 pub use packing::blocks;

@@ -1,21 +1,28 @@
 ghost use Rattle.std.specs.Prelude.{◌≡◌, ◌≤◌, ℕ, List, [], ◌++◌, ◌+◌, ◌*◌, slice_index, length, Ok, Err, Some, None, IfOk};
 ghost use Rattle.cap_components.specs.Parts.{Lent};
 ghost use Rattle.cap_load.specs.declared.fault.StreamFault.{StreamFault};
-ghost use Rattle.cap_load.specs.declared.finish_end.FinishEnd.TheVariants.{Fault};
+ghost use Rattle.cap_load.specs.declared.fault.FinishEnd.TheVariants.{Fault};
 ghost use Rattle.cap_load.specs.LoadFile.{AreFiles, IsLoadFileWithin};
 ghost use Rattle.cap_load.specs.Loaded.{StandsFor, told};
 ghost use Rattle.cap_load.specs.Finishing.{Finishes, Gives, AreWhole};
 ghost use Rattle.cap_load.specs.Taking.{taken, content_fault, fault_by, moved_by};
 
-use crate::block::Block;
 use crate::component::{Next, Reading};
-use crate::fault::StreamFault;
-use crate::finish_end::FinishEnd;
+use crate::fault::{FinishEnd, StreamFault};
 use byteorder::{BigEndian, ByteOrder};
 use cap_bytes::Part;
 use cap_components::Parts;
 use std::alloc::{AllocError, Global};
 use std::marker::Model;
+
+/// Where the next byte stands among blocks.
+#[derive(Clone, Copy)]
+pub enum Block {
+    /// So many bytes of a block are left; with none of them the next byte is a length or the ending.
+    Left(u8),
+    /// The ending was there.
+    Ended,
+}
 
 /// Takes a Load file in pieces. It stands for the bytes that it took.
 #[derive(Drop)]

@@ -4,7 +4,7 @@ ghost use Rattle.cap_load.specs.LoadFile.{block, IsBlock};
 ghost use Rattle.cap_load.specs.Packing.{IsFramed, IsPacked, IsTooLong};
 ghost use Rattle.cap_load.specs.Joining.{in_order, file_in, ending, IsCut};
 
-use crate::blocks_end::BlocksEnd;
+use crate::fault::BlocksEnd;
 use crate::order::COMPONENTS;
 use cap_bytes::{Part, are_bytes};
 use cap_components::Parts;

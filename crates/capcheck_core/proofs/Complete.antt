@@ -7,7 +7,7 @@ use Rattle.cap_files.specs.Folder.{Folders, IsThere, IsTooLong}
 use Rattle.cap_bare.specs.Typing.{BareTyping}
 use Rattle.vm_step.specs.Arguments.{Argument, number}
 use Rattle.vm_step.specs.declared.ending.StartFault.{StartFault}
-use Rattle.cap_load.specs.declared.blocks_end.BlocksEnd.TheVariants.{LoadLong}
+use Rattle.cap_load.specs.declared.fault.BlocksEnd.TheVariants.{LoadLong}
 use Rattle.cap_load.specs.Packing as packing
 use Rattle.cap_text.specs.OutOfDir.{OutOfDirRequest}
 use Rattle.cap_text.specs.Probe.{ProbeRequest}

@@ -7,7 +7,7 @@ use Rattle.cap_bare.specs.Typing.{BareTyping}
 use Rattle.cap_listing.specs.declared.method.ListedMethod.{ListedMethod}
 use Rattle.cap_listing.specs.Placing.{placed}
 use Rattle.cap_listing.specs.Text.{Lists}
-use Rattle.cap_load.specs.declared.blocks_end.BlocksEnd.TheVariants.{LoadLong}
+use Rattle.cap_load.specs.declared.fault.BlocksEnd.TheVariants.{LoadLong}
 use Rattle.cap_load.specs.Packing.{IsTooLong}
 use Rattle.cap_text.specs.OutOfDir.{OutOfDirRequest}
 use Rattle.cap_text.specs.Probe.{ProbeRequest}

@@ -1,7 +1,7 @@
 -- What `pack` may answer, by the package in its folder and the roles beside it, and what it stores.
 use Rattle.std.specs.Prelude.{◌≡◌, ℕ, ◌≤◌, List, [], length, Option, Some, string_bytes}
 use Rattle.cap_files.specs.Folder.{Folders}
-use Rattle.cap_load.specs.declared.blocks_end.BlocksEnd.TheVariants.{LoadLong}
+use Rattle.cap_load.specs.declared.fault.BlocksEnd.TheVariants.{LoadLong}
 use Rattle.cap_load.specs.Packing.{IsPacked, IsTooLong}
 use Rattle.cap_package.specs.Parts.{Lent}
 use Rattle.cap_text.specs.OutOfDir.{OutOfDirRequest}

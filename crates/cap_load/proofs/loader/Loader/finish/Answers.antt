@@ -1,5 +1,5 @@
 use Rattle.std.proofs.Common.{Err, rules}
-use Rattle.cap_load.specs.declared.finish_end.FinishEnd.TheVariants.{Fault}
+use Rattle.cap_load.specs.declared.fault.FinishEnd.TheVariants.{Fault}
 use Rattle.cap_load.proofs.Ends.{gives}
 use Rattle.cap_load.proofs.loader.Loader.finish.Goals as goal
 
