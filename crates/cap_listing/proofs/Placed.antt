@@ -15,7 +15,7 @@ use Rattle.cap_write.specs.Condition.{handler_sum, no_method, methods_for, AreEl
 use Rattle.cap_listing.specs.declared.method.ListedMethod.{ListedMethod}
 use Rattle.cap_listing.specs.declared.fault.AsmFault.{AsmFault}
 use Rattle.cap_listing.specs.declared.fault.AsmFault.TheVariants.{OtherMethod, Registers, HandlerRange, CodeLength}
-use Rattle.cap_listing.specs.declared.condition.Condition.TheVariants as conditions
+use Rattle.cap_listing.specs.declared.fitting.Condition.TheVariants as conditions
 use Rattle.cap_listing.specs.Methods.{laid_of, listed_by, listed_from, listed_in, methods_of}
 use Rattle.cap_listing.specs.Placing.{is_same, other_faults, range_faults, own_faults, faults_from}
 use Rattle.cap_listing.specs.Placing.{handler_total, faults, has_code, is_coded, coded_in}

@@ -4,7 +4,7 @@ use Rattle.jc_decode.specs.declared.symbols.LaidHandler.{LaidHandler}
 use Rattle.cap_listing.specs.declared.method.ListedMethod.{ListedMethod}
 use Rattle.cap_listing.specs.declared.method.Heading.{Heading}
 use Rattle.cap_listing.specs.declared.open_method.OpenMethod.{OpenMethod}
-use Rattle.cap_listing.specs.declared.assembler.Assembler.{Assembler}
+use Rattle.cap_listing.specs.declared.assembling.Assembler.{Assembler}
 use Rattle.cap_listing.specs.Reading.{State}
 
 -- a method of these numbers, code and handlers

@@ -12,8 +12,8 @@ use Rattle.cap_listing.specs.declared.fault.AsmFault.{AsmFault}
 use Rattle.cap_listing.specs.declared.fault.AsmFault.TheVariants.{OtherMethod, Registers, HandlerRange, CodeLength, TooManyHandlers}
 use Rattle.cap_listing.specs.declared.fault.AsmEnd.{AsmEnd}
 use Rattle.cap_listing.specs.declared.fault.AsmEnd.TheVariants.{Fault, Memory}
-use Rattle.cap_listing.specs.declared.condition.Condition.{Condition}
-use Rattle.cap_listing.specs.declared.condition.Condition.TheVariants as conditions
+use Rattle.cap_listing.specs.declared.fitting.Condition.{Condition}
+use Rattle.cap_listing.specs.declared.fitting.Condition.TheVariants as conditions
 
 -- ---- the faults of each condition, in the order of the methods from a number on
 

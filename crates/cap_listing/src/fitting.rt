@@ -1,11 +1,21 @@
 ghost use Rattle.std.specs.Prelude.{◌≡◌};
-ghost use Rattle.cap_listing.specs.declared.condition.Condition.TheVariants as conditions;
-ghost use Rattle.cap_listing.specs.Placing.{is_same, lies_in, other_faults, range_faults, own_faults, faults_from, total_faults, faults, first_refused};
+ghost use Rattle.cap_listing.specs.Placing.{is_same, lies_in, other_faults, range_faults, own_faults, faults_from, total_faults, faults};
+ghost use Rattle.cap_listing.specs.Placing.{first_refused};
 
-use crate::condition::Condition;
 use crate::fault::AsmFault;
 use crate::method::ListedMethod;
 use jc_decode::LaidHandler;
+
+/// What is asked of each method that is put into a package.
+#[derive(Clone, Copy)]
+pub enum Condition {
+    /// Arguments and locals are at most 255 words together.
+    Registers,
+    /// The range of each handler ends in the code or at its end, and its entry is in the code.
+    Handlers,
+    /// The code has 1 to 32,767 bytes.
+    Length,
+}
 
 /// Whether two methods have the same numbers and as many argument words.
 fn is_same(method: &ListedMethod, own: &ListedMethod) -> bool

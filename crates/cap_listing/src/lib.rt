@@ -4,20 +4,15 @@
 //! and that the handlers of a package's methods lie in their code comes from `jc_resolve`.
 #![tactic(auto)]
 
-mod assembler;
 mod assembling;
 mod block;
-mod candidate;
-mod condition;
 mod cut;
 mod fault;
 mod fitting;
 mod laws;
 mod line;
-mod list;
 mod method;
 mod numbers;
-mod numeral;
 mod open_method;
 mod package_methods;
 mod placing;
@@ -27,8 +22,7 @@ mod text;
 pub use assembling::assemble;
 pub use fault::{AsmEnd, AsmFault};
 pub use laws::{listing_comes_back, methods_are_replaced, one_bad_line, one_listing};
-pub use list::listing;
 pub use method::{Listed, ListedMethod};
 pub use package_methods::listed_methods;
 pub use placing::place;
-pub use text::listed_text;
+pub use text::{listed_text, listing};

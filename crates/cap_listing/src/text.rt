@@ -1,11 +1,15 @@
-ghost use Rattle.std.specs.Prelude.{◌≡◌, ◌++◌, ◌∷◌, [], ◌≤◌, All, drop, length, map, OnOk, IfOk};
+ghost use Rattle.std.specs.Prelude.{◌≡◌, ◌++◌, ◌∷◌, [], ◌≤◌, All, drop, length, map, OnOk, IfOk, IsAscii};
 ghost use Rattle.cap_listing.specs.Words.{text_of_lines};
 ghost use Rattle.jc_decode.specs.Listing.{listing};
-ghost use Rattle.cap_listing.specs.Text.{IsShort, instruction_words, rest_lines, code_lines, handler_words, end_words, begun_lines, text_of};
+ghost use Rattle.cap_listing.specs.Text.{IsShort, instruction_words, rest_lines, code_lines, handler_words, end_words, begun_lines};
+ghost use Rattle.cap_listing.specs.Text.{text_of, Lists};
+ghost use Rattle.cap_listing.specs.Methods.{methods_of};
 
 use crate::line::{push_bytes, push_handler, push_heading, push_instruction};
 use crate::method::{Listed, ListedMethod};
+use crate::package_methods::listed_methods;
 use cap_bytes::View;
+use cap_package::Package;
 use jc_decode::{Instructions, LaidHandler, code_end};
 use std::alloc::{AllocError, Global};
 
@@ -86,4 +90,15 @@ fn push_handlers(handlers: &[LaidHandler], out: &mut Vec<u8>) -> Result<(), Allo
         out.push(b'\n')?;
     }
     Ok(())
+}
+
+/// The listing of a package's methods that have code, in ASCII.
+#[tactic(auto, using(crate::proofs::Ascii::listing_ascii))]
+pub fn listing(alloc: Global, package: &Package<'_, '_>) -> Result<Vec<u8>, AllocError>
+    ensures lists { IfOk result (λ text. Lists (methods_of «package».now) text.items) }
+    ensures ascii { IfOk result (λ text. IsAscii text.items) }
+{
+    let methods = listed_methods(alloc, package)?;
+    let text = listed_text(alloc, &methods)?;
+    Ok(text)
 }
