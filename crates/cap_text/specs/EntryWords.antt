@@ -1,7 +1,7 @@
 -- `ENTRY DIR+`, the operands of the commands that ask about a method of the packages in folders.
 use Rattle.std.specs.Prelude.{◌≡◌, ℕ, List, [], ◌∷◌}
 use Rattle.cap_files.specs.WordsLeft.{words_left}
-use Rattle.cap_text.specs.declared.at_entry.AtEntry.{AtEntry}
+use Rattle.cap_text.specs.declared.operands.AtEntry.{AtEntry}
 use Rattle.cap_text.specs.declared.entry.Entry.{Entry}
 use Rattle.cap_text.specs.Entry.{IsEntryWord}
 use Rattle.cap_text.specs.Word.{AreFolderWords}

@@ -1,6 +1,6 @@
 -- `OUT DIR`: the operands of a command that stores in the first folder what it makes of the package in the second.
 use Rattle.std.specs.Prelude.{◌≡◌, ℕ, List, [], ◌∷◌}
-use Rattle.cap_text.specs.declared.out_of_dir.OutOfDir.{OutOfDir}
+use Rattle.cap_text.specs.declared.operands.OutOfDir.{OutOfDir}
 use Rattle.cap_text.specs.Word.{IsFolderWord}
 
 -- the word of the folder in which is stored, and that of the package's folder

@@ -1,7 +1,7 @@
 -- `OUT DIR+`: the operands of a command that stores in the first folder what it makes of the last of the packages in the others.
 use Rattle.std.specs.Prelude.{◌≡◌, ℕ, List, [], ◌∷◌}
 use Rattle.cap_files.specs.WordsLeft.{words_left}
-use Rattle.cap_text.specs.declared.out_of_dirs.OutOfDirs.{OutOfDirs}
+use Rattle.cap_text.specs.declared.operands.OutOfDirs.{OutOfDirs}
 use Rattle.cap_text.specs.Word.{IsFolderWord, AreFolderWords}
 
 -- the word of the folder in which is stored, and those of the packages' folders, in order

@@ -2,12 +2,8 @@ ghost use Rattle.std.specs.Prelude.{◌∷◌, true, false, IfOk, IfSome, IfNone
 ghost use Rattle.cap_files.specs.WordsLeft.{words_left};
 ghost use Rattle.cap_text.specs.Request.{IsRequest, IsUsage, NoneSuch, OneRequest, request_of};
 
-use crate::at_entry::AtEntry;
 use crate::generate::Generate;
-use crate::of_dir::OfDir;
-use crate::of_dirs::OfDirs;
-use crate::out_of_dir::OutOfDir;
-use crate::out_of_dirs::OutOfDirs;
+use crate::operands::{AtEntry, OfDir, OfDirs, OutOfDir, OutOfDirs};
 use crate::probe::Probe;
 use crate::run::Run;
 use cap_files::{Words, WordsIter};

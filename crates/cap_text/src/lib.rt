@@ -4,33 +4,24 @@
 #![tactic(auto)]
 
 mod asm_line;
-mod at_entry;
-mod bare;
-mod card;
 mod command;
 mod ending;
 mod entry;
 mod fault;
-mod flow;
 mod generate;
 mod line;
 mod linked;
-mod of_dir;
-mod of_dirs;
-mod out_of_dir;
-mod out_of_dirs;
+mod operands;
 mod printed;
 mod probe;
+mod refusals;
 mod room;
-mod rule;
 mod run;
-mod start;
 mod table;
 mod transform_line;
 mod word;
 
 pub use asm_line::{assembled, not_assembled};
-pub use at_entry::AtEntry;
 pub use command::{Command, read_command};
 pub use ending::{write_array_head, write_element, write_ending, write_static};
 pub use entry::Entry;
@@ -41,10 +32,7 @@ pub use line::{
     not_linked, not_started, packed, refused_bare, refused_card, refused_flow, shared, tried,
     typed, write_not_started, write_refused_card,
 };
-pub use of_dir::OfDir;
-pub use of_dirs::OfDirs;
-pub use out_of_dir::OutOfDir;
-pub use out_of_dirs::OutOfDirs;
+pub use operands::{AtEntry, OfDir, OfDirs, OutOfDir, OutOfDirs};
 pub use probe::Probe;
 pub use room::Room;
 pub use run::Run;

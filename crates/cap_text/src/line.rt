@@ -1,16 +1,16 @@
 ghost use Rattle.std.specs.Prelude.{◌≡◌, IfOk, codes, string_bytes};
-ghost use Rattle.cap_text.specs.Line.{malformed_line, malformed_stream_line, not_linked_line, not_started_line, refused_bare_line, methods_line, method_text, refused_flow_line, refused_card_line, bare_ending_line, bound_line, cycle_line};
+ghost use Rattle.cap_text.specs.Line.{malformed_line, malformed_stream_line, not_linked_line, not_started_line, refused_bare_line};
+ghost use Rattle.cap_text.specs.Line.{methods_line, method_text, refused_flow_line, refused_card_line, bare_ending_line, bound_line};
+ghost use Rattle.cap_text.specs.Line.{cycle_line};
 ghost use Rattle.cap_text.specs.Room.{HasRoom, Writes, WritesAtMost};
 ghost use Rattle.cap_text.specs.Shared.{shared_line};
 ghost use Rattle.cap_text.specs.Trial.{trial_text};
 ghost use Rattle.cap_text.specs.Packed.{packed_line, load_limit_line};
+ghost use Rattle.cap_text.specs.Start.{start_fault_text};
 
-use crate::bare::write_bare_kind;
-use crate::card::write_card_fault;
 use crate::fault::Shown;
-use crate::flow::write_flow_end;
+use crate::refusals::{write_bare_kind, write_card_fault, write_flow_end};
 use crate::room::Room;
-use crate::start::write_start_fault;
 use cap_bare::{BareEnd, BareFault};
 use cap_load::StreamFault;
 use cap_package::PackFault;
@@ -219,4 +219,24 @@ pub fn limit_load(alloc: Global, size: u32) -> Result<String, AllocError>
     ensures { IfOk result (λ t. string_bytes t ≡ load_limit_line size) }
 {
     format!(in alloc; "limit LoadLong {size}\n")
+}
+
+/// Writes why an entry does not start, in at most 35 bytes.
+pub(crate) fn write_start_fault(room: &mut Room, fault: StartFault)
+    requires { HasRoom room.old 35 }
+    ensures writes { Writes room.old room.new (start_fault_text fault) }
+    ensures few { WritesAtMost room.old room.new 35 }
+{
+    match fault {
+        StartFault::NoEntry => room.write("NoEntry"),
+        StartFault::NotStatic => room.write("NotStatic"),
+        StartFault::ArgCount { said, wanted } => {
+            room.write("ArgCount ");
+            room.write_long(said as u64);
+            room.write(" ");
+            room.write_number(wanted);
+        }
+        StartFault::ArgKind(number) => room.write_named("ArgKind", number),
+        StartFault::ArgRoom(number) => room.write_named("ArgRoom", number),
+    }
 }

@@ -3,7 +3,7 @@ use Rattle.std.proofs.Common.{codes, ◌++◌, [], subst, sym}
 use Rattle.cap_text.specs.Room.{Writes}
 use Rattle.cap_text.specs.Rule.{type_text, rule_fault_text}
 use Rattle.cap_text.proofs.Rooms.{both, last}
-use Rattle.cap_text.proofs.rule.write_rule_fault.Goals as goal
+use Rattle.cap_text.proofs.refusals.write_rule_fault.Goals as goal
 
 pub returns-in-Mismatch-clause-writes : goal.returns-in-Mismatch-clause-writes
 returns-in-Mismatch-clause-writes c =
