@@ -5,10 +5,8 @@
 
 mod leaves;
 mod lent;
-mod like_texts;
 mod writing;
 
 pub use leaves::Leaves;
 pub use lent::LentRun;
-pub use like_texts::texts_are_alike;
-pub use writing::{room, write_run};
+pub use writing::{room, texts_are_alike, write_run};

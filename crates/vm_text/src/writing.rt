@@ -4,6 +4,7 @@ ghost use Rattle.cap_text.specs.Room.{HasRoom, Writes, IsEmpty, WritesAtMost};
 ghost use Rattle.std.specs.List.{flat_map};
 ghost use Rattle.vm_text.specs.Left.{elements_at};
 ghost use Rattle.vm_text.specs.Text.{array_text, returned_array, left_text, most_text};
+ghost use Rattle.vm_text.specs.LikeTexts.{TextsAreAlike};
 
 use crate::leaves::Leaves;
 use cap_text::{Room, write_array_head, write_element, write_ending, write_static};
@@ -94,4 +95,12 @@ fn write_statics<L: Leaves>(room: &mut Room, world: &World<'_>, left: &L)
     'fields: for n in 0..left.static_count(world) {
         write_static(room, n, left.static_value(world, n));
     }
+}
+
+/// The words of a state leave the text that the state leaves: the machine of bare words and the one of tagged cells print
+/// alike what they leave alike.
+pub fn texts_are_alike(world: &World<'_>)
+    ensures { TextsAreAlike world.now }
+{
+    let _ = world.classes();
 }
