@@ -18,7 +18,7 @@ use Rattle.cap_text.specs.Generate.{GenerateRequest}
 use Rattle.xf_pack.specs.Ends.{IsPartLong, IsTypedLast}
 use Rattle.capcheck_core.specs.Generate.{generated, GeneratesIn, Generates}
 use Rattle.cap_text.specs.Request.{Request, probe, show, list, asm, check, verify, defend, run, transform, share, trial, generate, bound, pack, install}
-use Rattle.capcheck_core.specs.declared.folder_fault.FolderFault.TheVariants.{Pack}
+use Rattle.capcheck_core.specs.declared.load.FolderFault.TheVariants.{Pack}
 use Rattle.capcheck_core.specs.declared.verdict.Verdict.{Verdict}
 use Rattle.capcheck_core.specs.declared.verdict.Verdict.TheVariants.{Done, Refused, Limit, Malformed, Usage, ReadFault, StoreFault, Memory}
 use Rattle.capcheck_core.specs.Verdict.{status_of}
@@ -40,7 +40,7 @@ use Rattle.capcheck_core.specs.MethodFile.{IsMethodFile}
 use Rattle.capcheck_core.specs.Probe.{ProbesFolder, FailsMethodPart, OfMethodPart, OfMethod, IsRefusal, IsUnstarted, IsNoMethod, method_key}
 use Rattle.capcheck_core.specs.Report.{Seen, IsReported}
 use Rattle.capcheck_core.specs.Shorts.{IsShort, AreShorts, RefusesStart}
-use Rattle.capcheck_core.specs.declared.source.Source.TheVariants.{Components, LoadFile}
+use Rattle.capcheck_core.specs.declared.load.Source.TheVariants.{Components, LoadFile}
 use Rattle.capcheck_core.specs.OverFolders.{OverPlaces}
 use Rattle.capcheck_core.specs.Pack.{PacksInto, PacksPackage, Packs}
 use Rattle.capcheck_core.specs.Place.{Place, places, in_components}

@@ -4,7 +4,7 @@ use Rattle.std.proofs.Common.{◌≡◌, ℕ, List, [], ◌∷◌}
 use Rattle.std.specs.List.{AllZip}
 use Rattle.cap_files.specs.Folder.{Folders}
 use Rattle.cap_package.specs.Parts.{Lent}
-use Rattle.capcheck_core.specs.declared.source.Source.TheVariants.{Components}
+use Rattle.capcheck_core.specs.declared.load.Source.TheVariants.{Components}
 use Rattle.capcheck_core.specs.Loads.{AreParts}
 use Rattle.capcheck_core.specs.Packages.{ArePartsBy}
 use Rattle.capcheck_core.specs.Place.{places, source_before}

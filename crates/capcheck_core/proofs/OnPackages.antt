@@ -4,7 +4,7 @@ use Rattle.std.proofs.Common.{ℕ, List, inl, inr}
 use Rattle.cap_files.specs.Folder.{Folders}
 use Rattle.std.specs.Prelude.{Err}
 use Rattle.cap_components.specs.declared.fault.PackFault.{PackFault}
-use Rattle.capcheck_core.specs.declared.folder_fault.FolderFault.TheVariants.{Pack, Stream}
+use Rattle.capcheck_core.specs.declared.load.FolderFault.TheVariants.{Pack, Stream}
 use Rattle.capcheck_core.specs.declared.packages.PackagesStop.{PackagesStop}
 use Rattle.capcheck_core.specs.declared.packages.PackagesStop.TheVariants.{TooMany, Malformed, Failed, Memory}
 use Rattle.capcheck_core.specs.declared.verdict.Verdict.{Verdict}

@@ -7,7 +7,7 @@ use Rattle.cap_package.specs.Parts.{Lent}
 use Rattle.cap_package.specs.PackageRecord.{PackageRecord}
 use Rattle.cap_package.specs.StandsFor.{StandsFor}
 use Rattle.capcheck_core.specs.declared.packages.PackagesStop.{PackagesStop}
-use Rattle.capcheck_core.specs.declared.source.Source.{Source}
+use Rattle.capcheck_core.specs.declared.load.Source.{Source}
 use Rattle.capcheck_core.specs.declared.verdict.Verdict.{Verdict}
 use Rattle.capcheck_core.specs.declared.verdict.Verdict.TheVariants as verdicts
 use Rattle.capcheck_core.specs.Place.{Place, places}

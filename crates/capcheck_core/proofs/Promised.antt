@@ -23,8 +23,8 @@ use Rattle.law_package.specs.Rewritten.{IsRewritten}
 use Rattle.cap_text.specs.OutOfDir.{OutOfDirRequest}
 use Rattle.cap_text.specs.Request.{Request, probe, show, list, asm, check, verify, defend, run, transform, share, trial, generate, bound, pack, install}
 use Rattle.jc_base.specs.World.{Linked}
-use Rattle.capcheck_core.specs.declared.source.Source.{Source}
-use Rattle.capcheck_core.specs.declared.source.Source.TheVariants.{Components, LoadFile}
+use Rattle.capcheck_core.specs.declared.load.Source.{Source}
+use Rattle.capcheck_core.specs.declared.load.Source.TheVariants.{Components, LoadFile}
 use Rattle.capcheck_core.specs.declared.verdict.Verdict.{Verdict}
 use Rattle.capcheck_core.specs.declared.verdict.Verdict.TheVariants.{Done, Refused, Limit, Malformed, Usage, ReadFault, StoreFault, Memory}
 use Rattle.capcheck_core.specs.Answers.{Answers, IsVerdict}

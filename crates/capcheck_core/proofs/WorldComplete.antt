@@ -21,10 +21,10 @@ use Rattle.cap_package.proofs.OneRecord.{stands_told, stands_only}
 use Rattle.jc_base.specs.World.{Linked}
 use Rattle.jc_link.specs.World.{IsLinked}
 use Rattle.jc_link.proofs.OneWorld.{one_world, linked_few, linked_faultless}
-use Rattle.capcheck_core.specs.declared.folder_fault.FolderFault.{FolderFault}
-use Rattle.capcheck_core.specs.declared.folder_fault.FolderFault.TheVariants.{Pack, Stream}
-use Rattle.capcheck_core.specs.declared.source.Source.{Source}
-use Rattle.capcheck_core.specs.declared.source.Source.TheVariants.{Components, LoadFile}
+use Rattle.capcheck_core.specs.declared.load.FolderFault.{FolderFault}
+use Rattle.capcheck_core.specs.declared.load.FolderFault.TheVariants.{Pack, Stream}
+use Rattle.capcheck_core.specs.declared.load.Source.{Source}
+use Rattle.capcheck_core.specs.declared.load.Source.TheVariants.{Components, LoadFile}
 use Rattle.capcheck_core.specs.declared.verdict.Verdict.{Verdict}
 use Rattle.capcheck_core.specs.declared.verdict.Verdict.TheVariants.{Done, Refused, Limit, Malformed, Usage, ReadFault, StoreFault, Memory}
 use Rattle.capcheck_core.specs.Verdict.{status_of}

@@ -27,7 +27,7 @@ use Rattle.xf_share.specs.Ends.{IsSharedTooLong, IsSharedPartLong}
 use Rattle.cap_gen.specs.Linked.{roles}
 use Rattle.cap_write.specs.WrittenPackage.{IsPartTooLong}
 use Rattle.jc_link.specs.World.{IsLinked}
-use Rattle.capcheck_core.specs.declared.source.Source.TheVariants.{Components, LoadFile}
+use Rattle.capcheck_core.specs.declared.load.Source.TheVariants.{Components, LoadFile}
 use Rattle.capcheck_core.specs.Assemble.{Fit, HasListing}
 use Rattle.capcheck_core.specs.Generate.{generated}
 use Rattle.capcheck_core.specs.Bounding.{bound_fault}

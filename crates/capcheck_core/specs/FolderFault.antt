@@ -2,8 +2,8 @@
 use Rattle.std.specs.Prelude.{ℕ, List}
 use Rattle.cap_components.specs.declared.fault.PackFault.{PackFault}
 use Rattle.cap_text.specs.Line.{malformed_line, malformed_stream_line}
-use Rattle.capcheck_core.specs.declared.folder_fault.FolderFault.{FolderFault}
-use Rattle.capcheck_core.specs.declared.folder_fault.FolderFault.TheVariants.{Pack, Stream}
+use Rattle.capcheck_core.specs.declared.load.FolderFault.{FolderFault}
+use Rattle.capcheck_core.specs.declared.load.FolderFault.TheVariants.{Pack, Stream}
 
 -- it is one of the parts, of which this is true
 abbrev pub OfPack : (PackFault → Type 0) → FolderFault → Type 0

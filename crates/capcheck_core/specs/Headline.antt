@@ -37,8 +37,8 @@ use Rattle.law_sound.specs.Soundness.{IsFaultFree}
 use Rattle.xf_pack.specs.Ends.{IsTypedLast}
 use Rattle.xf_pack.specs.Transformed.{KeepsBehaviour}
 use Rattle.xf_share.specs.Shared.{KeepsRuns}
-use Rattle.capcheck_core.specs.declared.source.Source.{Source}
-use Rattle.capcheck_core.specs.declared.source.Source.TheVariants.{Components, LoadFile}
+use Rattle.capcheck_core.specs.declared.load.Source.{Source}
+use Rattle.capcheck_core.specs.declared.load.Source.TheVariants.{Components, LoadFile}
 use Rattle.capcheck_core.specs.Assemble.{listing_key}
 use Rattle.capcheck_core.specs.Bounding.{TellsBound}
 use Rattle.capcheck_core.specs.Defend.{IsDefended}

@@ -1,6 +1,6 @@
 -- What `install` may answer: what `verify` does, where the parts of the last package stand in the Load file of its folder.
 use Rattle.std.specs.Prelude.{ℕ, List}
-use Rattle.capcheck_core.specs.declared.source.Source.TheVariants.{LoadFile}
+use Rattle.capcheck_core.specs.declared.load.Source.TheVariants.{LoadFile}
 use Rattle.capcheck_core.specs.declared.verdict.Verdict.{Verdict}
 use Rattle.capcheck_core.specs.Outside.{Outside}
 use Rattle.capcheck_core.specs.OverFolders.{OverPlaces}

@@ -1,6 +1,6 @@
 -- The memory of a card as it is lent: the words of its three memories, which stay the same slices.
 use Rattle.std.specs.Prelude.{◌≡◌}
-use Rattle.capcheck_core.specs.declared.card.Card.{Card}
+use Rattle.capcheck_core.specs.declared.carding.Card.{Card}
 use Rattle.capcheck_core.specs.Outside.{CardWords, card_words}
 
 abbrev pub words_of : Card → CardWords

@@ -5,8 +5,8 @@ use Rattle.cap_files.specs.Folder.{Folders}
 use Rattle.cap_package.specs.Parts.{Lent}
 use Rattle.cap_text.specs.Line.{not_linked_line}
 use Rattle.jc_link.specs.LinkFault.TheVariants.{TooManyPackages}
-use Rattle.capcheck_core.specs.declared.folder_fault.FolderFault.{FolderFault}
-use Rattle.capcheck_core.specs.declared.source.Source.TheVariants.{Components}
+use Rattle.capcheck_core.specs.declared.load.FolderFault.{FolderFault}
+use Rattle.capcheck_core.specs.declared.load.Source.TheVariants.{Components}
 use Rattle.capcheck_core.specs.declared.verdict.Verdict.{Verdict}
 use Rattle.capcheck_core.specs.declared.verdict.Verdict.TheVariants.{Malformed, ReadFault, Memory}
 use Rattle.capcheck_core.specs.FolderFault.{folder_fault_line}

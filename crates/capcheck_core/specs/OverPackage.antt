@@ -6,7 +6,7 @@ use Rattle.cap_package.specs.Parts.{Lent}
 use Rattle.cap_package.specs.PackageRecord.{PackageRecord}
 use Rattle.cap_package.specs.StandsFor.{StandsFor}
 use Rattle.cap_text.specs.Line.{malformed_line}
-use Rattle.capcheck_core.specs.declared.folder_fault.FolderFault.TheVariants.{Pack}
+use Rattle.capcheck_core.specs.declared.load.FolderFault.TheVariants.{Pack}
 use Rattle.capcheck_core.specs.declared.packages.PackagesStop.{PackagesStop}
 use Rattle.capcheck_core.specs.declared.verdict.Verdict.{Verdict}
 use Rattle.capcheck_core.specs.declared.verdict.Verdict.TheVariants.{Malformed, ReadFault, Memory}

@@ -10,7 +10,7 @@ use Rattle.jc_link.specs.LinkFault.TheVariants.{TooManyPackages}
 use Rattle.cap_load.specs.LoadFile.{IsLoadFile}
 use Rattle.cap_load.specs.Fault.{IsRefused}
 use Rattle.cap_load.specs.Loaded as loaders
-use Rattle.capcheck_core.specs.declared.folder_fault.FolderFault.TheVariants.{Stream}
+use Rattle.capcheck_core.specs.declared.load.FolderFault.TheVariants.{Stream}
 use Rattle.capcheck_core.specs.declared.packages.PackagesStop.{PackagesStop}
 use Rattle.capcheck_core.specs.declared.packages.PackagesStop.TheVariants.{TooMany, Malformed, Failed, Memory}
 use Rattle.capcheck_core.specs.declared.verdict.Verdict.{Verdict}

@@ -8,10 +8,10 @@ use Rattle.cap_components.specs.declared.fault.PackFault.TheVariants.{PartTooLon
 use Rattle.cap_package.specs.Parts.{Lent}
 use Rattle.cap_package.specs.StandsFor.{HavePackage}
 use Rattle.cap_package.specs.FirstFault.{Tells}
-use Rattle.capcheck_core.specs.declared.folder_fault.FolderFault.{FolderFault}
-use Rattle.capcheck_core.specs.declared.folder_fault.FolderFault.TheVariants.{Pack, Stream}
-use Rattle.capcheck_core.specs.declared.source.Source.{Source}
-use Rattle.capcheck_core.specs.declared.source.Source.TheVariants.{Components, LoadFile}
+use Rattle.capcheck_core.specs.declared.load.FolderFault.{FolderFault}
+use Rattle.capcheck_core.specs.declared.load.FolderFault.TheVariants.{Pack, Stream}
+use Rattle.capcheck_core.specs.declared.load.Source.{Source}
+use Rattle.capcheck_core.specs.declared.load.Source.TheVariants.{Components, LoadFile}
 use Rattle.capcheck_core.specs.Beside.{LacksFile}
 use Rattle.capcheck_core.specs.FolderFault.{OfPack}
 use Rattle.capcheck_core.specs.InLoadFile.{AreInLoadFile, IsBadStream, load_tag, load_key}

@@ -1,7 +1,7 @@
 -- Where the parts of packages are: in the files of their components, or in a Load file.
 use Rattle.std.specs.Prelude.{ℕ, List, [], ◌∷◌}
-use Rattle.capcheck_core.specs.declared.source.Source.{Source}
-use Rattle.capcheck_core.specs.declared.source.Source.TheVariants.{Components, LoadFile}
+use Rattle.capcheck_core.specs.declared.load.Source.{Source}
+use Rattle.capcheck_core.specs.declared.load.Source.TheVariants.{Components, LoadFile}
 
 -- a folder, and how the parts of its package are had
 pub record Place : Type 0 where

@@ -1,6 +1,6 @@
 -- Worked cases: where the parts of packages are, and the order in which a Load file and the roles are stored.
 use Rattle.std.specs.Prelude.{◌≡◌, ℕ, List, [], ◌∷◌, Some, None, refl}
-use Rattle.capcheck_core.specs.declared.source.Source.{Source}
+use Rattle.capcheck_core.specs.declared.load.Source.{Source}
 use Rattle.capcheck_core.specs.Pack.{load_stores}
 use Rattle.capcheck_core.specs.Place.{in_components, places}
 

@@ -4,10 +4,10 @@ ghost use Rattle.std.specs.Option.{option_copied};
 ghost use Rattle.cap_text.specs.OutOfDir.{out_of_dir_request};
 ghost use Rattle.capcheck_core.specs.Assemble.{AssemblesBeside, IsAssembled, IsUnassembledBy, PutsMethods};
 
-use crate::beside::load_wanted;
 use crate::package_step::PackageStep;
 use crate::packages::{find_roles, slice_of};
 use crate::storing::{in_order, store_parts};
+use crate::stream::load_wanted;
 use crate::verdict::Verdict;
 use cap_bytes::Part;
 use cap_files::Folder;

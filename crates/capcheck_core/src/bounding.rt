@@ -3,12 +3,11 @@ ghost use Rattle.card_verify.specs.Answers.{AreAccepted};
 ghost use Rattle.cap_text.specs.EntryWords.{entry_request};
 ghost use Rattle.capcheck_core.specs.Bounding.{method_bounded, bound_fault, bound_text, cycle_of, AnswersBound};
 
-use crate::card::Card;
-use crate::carding::uncarded;
+use crate::carding::{Card, uncarded};
 use crate::defending::method_entered;
-use crate::step::LastStep;
 use crate::typing::number_of;
 use crate::verdict::Verdict;
+use crate::world::LastStep;
 use cap_files::Folder;
 use cap_package::Packages;
 use cap_text::{AtEntry, bounded, cycle, not_started};

@@ -1,10 +1,9 @@
 ghost use Rattle.card_verify.specs.Answers.{AreAccepted, IsFirstRefused};
 ghost use Rattle.capcheck_core.specs.Verify.{StopsAtRefused, AcceptsWorld};
 
-use crate::card::Card;
-use crate::step::LastStep;
 use crate::typing::number_of;
 use crate::verdict::Verdict;
+use crate::world::LastStep;
 use cap_files::Folder;
 use cap_package::Packages;
 use cap_text::{accepted, refused_card};
@@ -13,6 +12,14 @@ use card_verify::{CardRoom, accept};
 use jc_base::World;
 use law_sound::typed_code_never_fails;
 use std::alloc::Global;
+
+/// The words of the card's three memories, lent for a command: those for frames, for objects and for static fields.
+#[derive(Drop)]
+pub struct Card<'c> {
+    pub ram: &'c mut [u16],
+    pub heap: &'c mut [u16],
+    pub statics: &'c mut [u16],
+}
 
 /// The last step of `verify`: it verifies each method with code of all packages as a card does.
 #[derive(Clone, Copy)]

@@ -3,9 +3,9 @@ ghost use Rattle.cap_text.specs.Run.{run_request};
 ghost use Rattle.cap_text.specs.Word.{argument_read};
 ghost use Rattle.capcheck_core.specs.Defend.{method_entered, RunsOrRefuses};
 
-use crate::card::Card;
-use crate::step::LastStep;
+use crate::carding::Card;
 use crate::verdict::Verdict;
+use crate::world::LastStep;
 use cap_files::Folder;
 use cap_package::Packages;
 use cap_text::{Entry, OwnedArg, Run, not_started};

@@ -6,13 +6,14 @@ ghost use Rattle.cap_text.specs.Generate.{generate_request};
 ghost use Rattle.jc_link.specs.World.{IsLinked};
 ghost use Rattle.vm_offend.specs.Sized.{AreSized};
 ghost use Rattle.xf_pack.specs.Transformed.{IsTransformed};
-ghost use Rattle.capcheck_core.specs.Generate.{generated, run_of, short_ended, AreRun, GeneratesIn, Generates, BeginsRun, HaveEntries, IsKeptOrBegun, IsNew, ComesOfRun, IsSumOfShorts, RunsAll, TellsParts};
+ghost use Rattle.capcheck_core.specs.Generate.{generated, run_of, short_ended, AreRun, GeneratesIn, Generates, BeginsRun, HaveEntries};
+ghost use Rattle.capcheck_core.specs.Generate.{IsKeptOrBegun, IsNew, ComesOfRun, IsSumOfShorts, RunsAll, TellsParts};
 ghost use Rattle.capcheck_core.specs.LentCard.{IsSameCard, words_of};
 ghost use Rattle.capcheck_core.specs.Outside.{outside, card_words};
 ghost use Rattle.capcheck_core.specs.Run.{HasLengths};
 ghost use Rattle.xf_share.specs.Ends.{HaveCardTypings};
 
-use crate::card::Card;
+use crate::carding::Card;
 use crate::defending::method_entered;
 use crate::running::field_words;
 use crate::storing::{in_order, store_parts};

@@ -4,29 +4,18 @@
 #![tactic(auto)]
 
 mod assembling;
-mod beside;
 mod bounding;
 mod call;
-mod card;
 mod carding;
 mod defending;
-mod folder_fault;
 mod generating;
-mod listed;
 mod load;
-mod method_file;
 mod package_step;
 mod packages;
 mod packing;
 mod probe;
-mod report;
-mod rest;
 mod running;
 mod sharing;
-mod shorts;
-mod show;
-mod source;
-mod step;
 mod storing;
 mod stream;
 mod sure;

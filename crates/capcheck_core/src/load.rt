@@ -1,4 +1,6 @@
 ghost use Rattle.std.specs.Prelude.{◌≡◌, ◌++◌, IsNone, IfOk};
+ghost use Rattle.cap_files.specs.WordsLeft.{words_left};
+ghost use Rattle.capcheck_core.specs.Place.{source_before};
 ghost use Rattle.cap_components.specs.Components.{read_directory};
 ghost use Rattle.cap_components.specs.Openings.{GivesOpening};
 ghost use Rattle.cap_frame.specs.Directory.{directory_items, size_in};
@@ -7,12 +9,51 @@ ghost use Rattle.capcheck_core.specs.Loads.{is_required, is_optional, is_some_si
 ghost use Rattle.capcheck_core.specs.LoadEnds.{LoadsFile, LoadsFirst, LoadsRest, LoadsParts, EndsAsked, EndsSized, LoadsLeave};
 
 use cap_bytes::Part;
-use cap_components::{Opening, PackFault, opening_in};
-use cap_files::{Folder, LoadEnd};
+use cap_components::{Opening, opening_in};
+use cap_files::{Folder, LoadEnd, WordsIter};
 use cap_frame::Directory;
-use cap_package::{OwnedParts, Parts};
+use cap_load::StreamFault;
+use cap_package::{OwnedParts, PackFault, Parts};
 use std::alloc::{AllocError, Global};
 use std::marker::Model;
+
+/// How the parts of a package are had from its folder.
+#[derive(Clone, Copy)]
+pub enum Source {
+    /// Each component from a file of its own.
+    Components,
+    /// All from one Load file.
+    LoadFile,
+}
+
+/// What is at fault in the folder of a package.
+#[derive(Clone, Copy)]
+pub enum FolderFault {
+    /// A part is missing or too long, or the parts make no package.
+    Pack(PackFault),
+    /// The bytes of the Load file are refused.
+    Stream(StreamFault),
+}
+
+/// The folders whose packages are still to be loaded, of which one is next, how the parts of the last are had, and the roles, where
+/// they are loaded: they stand beside the first package.
+#[derive(Clone, Copy)]
+pub(crate) struct Rest<'w> {
+    pub dir: &'w str,
+    pub others: WordsIter<'w>,
+    pub last: Source,
+    pub roles: Option<[u8; 8]>,
+}
+
+/// How the parts of the next package are had, by the folders after it.
+pub(crate) fn source_of(last: Source, mut others: WordsIter<'_>) -> Source
+    ensures { result ≡ source_before last (words_left others.entry) }
+{
+    match others.next() {
+        Some(_) => Source::Components,
+        None => last,
+    }
+}
 
 /// The tag of the Header.
 const HEADER: Part = Part(1);

@@ -2,13 +2,12 @@ ghost use Rattle.std.specs.Prelude.{◌≡◌, ◌≢◌, ◌≤◌, length, min
 ghost use Rattle.std.specs.Option.{option_copied};
 ghost use Rattle.cap_files.specs.WordsLeft.{words_left};
 ghost use Rattle.cap_components.specs.declared.fault.PackFault.TheVariants.{PartTooLong};
-ghost use Rattle.capcheck_core.specs.declared.folder_fault.FolderFault.TheVariants.{Pack};
+ghost use Rattle.capcheck_core.specs.declared.load.FolderFault.TheVariants.{Pack};
 ghost use Rattle.capcheck_core.specs.declared.packages.PackagesStop.TheVariants.{Malformed};
 ghost use Rattle.capcheck_core.specs.Roles.{IsNoRoles};
 ghost use Rattle.capcheck_core.specs.PackageEnds.{RolesBeside, FindsRoles, LoadsFiles, ReadsPackage, PackagesLeave, IsStop};
 
-use crate::folder_fault::FolderFault;
-use crate::load::{Files, LoadStop, load_parts};
+use crate::load::{Files, FolderFault, LoadStop, load_parts};
 use crate::verdict::Verdict;
 use cap_bytes::{FormFault, FormKind, Part};
 use cap_files::{Folder, LoadEnd, WordsIter};

@@ -3,8 +3,8 @@ ghost use Rattle.cap_bare.specs.Typing.{BareTyping};
 ghost use Rattle.cap_text.specs.Probe.{probe_request};
 ghost use Rattle.capcheck_core.specs.Probe.{ProbesMethod, ProbesFile, Probes};
 
-use crate::method_file::{METHOD, method_file};
-use crate::shorts::shorts;
+use crate::package_step::{METHOD, method_file};
+use crate::running::shorts;
 use crate::verdict::Verdict;
 use cap_bare::{BareMethod, bare_run, bare_verify};
 use cap_files::{Folder, LoadEnd};

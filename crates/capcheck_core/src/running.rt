@@ -1,4 +1,4 @@
-ghost use Rattle.std.specs.Prelude.{◌≡◌, ◌≤◌, Some, None, MatchResult, IfOk, IfErr, OnErr, map, string_bytes};
+ghost use Rattle.std.specs.Prelude.{◌≡◌, ◌≤◌, Some, None, MatchResult, IfOk, IfErr, OnErr, map, string_bytes, ℤ, IfSome, IfNone};
 ghost use Rattle.card_verify.specs.Answers.{AreAccepted};
 ghost use Rattle.cap_text.specs.Room.{HasRoom, IsEmpty};
 ghost use Rattle.cap_text.specs.Run.{run_request};
@@ -12,15 +12,17 @@ ghost use Rattle.capcheck_core.specs.Defend.{method_entered, run_fault};
 ghost use Rattle.capcheck_core.specs.LentCard.{IsSameCard, words_of};
 ghost use Rattle.capcheck_core.specs.Outside.{CardWords, card_words};
 ghost use Rattle.capcheck_core.specs.Run.{bounded_request, IsCardKept, HasLengths, IsLeft, IsRun, StopsRun, RunsWithMemory, RunsWorldIn};
+ghost use Rattle.capcheck_core.specs.Shorts.{IsShort, AreShorts, RefusesStart};
 
-use crate::card::Card;
+use crate::carding::Card;
 use crate::defending::{lent, method_entered};
-use crate::step::LastStep;
 use crate::typing::number_of;
 use crate::verdict::Verdict;
+use crate::world::LastStep;
+use arrayvec::ArrayVec;
 use cap_files::Folder;
 use cap_package::Packages;
-use cap_text::{Room, Run, write_not_started, write_refused_card};
+use cap_text::{OwnedArg, Room, Run, write_not_started, write_refused_card};
 use card_typing::CardFault;
 use card_verify::{Accepted, CardRoom, accept};
 use jc_base::World;
@@ -264,4 +266,39 @@ fn go_on(
         statics,
     };
     write_run(text, world, &left, Ending::Plain(ending));
+}
+
+/// The most arguments that the compact header of a method can count.
+pub const MOST_ARGS: usize = 15;
+
+/// The arguments of a method of so many shorts, or the first reason why it does not start.
+pub fn shorts(args: &[OwnedArg], wanted: u8) -> Result<ArrayVec<i16, MOST_ARGS>, StartFault>
+    requires { wanted ≤ 15 }
+    ensures found { IfOk result (λ v. AreShorts (map argument_read args.now) wanted v.items) }
+    ensures fault { IfErr result (λ f. RefusesStart (map argument_read args.now) wanted f) }
+{
+    if args.len() != usize::from(wanted) {
+        return Err(StartFault::ArgCount {
+            said: args.len(),
+            wanted: u16::from(wanted),
+        });
+    }
+    let mut shorts = ArrayVec::new();
+    for (n, arg) in args.iter().enumerate() {
+        match short(arg) {
+            Some(value) => shorts.push(value),
+            None => return Err(StartFault::ArgKind(n as u16)),
+        }
+    }
+    Ok(shorts)
+}
+
+fn short(arg: &OwnedArg) -> Option<i16>
+    ensures found { IfSome result (λ value. IsShort (argument_read arg.now) value) }
+    ensures none { IfNone result ((value : ℤ) → IsShort (argument_read arg.now) value → ⊥) }
+{
+    match arg {
+        OwnedArg::Number(number) => i16::try_from(*number).ok(),
+        OwnedArg::Null | OwnedArg::Bytes(_) => None,
+    }
 }

@@ -2,12 +2,12 @@ ghost use Rattle.xf_share.specs.Ends.{TellsOf};
 ghost use Rattle.xf_share.specs.Shared.{IsSharedFrom};
 ghost use Rattle.capcheck_core.specs.Share.{SharesIn, StopsSharing};
 
-use crate::card::Card;
-use crate::step::LastStep;
+use crate::carding::Card;
 use crate::storing::{in_order, store_parts};
 use crate::transforming::{count_of_last, roles_beside};
 use crate::typing::number_of;
 use crate::verdict::Verdict;
+use crate::world::LastStep;
 use cap_files::Folder;
 use cap_package::Packages;
 use cap_text::{OutOfDirs, limit_code, limit_part, refused_card, shared};

@@ -1,14 +1,15 @@
 //! The parts of a package in the Load file of its folder.
 ghost use Rattle.std.specs.Prelude.{ℕ, List};
 ghost use Rattle.capcheck_core.specs.PackageEnds.{FinishesStream, HasTaken, LoadsStream, PackagesLeave};
+ghost use Rattle.capcheck_core.specs.BesideEnds.{LoadsWanted};
 
-use crate::beside::load_wanted;
-use crate::folder_fault::FolderFault;
+use crate::load::FolderFault;
 use crate::packages::PackagesStop;
 use crate::storing::LOAD;
-use cap_files::Folder;
+use cap_bytes::Part;
+use cap_files::{Folder, LoadEnd};
 use cap_load::{FinishEnd, Loader};
-use cap_package::Parts;
+use cap_package::{PackFault, Parts};
 use std::alloc::Global;
 
 /// The room for contents: as many bytes as a part can have.
@@ -46,5 +47,32 @@ pub(crate) fn parts_in(
             Err(PackagesStop::Malformed(number, FolderFault::Stream(fault)))
         }
         Err(FinishEnd::Memory) => Err(PackagesStop::Memory),
+    }
+}
+
+/// A file beside the components that has to be there, for the package of a number.
+pub(crate) fn load_wanted<F: Folder>(
+    alloc: Global,
+    folder: &mut F,
+    dir: &str,
+    part: Part,
+    number: u16,
+) -> Result<Vec<u8>, PackagesStop>
+    ensures loads { LoadsWanted (F.folders folder.old) (F.folders folder.new) dir.now part.0 number result }
+    ensures folders { PackagesLeave (F.folders folder.old) (F.folders folder.new) result }
+{
+    let mut file = Vec::new(alloc);
+    match folder.load(alloc, dir, part, &mut file) {
+        Ok(true) => Ok(file),
+        Ok(false) => Err(PackagesStop::Malformed(
+            number,
+            FolderFault::Pack(PackFault::MissingPart(part.0)),
+        )),
+        Err(LoadEnd::TooLong) => Err(PackagesStop::Malformed(
+            number,
+            FolderFault::Pack(PackFault::PartTooLong(part.0)),
+        )),
+        Err(LoadEnd::Failed) => Err(PackagesStop::Failed),
+        Err(LoadEnd::Memory) => Err(PackagesStop::Memory),
     }
 }

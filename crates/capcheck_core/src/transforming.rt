@@ -5,11 +5,11 @@ ghost use Rattle.xf_pack.specs.Transformed.{IsTransformed};
 ghost use Rattle.capcheck_core.specs.Transform.{roles_beside, limit_line, StopsBefore, TransformsIn};
 ghost use Rattle.capcheck_core.specs.Typed.{count_of_last};
 
-use crate::card::Card;
-use crate::step::LastStep;
+use crate::carding::Card;
 use crate::storing::{in_order, store_parts};
 use crate::typing::{is_of_last, number_of};
 use crate::verdict::Verdict;
+use crate::world::LastStep;
 use cap_files::Folder;
 use cap_package::{OwnedParts, Packages};
 use cap_text::{

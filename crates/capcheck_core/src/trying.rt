@@ -9,12 +9,12 @@ ghost use Rattle.capcheck_core.specs.LentCard.{IsSameCard, words_of};
 ghost use Rattle.capcheck_core.specs.Run.{HasLengths};
 ghost use Rattle.capcheck_core.specs.Trial.{HasNew, IsUntriedKept, TriesIn};
 
-use crate::card::Card;
+use crate::carding::Card;
 use crate::defending::defended;
 use crate::running::{Bounded, run_carded};
-use crate::step::LastStep;
 use crate::transforming::untransformed;
 use crate::verdict::Verdict;
+use crate::world::LastStep;
 use cap_files::Folder;
 use cap_package::{OwnedParts, Package, Packages, agreed_package};
 use cap_text::{Run, not_started, tried};

@@ -3,9 +3,9 @@ ghost use Rattle.capcheck_core.specs.Typed.{is_of_last, numbers_of_method, AreTy
 ghost use Rattle.capcheck_core.specs.CheckEnds.{TypesMethod, FailsMethod};
 ghost use Rattle.capcheck_core.specs.Check.{TypesWorld};
 
-use crate::card::Card;
-use crate::step::LastStep;
+use crate::carding::Card;
 use crate::verdict::Verdict;
+use crate::world::LastStep;
 use cap_files::Folder;
 use cap_package::Packages;
 use cap_text::{MethodNumber, refused_flow, typed};

@@ -1,6 +1,8 @@
 ghost use Rattle.std.specs.Prelude.{◌≡◌, MatchResult};
 ghost use Rattle.capcheck_core.specs.Verdict.{status_of, text_of};
+ghost use Rattle.capcheck_core.specs.Report.{IsReported, seen};
 
+use cap_files::Sink;
 use std::alloc::AllocError;
 
 /// What a command decided: the status that it answers if its text can be put, with that text.
@@ -95,5 +97,18 @@ impl Verdict {
             Verdict::StoreFault => "store fault\n",
             Verdict::Memory => "memory\n",
         }
+    }
+}
+
+/// The status of a command that could not put its text.
+const PUT_FAULT: u8 = 8;
+
+/// Puts the text of a verdict and answers the status: the verdict's, or 8 where the put failed.
+pub fn report<K: Sink>(out: &mut K, verdict: &Verdict) -> u8
+    ensures { IsReported verdict.now (seen (K.received out.old) (K.faults out.old)) (seen (K.received out.new) (K.faults out.new)) result }
+{
+    match out.put(verdict.text().as_bytes()) {
+        Ok(()) => verdict.status(),
+        Err(_) => PUT_FAULT,
     }
 }

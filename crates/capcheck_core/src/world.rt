@@ -1,26 +1,49 @@
-ghost use Rattle.std.specs.Prelude.{◌≤◌, ◌+◌, ◌∷◌, length};
-ghost use Rattle.cap_files.specs.WordsLeft.{words_left};
+ghost use Rattle.jc_link.specs.World.{IsLinked};
 ghost use Rattle.capcheck_core.specs.LentCard.{IsSameCard, words_of};
 ghost use Rattle.capcheck_core.specs.Outside.{outside};
+ghost use Rattle.capcheck_core.specs.Run.{HasLengths};
+ghost use Rattle.capcheck_core.specs.World.{Own, IsUnlinkedBy, OverWorld, OverPackages};
+ghost use Rattle.std.specs.Prelude.{◌≤◌, ◌+◌, ◌∷◌, length};
+ghost use Rattle.cap_files.specs.WordsLeft.{words_left};
 ghost use Rattle.capcheck_core.specs.OverFolders.{OverFolders, OverPlaces};
 ghost use Rattle.capcheck_core.specs.OverLoads.{GivenAfterFirst, GoesOver, GoesOverAll};
 ghost use Rattle.capcheck_core.specs.Packages.{ArePartsAt};
 ghost use Rattle.capcheck_core.specs.Place.{places, source_before};
-ghost use Rattle.capcheck_core.specs.Run.{HasLengths};
-ghost use Rattle.capcheck_core.specs.World.{IsUnlinkedBy, OverWorld, OverPackages};
 
-use crate::card::Card;
+use crate::carding::Card;
+use crate::load::{Rest, Source, source_of};
 use crate::packages::{MOST, PackagesStop, count_of, load_files, read_package, roles_beside};
-use crate::rest::{Rest, source_of};
-use crate::source::Source;
-use crate::step::LastStep;
 use crate::stream::{load_stream, parts_in};
 use crate::verdict::Verdict;
 use cap_files::{Folder, WordsIter};
 use cap_package::{Packages, Parts};
 use cap_text::not_linked;
+use jc_base::World;
 use jc_link::{LinkEnd, link};
 use std::alloc::Global;
+
+/// The last step of a command over a world, with the command's operands.
+pub trait LastStep {
+    /// What the step answers, and makes of the outside, by the packages, the roles and the world that they make.
+    ghost own: { Self → Own };
+
+    /// Takes the step. It is handed all that a command may change.
+    fn take<F: Folder>(
+        &self,
+        alloc: Global,
+        packages: &Packages<'_, '_>,
+        roles: [u8; 8],
+        world: &World<'_>,
+        folder: &mut F,
+        card: &mut Card<'_>,
+    ) -> Verdict
+        requires lengths { HasLengths (words_of card.old) }
+        requires linked { IsLinked packages.now roles world.now }
+        ensures does { own self.now packages.now roles world.now
+            (outside (F.folders folder.old) (words_of card.old))
+            (outside (F.folders folder.new) (words_of card.new)) result }
+        ensures same { IsSameCard card.old card.new };
+}
 
 /// A command over the packages in folders, each by its components: it loads them with the roles, links them, and takes the
 /// command's own last step.

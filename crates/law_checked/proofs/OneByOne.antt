@@ -12,7 +12,7 @@ use Rattle.jc_link.specs.World.{IsLinked}
 use Rattle.law_sound.specs.Soundness.{IsFaultFree}
 use Rattle.law_added.specs.Checked.{IsChecked, AreCheckedOneByOne, CheckedPackagesNeverFault}
 use Rattle.capcheck_core.specs.Loads.{AreParts}
-use Rattle.capcheck_core.specs.declared.source.Source.TheVariants.{Components}
+use Rattle.capcheck_core.specs.declared.load.Source.TheVariants.{Components}
 use Rattle.capcheck_core.specs.Packages.{AreRoleBytes}
 use Rattle.capcheck_core.specs.Place.{Place, places}
 use Rattle.capcheck_core.specs.Headline.{HoldWorld}

@@ -3,7 +3,7 @@ use Rattle.std.specs.Prelude.{◌≡◌, ℕ, ◌≤◌, List, length, take, IsS
 use Rattle.cap_files.specs.Folder.{Folders}
 use Rattle.jc_base.specs.World.{Linked}
 use Rattle.law_sound.specs.Soundness.{IsFaultFree}
-use Rattle.capcheck_core.specs.declared.source.Source.TheVariants.{Components}
+use Rattle.capcheck_core.specs.declared.load.Source.TheVariants.{Components}
 use Rattle.capcheck_core.specs.Headline.{HoldWorld, Typed}
 
 -- `check` answered with status 0 over the first k folders, when these held the same parts

@@ -16,8 +16,8 @@ use Rattle.cap_text.specs.OutOfDir.{OutOfDirRequest}
 use Rattle.jc_base.specs.World.{Linked}
 use Rattle.jc_link.specs.World.{IsLinked}
 use Rattle.xf_share.specs.Ends.{HaveCardTypings}
-use Rattle.capcheck_core.specs.declared.source.Source.{Source}
-use Rattle.capcheck_core.specs.declared.source.Source.TheVariants.{Components, LoadFile}
+use Rattle.capcheck_core.specs.declared.load.Source.{Source}
+use Rattle.capcheck_core.specs.declared.load.Source.TheVariants.{Components, LoadFile}
 use Rattle.capcheck_core.specs.Completeness.{CanOverPlaces}
 use Rattle.capcheck_core.specs.Headline.{HoldWorld, Packed, StandIn}
 use Rattle.capcheck_core.specs.InLoadFile.{AreInLoadFile, load_tag, load_key}

@@ -19,7 +19,7 @@ use Rattle.capcheck_core.specs.Completeness.{CanDo}
 use Rattle.capcheck_core.specs.Headline.{HoldWorld, AreKept}
 use Rattle.capcheck_core.specs.Loads.{Has, AreParts, is_asked}
 use Rattle.capcheck_core.specs.Outside.{Outside}
-use Rattle.capcheck_core.specs.declared.source.Source.TheVariants.{Components}
+use Rattle.capcheck_core.specs.declared.load.Source.TheVariants.{Components}
 use Rattle.capcheck_core.specs.Packages.{ArePartsBy, AreRoleBytes}
 use Rattle.capcheck_core.specs.Place.{places}
 use Rattle.capcheck_core.specs.Roles.{AreRolesIn, roles_tag}

@@ -9,8 +9,8 @@ use Rattle.cap_package.specs.StandsFor.{StandsFor}
 use Rattle.cap_text.specs.Request.{install, verify}
 use Rattle.cap_text.specs.OutOfDir.{OutOfDirRequest}
 use Rattle.jc_base.specs.World.{Linked}
-use Rattle.capcheck_core.specs.declared.source.Source.{Source}
-use Rattle.capcheck_core.specs.declared.source.Source.TheVariants.{Components, LoadFile}
+use Rattle.capcheck_core.specs.declared.load.Source.{Source}
+use Rattle.capcheck_core.specs.declared.load.Source.TheVariants.{Components, LoadFile}
 use Rattle.capcheck_core.specs.Completeness.{CanDo}
 use Rattle.capcheck_core.specs.Headline.{Accepted, HoldWorld, Packed}
 use Rattle.capcheck_core.specs.InLoadFile.{AreInLoadFile}

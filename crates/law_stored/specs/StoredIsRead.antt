@@ -7,7 +7,7 @@ use Rattle.cap_text.specs.Request.{verify}
 use Rattle.cap_text.specs.OutOfDirs.{OutOfDirsRequest}
 use Rattle.jc_base.specs.World.{Linked}
 use Rattle.xf_pack.specs.Transformed.{KeepsBehaviour}
-use Rattle.capcheck_core.specs.declared.source.Source.TheVariants.{Components}
+use Rattle.capcheck_core.specs.declared.load.Source.TheVariants.{Components}
 use Rattle.capcheck_core.specs.declared.verdict.Verdict.{Verdict}
 use Rattle.capcheck_core.specs.Completeness.{CanDo}
 use Rattle.capcheck_core.specs.Headline.{HoldWorld}

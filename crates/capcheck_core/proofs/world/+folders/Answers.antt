@@ -2,7 +2,7 @@
 use Rattle.std.proofs.Common.{◌++◌, ℕ, List, [], ◌∷◌, Some, Ok, refl, sym, subst}
 use Rattle.std.proofs.lemmas.Result.{err_from_is_err_and}
 use Rattle.cap_files.specs.WordsLeft.{words_left}
-use Rattle.capcheck_core.specs.declared.source.Source.{Source}
+use Rattle.capcheck_core.specs.declared.load.Source.{Source}
 use Rattle.capcheck_core.specs.LentCard.{words_of}
 use Rattle.capcheck_core.specs.Outside.{outside}
 use Rattle.capcheck_core.specs.OverLoads.{AnswersOverRest, GoesOver}

@@ -4,7 +4,7 @@ use Rattle.std.specs.List.{take-map}
 use Rattle.std.proofs.lemmas.List.{length-map}
 use Rattle.cap_text.specs.Word.{argument_read}
 use Rattle.capcheck_core.proofs.Misfits.{misfit_at, element_at}
-use Rattle.capcheck_core.proofs.shorts.shorts.Goals as goal
+use Rattle.capcheck_core.proofs.running.shorts.Goals as goal
 
 pub returns-in-None-clause-fault : goal.returns-in-None-clause-fault
 returns-in-None-clause-fault c =

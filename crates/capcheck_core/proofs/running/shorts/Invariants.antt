@@ -1,7 +1,7 @@
 use Rattle.std.proofs.Common.{◌≡◌, map, take, All, FitsSigned, w16}
 use Rattle.vm_step.specs.Arguments.{number}
 use Rattle.cap_text.specs.Word.{argument_read}
-use Rattle.capcheck_core.proofs.shorts.shorts.Given as goal
+use Rattle.capcheck_core.proofs.running.shorts.Given as goal
 
 abbrev pub invariant-loop-n : goal.invariant-loop-n
 invariant-loop-n l = record {
