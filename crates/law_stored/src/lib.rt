@@ -3,8 +3,6 @@
 //! commands answer, of `capcheck_core`, on the writer, of `cap_write`, and on the Load file, of `cap_load`.
 #![tactic(auto)]
 
-mod packed;
 mod stored;
 
-pub use packed::packed_is_installed;
-pub use stored::stored_is_read;
+pub use stored::{packed_is_installed, stored_is_read};

@@ -1,5 +1,5 @@
 use Rattle.law_stored.proofs.PackedIsInstalled.{packed-is-installed}
-use Rattle.law_stored.proofs.packed.packed_is_installed.Goals as goal
+use Rattle.law_stored.proofs.stored.packed_is_installed.Goals as goal
 
 pub returns : goal.returns
 returns c = packed-is-installed
