@@ -87,7 +87,11 @@ module _ (w : Linked) (is : AreCardRules w) (m : Method) (mo : IsMethodOf w m) (
   entry-place q e = subst (IsPlace m.code) e.begins (All-contains (IsHandlerOf m.code) m.rec.handlers e.handler ty.formed.handlers e.listed).entry
 
   entry-room : (q : ℕ) → IsEntry m q → ¬ (m.rec.max_stack ≡ 0)
-  entry-room q e none = grind (arith, entry-place, length)
+  entry-room q e none =
+      let here = entry-place q e in
+      let deep = subst (λ p. length (stacks p) ≤ m.rec.max_stack) here.2 (ty.room here.0 here.1) in
+      let one = ap length (ty.entries q e).stack in
+      absurd (omega (arith, deep, one, none))
 
   no-fallen : (q : ℕ) → IsFallenInto m q → ¬ (IsEntry m q)
   no-fallen _ fallen_first e = ty.start.0 e
@@ -95,7 +99,12 @@ module _ (w : Linked) (is : AreCardRules w) (m : Method) (mo : IsMethodOf w m) (
 
   held-empty : (q : ℕ) (after : List Ty) → CellsBelow w.classes after regs → length after ≤ 255 → All (IsKnown w.classes) after
       → stacks q ≡ [] → IsHeld q (record { regs = after; stack = [] })
-  held-empty q after le few known e = grind (arith, none-solid)
+  held-empty q after le few known e = record {
+    below = record { regs = le; stack = subst (CellsBelow w.classes []) (sym e) no_cells };
+    known = record { few = few; regs = known; stack = All-nil (IsKnown w.classes); object = is.rules.world.chains.objects };
+    full = All-nil IsNotBottom;
+    solid = none-solid w (stacks q) e;
+  }
 
   held-caught : (q c : ℕ) (after : List Ty) → CellsBelow w.classes after regs → length after ≤ 255 → All (IsKnown w.classes) after → IsEntry m q
       → CatchesAt w.classes m q c → IsHeld q (record { regs = after; stack = Class c ∷ [] })
@@ -132,7 +141,12 @@ module _ (w : Linked) (is : AreCardRules w) (m : Method) (mo : IsMethodOf w m) (
 
   module _ (i : Placed) (there : HasInstruction m.code i) (after : Frame) (g : IsGiven i there after) where
     held-given : (q : ℕ) → stacks q ≡ (ty.typed i there).after.stack → IsHeld q after
-    held-given q e = grind (arith)
+    held-given q e = record {
+      below = record { regs = g.below.regs; stack = subst (CellsBelow w.classes after.stack) (sym e) g.below.stack };
+      known = g.known;
+      full = g.full;
+      solid = subst (IsSolid w) (sym e) g.solid;
+    }
 
     held-none : (q : ℕ) → stacks q ≡ [] → IsHeld q (record { regs = after.regs; stack = [] })
     held-none q e = held-empty q after.regs g.below.regs g.known.few g.known.regs e
@@ -195,15 +209,24 @@ refusal-denies w is flaws m _ _ mo (refused_state fault kept formed state) has =
 -- ---- what a refusal tells
 
 pub fault-kind : (flaw : Flaw) → IsFlawKind (fault_of flaw).kind
-fault-kind x = grind (arith)
+fault-kind (flaws.Code place end) = tt
+fault-kind (flaws.BadTarget place target) = tt
+fault-kind (flaws.BadHandler entry number) = tt
 
 wrong-kind : (w : Linked) (m : Method) (marked : ℕ → Type 0) (i : Placed) (before kept : Frame) (kind : CardKind)
     → IsWrong w m marked i before kind kept → ¬ (IsFlawKind kind)
-wrong-kind w m marked i before x x2 x22 = grind (arith)
+wrong-kind w m marked i before _ _ (wrong_entry e from) = λ h. h
+wrong-kind w m marked i before _ _ (wrong_room e free none) = λ h. h
+wrong-kind w m marked i before _ _ (wrong_mark free mark fallen deep) = λ h. h
+wrong-kind w m marked i before _ _ (wrong_rule fault suits refuses) = λ h. h
+wrong-kind w m marked i before _ _ (wrong_branch after o suits applies jumps deep) = λ h. h
+wrong-kind w m marked i before _ _ (wrong_end after o suits applies branch goes end) = λ h. h
 
 pub state-kind : (w : Linked) (m : Method) (marked : ℕ → Type 0) (visits : ℕ) (fault : CardFault) (kept : Frame)
     → IsRefusedAfter w m marked visits fault kept → ¬ (IsFlawKind fault.kind)
 state-kind w m marked visits _ _ (refused_at i before kept kind there met wrong) = wrong-kind w m marked i before kept kind wrong
 
 pub flaws-are-told : (w : Linked) → FlawsDecide → FlawsAreTold w
-flaws-are-told w decide m x x2 x22 = grind (arith, fault-kind, state-kind)
+flaws-are-told w decide m _ _ (refused_flaw flaw kept first) = (λ h formed. (decide m).0 formed first.spot flaw first.flaw, λ h. fault-kind flaw)
+flaws-are-told w decide m _ _ (refused_state fault kept formed state) =
+    (λ h. absurd (state-kind w m (IsTarget m) state.visits fault kept state.after h), λ h. absurd (h formed))

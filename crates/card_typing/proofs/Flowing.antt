@@ -2,7 +2,7 @@
 use Rattle.std.proofs.Common.{◌≡◌, ℕ, ◌+◌, ◌<◌, ◌≤◌, ⊎_elim, Bool, true, false, if◌then◌else◌, List, [], ◌∷◌, length, All}
 use Rattle.std.proofs.Common.{Some, refl, sym, subst, arith, Contains}
 use Rattle.std.specs.Prelude.{ℤ, pos, map}
-use Rattle.std.proofs.lemmas.List.Elements.{All-contains, All-nil}
+use Rattle.std.proofs.lemmas.List.Elements.{All-contains, All-nil, All-cons}
 use Rattle.jc_base.specs.declared.ty.Ty.{Ty}
 use Rattle.jc_base.specs.declared.ty.Ty.TheVariants.{Bottom, Class}
 use Rattle.jc_base.specs.declared.record.Handler.{Handler}
@@ -57,7 +57,10 @@ module _ (w : Linked) (is : AreRules w) (m : Method) (mo : IsMethodOf w m) (mark
   known-with stack k = record { few = few; regs = ty.types; stack = k; object = is.world.chains.objects }
 
   pub entered-solid : (q : ℕ) → IsEntered w m stacks q → IsSolid w (stacks q)
-  entered-solid q e = grind (arith)
+  entered-solid q e = subst (IsSolid w) (sym e.stack) (record {
+    known = All-cons (IsKnown w.classes) (Class e.class) [] e.catches.class (All-nil (IsKnown w.classes));
+    no_top = All-cons IsNotTop (Class e.class) [] tt (All-nil IsNotTop);
+  })
 
   pub given-solid : (i : Placed) (t : IsTyped w m regs stacks i) → IsSolid w (stacks i.place) → IsSolid w t.after.stack
   given-solid i t s =
@@ -103,7 +106,15 @@ module _ (w : Linked) (is : AreRules w) (m : Method) (mo : IsMethodOf w m) (regs
     succ-below i there _ (falls_through goes) =
         let t = ty.typed i there in
         record { regs = t.stored; stack = subst (CellsBelow w.classes t.after.stack) (sym (t.goes_on goes).next) (is.order.self t.after.stack) }
-    succ-below i there q (jumped among) = grind (arith, jumps-where m.code i (pos q) among, target-of i q there among)
+    succ-below i there q (jumped among) =
+        let t = ty.typed i there in
+        let left = t.branch (jumps-where m.code i (pos q) among) in
+        let there_empty = (ty.targets q (target-of i q there among)).1 in
+        record {
+          regs = t.stored;
+          stack = subst (λ xs. CellsBelow w.classes xs (stacks q)) (sym left)
+              (subst (CellsBelow w.classes []) (sym there_empty) no_cells);
+        }
 
     caught-below : (p : ℕ) (h : Handler) → Contains m.rec.handlers h → FrameBelow w.classes (caught_frame h (frame_at regs stacks p))
         (frame_at regs stacks h.entry)
@@ -117,7 +128,9 @@ module _ (w : Linked) (is : AreRules w) (m : Method) (mo : IsMethodOf w m) (regs
 
     leader-ready : (q : ℕ) → IsLeader m q → All IsNotFresh (stacks q)
     leader-ready _ (led_to {i = i} {q = q} there r among) = subst (All IsNotFresh) (sym (ty.targets q (target-of i q there among)).1) (All-nil IsNotFresh)
-    leader-ready _ (entered {h = h} r there covers) = grind (arith, entry-of h there)
+    leader-ready _ (entered {h = h} r there covers) =
+        let e = ty.entries h.entry (entry-of h there) in
+        subst (All IsNotFresh) (sym e.stack) (All-cons IsNotFresh (Class e.class) [] tt (All-nil IsNotFresh))
 
     flow-typing : FlowTyping w m Bottom (λ p. Some (frame_at regs stacks p))
     flow-typing = record {
@@ -138,4 +151,7 @@ module _ (w : Linked) (is : AreRules w) (m : Method) (mo : IsMethodOf w m) (regs
     }
 
 pub card-is-flow : (w : Linked) → AreRules w → InstructionsArePlaced → CardIsFlow w
-card-is-flow w is placed m mo has = grind (arith, flow-typing w is m mo has.regs has.stacks has.typing placed)
+card-is-flow w is placed m mo has = record {
+  frames = λ p. Some (frame_at has.regs has.stacks p);
+  typing = flow-typing w is m mo has.regs has.stacks has.typing placed;
+}

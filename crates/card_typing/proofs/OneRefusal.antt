@@ -19,7 +19,7 @@ use Rattle.jc_rules.specs.FlowLaws.{AreRules}
 use Rattle.card_typing.specs.declared.fault.CardFault.{CardFault}
 use Rattle.card_typing.specs.declared.fault.CardKind.{CardKind}
 use Rattle.card_typing.specs.declared.fault.CardKind.TheVariants.{Rule}
-use Rattle.card_typing.specs.Place.{CatchesAt}
+use Rattle.card_typing.specs.Place.{IsTarget, CatchesAt}
 use Rattle.card_typing.specs.Met.{Arrives, arrives_falling, arrives_empty, arrives_caught, arrives_full, IsOpenTo, IsPassed, GoesTo, goes_there, goes_again}
 use Rattle.card_typing.specs.Met.{IsMetAfter, met_start, met_next}
 use Rattle.card_typing.specs.Refusal.{IsWrong, wrong_entry, wrong_room, wrong_mark, wrong_rule, wrong_branch, wrong_end, fault_of, fault_at, IsFlawKind}
@@ -53,7 +53,8 @@ module _ (w : Linked) (m : Method) (marked : ℕ → Type 0) where
   next-of : (i : Placed) (q : ℕ) (before after : Frame) (o : Outcome) (stack : List Ty) → IsPassed w m marked i before after o
       → GoesTo m (i.place + i.insn.len) q → Arrives w m (falls i.insn.op) after.stack q stack
       → IsNext w m marked i.place before q (record { regs = after.regs; stack = stack })
-  next-of i q before after o stack passed goes a = grind (arith)
+  next-of i q before after o stack passed goes a =
+      record { i = i; at = refl; after = after; o = o; passed = passed; goes = goes; stack = stack; arrives = a; is = refl }
 
   -- the state before the first visit
   record IsFirst (q : ℕ) (f : Frame) : Type 0 where
@@ -63,7 +64,8 @@ module _ (w : Linked) (m : Method) (marked : ℕ → Type 0) where
     is : f ≡ begun m stack
 
   met-first : (n q : ℕ) (f : Frame) → IsMetAfter w m marked n q f → n ≡ 0 → IsFirst q f
-  met-first x x2 x22 x222 e = grind (arith)
+  met-first _ _ _ (met_start stack a) e = record { stack = stack; arrives = a; at = refl; is = refl }
+  met-first _ _ _ (met_next visits i q before after o stack met passed goes a) e = absurd (omega (arith, e))
 
   -- the state that is met a visit sooner
   record ComesFrom (n q : ℕ) (f : Frame) : Type 0 where
@@ -74,7 +76,14 @@ module _ (w : Linked) (m : Method) (marked : ℕ → Type 0) where
 
   met-from : (n k q : ℕ) (f : Frame) → IsMetAfter w m marked n q f → n ≡ suc k → ComesFrom k q f
   met-from _ k _ _ (met_start stack a) e = absurd (omega (arith, e))
-  met-from _ k _ _ (met_next visits i q before after o stack met passed goes a) e = grind (arith, next-of)
+  met-from _ k _ _ (met_next visits i q before after o stack met passed goes a) e =
+      let same : visits ≡ k = omega (arith, e) in
+      record {
+        place = i.place;
+        before = before;
+        met = subst (λ (n : ℕ). IsMetAfter w m marked n i.place before) same met;
+        next = next-of i q before after o stack passed goes a;
+      }
 
   -- the state that is met sooner still, from which the walk goes on
   record GoesOnAfter (n : ℕ) : Type 0 where
@@ -86,7 +95,9 @@ module _ (w : Linked) (m : Method) (marked : ℕ → Type 0) where
     next : IsNext w m marked place before to after
 
   goes-from : (d n k q : ℕ) (f : Frame) → IsMetAfter w m marked k q f → k ≡ suc (d + n) → GoesOnAfter n
-  goes-from zero n k q f a e = grind (arith, met-from k n q f a (omega (arith, e)))
+  goes-from zero n k q f a e =
+      let x = met-from k n q f a (omega (arith, e)) in
+      record { place = x.place; before = x.before; met = x.met; to = q; after = f; next = x.next }
   goes-from (suc d) n k q f a e =
       let x = met-from k (suc (d + n)) q f a (omega (arith, e)) in
       goes-from d n (suc (d + n)) x.place x.before x.met refl
@@ -143,20 +154,31 @@ module _ (w : Linked) (rules : AreRules w) (m : Method) (mo : IsMethodOf w m) (m
     same-insn = (rules.listed m.code).one b.i a.i b.passed.stands a.passed.stands (b.at ∙ sym a.at)
 
     same-after : b.after ≡ a.after
-    same-after = grind (arith, same-insn, at-site)
+    same-after =
+        let passed = subst (λ (i : Placed). IsPassed w m marked i f b.after b.o) same-insn b.passed in
+        (rules.decides (site_of m a.i.place) a.i.insn Card f).one (at-site w m mo passed.applies) (at-site w m mo a.passed.applies)
 
     same-place : q ≡ r
     same-place = goes-one (a.i.place + a.i.insn.len) q r a.goes (subst (λ (i : Placed). GoesTo m (i.place + i.insn.len) r) same-insn b.goes)
 
     same-stack : a.stack ≡ b.stack
-    same-stack = grind (arith, same-place, same-insn, arrives-one, same-after)
+    same-stack =
+        let here = subst (λ (n : ℕ). Arrives w m (falls b.i.insn.op) b.after.stack n b.stack) (sym same-place) b.arrives in
+        let by = subst (λ (i : Placed). Arrives w m (falls i.insn.op) b.after.stack q b.stack) same-insn here in
+        arrives-one (falls a.i.insn.op) a.after.stack q a.stack b.stack a.arrives
+        (subst (λ (x : Frame). Arrives w m (falls a.i.insn.op) x.stack q b.stack) same-after by)
 
     same-frame : g ≡ h
-    same-frame = grind (arith, same-stack, same-after)
+    same-frame =
+        a.is ∙ ap (λ (s : List Ty). record { regs = a.after.regs; stack = s }) same-stack
+        ∙ ap (λ (x : Frame). record { regs = x.regs; stack = b.stack }) (sym same-after) ∙ sym b.is
 
   -- one state is met after so many visits
   met-same : (n p q : ℕ) (f g : Frame) → IsMetAfter w m marked n p f → IsMetAfter w m marked n q g → (p ≡ q) × (f ≡ g)
-  met-same zero p q f g a b = grind (arith, met-first w m marked 0 p f a refl, met-first w m marked 0 q g b refl, arrives-one)
+  met-same zero p q f g a b =
+      let x = met-first w m marked 0 p f a refl in
+      let y = met-first w m marked 0 q g b refl in
+      (x.at ∙ sym y.at, x.is ∙ ap (begun m) (arrives-one true [] 0 x.stack y.stack x.arrives y.arrives) ∙ sym y.is)
   met-same (suc n) p q f g a b =
       let x = met-from w m marked (suc n) n p f a refl in
       let y = met-from w m marked (suc n) n q g b refl in
@@ -188,7 +210,9 @@ module _ (w : Linked) (rules : AreRules w) (m : Method) (mo : IsMethodOf w m) (m
     unpassed _ _ (wrong_mark free mark fallen deep) after o passed = deep (passed.suits.mark mark fallen)
     unpassed _ _ (wrong_rule fault suits refuses) after o passed =
         (rules.decides (site_of m i.place) i.insn Card before).never_both (at-site w m mo passed.applies) (refuses-at-site w m mo refuses)
-    unpassed _ _ (wrong_branch left p suits applies jumps deep) after o passed = grind (arith, at-site)
+    unpassed _ _ (wrong_branch left p suits applies jumps deep) after o passed =
+        let same : left ≡ after = (rules.decides (site_of m i.place) i.insn Card before).one (at-site w m mo applies) (at-site w m mo passed.applies) in
+        deep (ap (λ (x : Frame). x.stack) same ∙ passed.branch jumps)
     unpassed _ _ (wrong_end left p suits applies empty goes end) after o passed = let inside = passed.goes_on goes in absurd (omega (arith, inside, end))
 
     pub wrong-one : IsOpenTo m marked i.place before.stack → (kind other : CardKind) (kept held : Frame) → IsWrong w m marked i before kind kept
@@ -207,12 +231,18 @@ module _ (w : Linked) (rules : AreRules w) (m : Method) (mo : IsMethodOf w m) (m
         absurd ((rules.decides (site_of m i.place) i.insn Card before).never_both (at-site w m mo applies) (refuses-at-site w m mo r))
     wrong-one suits _ _ _ _ (wrong_branch f o u applies j d) (wrong_rule fault v r) =
         absurd ((rules.decides (site_of m i.place) i.insn Card before).never_both (at-site w m mo applies) (refuses-at-site w m mo r))
-    wrong-one suits _ _ _ _ (wrong_branch f o u applies j d) (wrong_branch g p v also k e) = grind (arith, at-site)
-    wrong-one suits _ _ _ _ (wrong_branch f o u applies j d) (wrong_end g p v also empty goes end) = grind (arith, at-site)
+    wrong-one suits _ _ _ _ (wrong_branch f o u applies j d) (wrong_branch g p v also k e) =
+        (refl, (rules.decides (site_of m i.place) i.insn Card before).one (at-site w m mo applies) (at-site w m mo also))
+    wrong-one suits _ _ _ _ (wrong_branch f o u applies j d) (wrong_end g p v also empty goes end) =
+        let same : f ≡ g = (rules.decides (site_of m i.place) i.insn Card before).one (at-site w m mo applies) (at-site w m mo also) in
+        absurd (d (ap (λ (x : Frame). x.stack) same ∙ empty j))
     wrong-one suits _ _ _ _ (wrong_end f o u applies empty goes end) (wrong_rule fault v r) =
         absurd ((rules.decides (site_of m i.place) i.insn Card before).never_both (at-site w m mo applies) (refuses-at-site w m mo r))
-    wrong-one suits _ _ _ _ (wrong_end f o u applies empty goes end) (wrong_branch g p v also j d) = grind (arith, at-site)
-    wrong-one suits _ _ _ _ (wrong_end f o u applies empty goes end) (wrong_end g p v also none on off) = grind (arith, at-site)
+    wrong-one suits _ _ _ _ (wrong_end f o u applies empty goes end) (wrong_branch g p v also j d) =
+        let same : g ≡ f = (rules.decides (site_of m i.place) i.insn Card before).one (at-site w m mo also) (at-site w m mo applies) in
+        absurd (d (ap (λ (x : Frame). x.stack) same ∙ empty j))
+    wrong-one suits _ _ _ _ (wrong_end f o u applies empty goes end) (wrong_end g p v also none on off) =
+        (refl, (rules.decides (site_of m i.place) i.insn Card before).one (at-site w m mo applies) (at-site w m mo also))
 
     -- two things that are wrong with a state are one, also where the place may not have the stack
     wrong-alike : (kind other : CardKind) (kept held : Frame) → IsWrong w m marked i before kind kept → IsWrong w m marked i before other held
@@ -283,7 +313,9 @@ module _ (w : Linked) (rules : AreRules w) (m : Method) (mo : IsMethodOf w m) (o
       (ap fault_of (one_flaw m f g first also), λ of_state. absurd (of_state (fault-kind f)))
   refusal-one-of _ _ _ _ (refused_flaw f kept first) (refused_state fault held formed state) = absurd (first-flaw-refuses m f first formed)
   refusal-one-of _ _ _ _ (refused_state fault kept formed state) (refused_flaw f held first) = absurd (first-flaw-refuses m f first formed)
-  refusal-one-of _ _ _ _ (refused_state fault kept formed state) (refused_state other held also is) = grind (arith, state-one)
+  refusal-one-of _ _ _ _ (refused_state fault kept formed state) (refused_state other held also is) =
+      let one = state-one w rules m mo (IsTarget m) state.visits is.visits fault other kept held state.after is.after in
+      (one.1, λ of_state. one.2)
 
 pub refusal-one : (w : Linked) → AreRules w → FirstFlawIsOne → RefusalIsOne w
 refusal-one w rules one_flaw m fault other kept held mo r s = refusal-one-of w rules m mo one_flaw fault other kept held r s

@@ -36,15 +36,24 @@ eq-other n m lt = grind arith
 module _ (w : Linked) (m : Method) where
   arrived-falling : {b : Bool} {given : List Ty} {q : ℕ} {stack : List Ty} → Arrives w m b given q stack → b ≡ true → ¬ (IsEntry m q)
       → stack ≡ given
-  arrived-falling x h n = grind (arith, false≢true)
+  arrived-falling (arrives_falling free e) h n = refl
+  arrived-falling (arrives_empty free e) h n = absurd (false≢true (sym e ∙ h))
+  arrived-falling (arrives_caught c entry room catches) h n = absurd (n entry)
+  arrived-falling (arrives_full entry none) h n = absurd (n entry)
 
   pub arrived-empty : {b : Bool} {given : List Ty} {q : ℕ} {stack : List Ty} → Arrives w m b given q stack → b ≡ false → ¬ (IsEntry m q)
       → stack ≡ []
-  arrived-empty x h n = grind (arith, false≢true)
+  arrived-empty (arrives_falling free e) h n = absurd (false≢true (sym h ∙ e))
+  arrived-empty (arrives_empty free e) h n = refl
+  arrived-empty (arrives_caught c entry room catches) h n = absurd (n entry)
+  arrived-empty (arrives_full entry none) h n = absurd (n entry)
 
   arrived-caught : {b : Bool} {given : List Ty} {q : ℕ} {stack : List Ty} → Arrives w m b given q stack → IsEntry m q → ¬ (m.rec.max_stack ≡ 0)
       → (c : ℕ) × CatchesAt w.classes m q c × (stack ≡ Class c ∷ [])
-  arrived-caught x h n = grind (arith)
+  arrived-caught (arrives_falling free e) h n = absurd (free h)
+  arrived-caught (arrives_empty free e) h n = absurd (free h)
+  arrived-caught (arrives_caught c entry room catches) h n = (c, catches, refl)
+  arrived-caught (arrives_full entry none) h n = absurd (n none)
 
   arrived-room : {b : Bool} {given : List Ty} {q : ℕ} {stack : List Ty} → Arrives w m b given q stack → length given ≤ m.rec.max_stack
       → length stack ≤ m.rec.max_stack
@@ -81,7 +90,8 @@ module _ (w : Linked) (m : Method) (marked : ℕ → Type 0) (regs : List Ty) wh
   module _ (mo : IsMethodOf w m) (ordered : InstructionsAreListed) (stacks : ℕ → List Ty) where
     after-room : (i : Placed) {stack after : List Ty} {o : Outcome} → IsPassed w m marked i (record { regs = regs; stack = stack })
         (record { regs = regs; stack = after }) o → length after ≤ m.rec.max_stack
-    after-room i {stack} {after} {o} p = grind (arith)
+    after-room i {stack} {after} {o} p =
+        p.applies.does.room
 
     -- what the pass has at the place where it goes on
     onward : (at : ℕ) (is : List Placed) (b : Bool) (given : List Ty) (u : IsQuiet w m marked regs b given is) → Lists m.code at is
@@ -115,7 +125,10 @@ module _ (w : Linked) (m : Method) (marked : ℕ → Type 0) (regs : List Ty) wh
         here = agree i.place (omega (arith, place)) ∙ ap (λ (t : Bool). if t then stack else stack-in (falls i.insn.op) after is u i.place) test
 
         agrees : (q : ℕ) → at + i.insn.len ≤ q → stacks q ≡ stack-in (falls i.insn.op) after is u q
-        agrees q le = grind (arith, eq-other)
+        agrees q le =
+            let long : 0 < i.insn.len = (ordered m.code).long at i.insn l.1 in
+            let other : (q == i.place) ≡ false = eq-other q i.place (omega (arith, place)) in
+            agree q (omega arith) ∙ ap (λ (t : Bool). if t then stack else stack-in (falls i.insn.op) after is u q) other
 
         fallen : falls i.insn.op ≡ true → IsFallenInto m (at + i.insn.len)
         fallen e = subst (λ n. IsFallenInto m (n + i.insn.len)) place (fallen_from i p.stands e)
@@ -125,7 +138,19 @@ module _ (w : Linked) (m : Method) (marked : ℕ → Type 0) (regs : List Ty) wh
         next = onward (at + i.insn.len) is (falls i.insn.op) after u l.2 end agrees
 
         this : IsVisited stacks i
-        this = grind (arith, here, next, length)
+        this = record {
+          may_fall = b;
+          given = given;
+          from = λ e. subst (IsFallenInto m) (sym place) (from e);
+          room = room;
+          arrives = subst (Arrives w m b given i.place) (sym here) a;
+          after = after;
+          outcome = o;
+          passed = subst (λ (s : List Ty). IsPassed w m marked i (record { regs = regs; stack = s }) (record { regs = regs; stack = after }) o) (sym here) p;
+          next =
+              subst (λ (n : ℕ). Arrives w m (falls i.insn.op) after (n + i.insn.len) (stacks (n + i.insn.len))
+              ⊎ ((n + i.insn.len ≡ length m.code) × (stacks (n + i.insn.len) ≡ []))) (sym place) next;
+        }
 
 -- ---- the typing
 
@@ -163,7 +188,10 @@ module _ (w : Linked) (rests : RuleRests w) (placed : InstructionsArePlaced) (or
       here = entry-place q e
 
       enters : IsEntry m here.0.place → IsEntered w m stacks here.0.place
-      enters entry = grind (arith, visit here.0 here.1, arrived-caught)
+      enters entry =
+          let v = visit here.0 here.1 in
+          let c = arrived-caught w m v.arrives entry (v.passed.suits.caught entry) in
+          record { class = c.0; catches = c.1; stack = c.2 }
 
   mark-empty : (i : Placed) → HasInstruction m.code i → marked i.place → ¬ (IsEntry m i.place) → stacks i.place ≡ []
   mark-empty i there t free = by (visit i there).may_fall refl

@@ -1,5 +1,5 @@
 -- What holds of each met state.
-use Rattle.std.proofs.Common.{ℕ, Bool, List, [], All, arith}
+use Rattle.std.proofs.Common.{ℕ, Bool, List, All, arith}
 use Rattle.std.proofs.lemmas.List.Elements.{All-nil}
 use Rattle.jc_base.specs.declared.ty.Ty.{Ty}
 use Rattle.jc_base.specs.declared.ty.Ty.TheVariants.{Bottom}
