@@ -1,4 +1,4 @@
-ghost use Rattle.std.specs.Prelude.{◌≡◌, ◌≤◌, ◌<◌, ◌^◌, ◌↔◌, All, IfOk, IsSomeAnd, Err, length, slice_get};
+ghost use Rattle.std.specs.Prelude.{◌≡◌, [], ◌≤◌, ◌<◌, ◌^◌, ◌↔◌, All, IfOk, OnOk, IsSomeAnd, Err, length, slice_get};
 ghost use Rattle.jc_control.specs.Method.{method_in};
 ghost use Rattle.jc_flow.specs.Infer.{AreDerived};
 ghost use Rattle.jc_rules.specs.Typing.{state_at};
@@ -13,7 +13,7 @@ ghost use Rattle.xf_emission.specs.Numbers.{HasNumbers};
 ghost use Rattle.law_rewritten_typing.specs.Typed.{HasTypingByHomes};
 ghost use Rattle.law_groups.specs.Matching.{MatchesMethod};
 
-use crate::emitter::{Emitter, Output, put};
+use crate::emitter::{Emitted, Emitter, Output, put};
 use crate::ways::{Stubs, next_reached};
 use cap_bytes::{View, are_bytes};
 use jc_base::World;
@@ -45,28 +45,35 @@ impl From<AllocError> for RewriteEnd {
 }
 
 impl Emitter<'_> {
-    /// The items of a method.
+    /// Appends the items of a method, where there are none yet.
     #[tactic(auto, unfolding(xf_emission::specs::Emission::items))]
+    fn put_items(&self, out: &mut Output, stubs: &mut Stubs) -> Emitted
+        requires subject { IsSubject self.now.plan }
+        requires few { length self.now.plan.walk.rec.now.handlers ≤ 255 }
+        requires none { (out.old.items.items ≡ []) × (stubs.old.items.items ≡ []) }
+        ensures { OnOk result (out.new.items.items ≡ items (source self.now.plan)) }
+    {
+        self.copies(Origin::Start, 0, out)?;
+        self.groups(out, stubs)?;
+        let end = self.plan.walk.code.bytes.len() as u16;
+        put(&mut out.items, Item::Label(end))?;
+        out.items.append(&mut stubs.items)?;
+        self.handler_stubs(out)
+    }
+
+    /// The items of a method.
     fn items(&self) -> Result<Vec<Item>, AllocError>
         requires subject { IsSubject self.now.plan }
         requires few { length self.now.plan.walk.rec.now.handlers ≤ 255 }
         ensures { IfOk result (λ is. is.items ≡ items (source self.now.plan)) }
     {
         let mut out = Output::new(self.alloc);
-        self.copies(Origin::Start, 0, &mut out)?;
         let mut stubs = Stubs {
             items: Vec::new(self.alloc),
             way: Output::new(self.alloc),
         };
-        self.groups(&mut out, &mut stubs)?;
-        put(
-            &mut out.items,
-            Item::Label(self.plan.walk.code.bytes.len() as u16),
-        )?;
-        out.items.append(&mut stubs.items)?;
-        self.handler_stubs(&mut out)?;
-        let Output { items, .. } = out;
-        Ok(items)
+        self.put_items(&mut out, &mut stubs)?;
+        Ok(out.items)
     }
 }
 
