@@ -1,1 +1,2 @@
+pub mod OneMethod
 pub mod TwoPackages

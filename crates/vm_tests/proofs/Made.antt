@@ -6,8 +6,8 @@ use Rattle.vm_store.specs.declared.cell.ObjectKind.{ObjectKind}
 use Rattle.vm_store.specs.declared.cell.ObjectKind.TheVariants.{Instance}
 use Rattle.jc_base.specs.Class.{ClassTable, IsClass, chain, chain_over, parent_of}
 use Rattle.jc_base.specs.Dispatch.{cells_of, own_cells}
-use Rattle.flow_tests.specs.OneMethod.{classes as sample_classes}
-use Rattle.flow_tests.proofs.OneMethod.{is_first}
+use Rattle.jc_tests.specs.OneMethod.{classes as sample_classes}
+use Rattle.jc_tests.proofs.OneMethod.{is_first}
 use Rattle.vm_store.specs.State.{Object, State}
 use Rattle.vm_store.specs.Kind.{element_width}
 use Rattle.vm_store.specs.Cells.{Cells}

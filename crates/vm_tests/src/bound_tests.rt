@@ -1,6 +1,6 @@
 use card_verify::{Accepted, CardRoom, accept};
-use flow_tests::{Shape, world};
 use jc_base::World;
+use jc_tests::{Shape, world};
 use std::alloc::{AllocError, Global};
 use vm_bound::{Bound, BoundEnd, bound};
 use vm_step::StartFault;

@@ -2,8 +2,8 @@ ghost use Rattle.std.specs.Prelude.{◌≡◌, IfOk, length};
 ghost use Rattle.vm_offend.specs.Sized.{AreSized};
 
 use card_verify::{Accepted, CardRoom, accept};
-use flow_tests::{Shape, world};
 use jc_base::World;
+use jc_tests::{Shape, world};
 use std::alloc::{AllocError, Global};
 use vm_offend::{sizes, start};
 use vm_step::{Arg, Args, Ending, Plain, Value};

@@ -1,12 +1,12 @@
 ghost use Rattle.std.specs.Prelude.{◌≡◌, ◌<◌, IsSomeAnd, slice_get};
-ghost use Rattle.flow_tests.specs.OneMethod.{classes};
+ghost use Rattle.jc_tests.specs.OneMethod.{classes};
 
 use crate::stores::{
     arrays_keep, cells_reach_their_limit, instance_keeps, objects_reach_their_limit, stack_turns,
     statics_keep,
 };
-use flow_tests::{Shape, world};
 use jc_base::World;
+use jc_tests::{Shape, world};
 use std::alloc::{AllocError, Global};
 use vm_offend::{Counts, WordStore};
 use vm_store::{Cell, CellForm, TaggedStore};

@@ -1,6 +1,6 @@
 //! What is tried of any store, tagged or of bare words: the same calls, and the words that they leave.
 ghost use Rattle.std.specs.Prelude.{◌≡◌, ◌*◌, ◌<◌, IsSome, IsTrue, length};
-ghost use Rattle.flow_tests.specs.OneMethod.{classes};
+ghost use Rattle.jc_tests.specs.OneMethod.{classes};
 ghost use Rattle.vm_store.specs.Kind.{IsArrayKind, IsNumbered, element_width};
 ghost use Rattle.vm_store.specs.Objects.{has_room, object_at, object_cells};
 ghost use Rattle.vm_store.specs.State.{frame_limit};

@@ -11,7 +11,7 @@ use Rattle.jc_rules.specs.Demand.{Frame}
 use Rattle.xf_homes.specs.Source.{Source}
 use Rattle.xf_emission.specs.Move.{with_byte}
 use Rattle.law_groups.specs.Matching.{MatchesFrames}
-use Rattle.flow_tests.specs.OneMethod.{classes}
+use Rattle.jc_tests.specs.OneMethod.{classes}
 
 -- ---- a world of one method
 

@@ -1,9 +1,9 @@
 ghost use Rattle.std.specs.Prelude.{◌<◌, IsSomeAnd, slice_get};
 
-use flow_tests::{Range, Shape, world};
 use jc_base::World;
 use jc_decode::{Item, Symbols};
 use jc_flow::infer;
+use jc_tests::{Range, Shape, world};
 use std::alloc::{AllocError, Global};
 use std::test::*;
 use xf_code::rewrite;

@@ -1,7 +1,7 @@
 ghost use Rattle.std.specs.Prelude.{◌≡◌, ◌<◌, ◌≤◌, ◌∷◌, [], None, false, All, length, IfOk, IsSomeAnd, slice_get};
 ghost use Rattle.jc_base.specs.ByClass.{IsIndexOf};
 ghost use Rattle.jc_base.specs.Linked.{IsHandler};
-ghost use Rattle.flow_tests.specs.OneMethod.{arguments_of, classes, only_method};
+ghost use Rattle.jc_tests.specs.OneMethod.{arguments_of, classes, only_method};
 
 use crate::caught::{Range, handler};
 use crate::shape::Shape;

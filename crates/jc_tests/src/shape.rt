@@ -1,5 +1,5 @@
 ghost use Rattle.std.specs.Prelude.{◌≡◌};
-ghost use Rattle.flow_tests.specs.OneMethod.{locals_of, result_of, words_of};
+ghost use Rattle.jc_tests.specs.OneMethod.{locals_of, result_of, words_of};
 
 use jc_base::Ty;
 

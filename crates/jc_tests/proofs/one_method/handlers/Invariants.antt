@@ -1,8 +1,8 @@
 use Rattle.std.proofs.Common.{◌≡◌, [], ◌∷◌, length, All}
 use Rattle.jc_base.specs.declared.record.Member.TheVariants.{ClassOf}
 use Rattle.jc_base.specs.Linked.{IsHandler}
-use Rattle.flow_tests.specs.OneMethod.{classes}
-use Rattle.flow_tests.proofs.one_method.handlers.Given as goal
+use Rattle.jc_tests.specs.OneMethod.{classes}
+use Rattle.jc_tests.proofs.one_method.handlers.Given as goal
 
 abbrev pub invariant-walk : goal.invariant-walk
 invariant-walk l = record {

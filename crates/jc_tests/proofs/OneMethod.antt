@@ -20,9 +20,9 @@ use Rattle.jc_base.proofs.Leading.{leads-nowhere}
 use Rattle.jc_base.proofs.Bodies.{linked_more}
 use Rattle.jc_base.specs.Linked.{AreLinkedClasses, IsMethod, IsHandler, IsLinkedClass, IsDispatch, IsMember}
 use Rattle.jc_base.specs.World.{IsWorld, IsThrown}
-use Rattle.flow_tests.specs.declared.shape.Shape.{Shape}
-use Rattle.flow_tests.specs.declared.shape.Shape.TheVariants as shapes
-use Rattle.flow_tests.specs.OneMethod.{arguments_of, classes, locals_of, only_method, own_cells, result_of, sample, words_of}
+use Rattle.jc_tests.specs.declared.shape.Shape.{Shape}
+use Rattle.jc_tests.specs.declared.shape.Shape.TheVariants as shapes
+use Rattle.jc_tests.specs.OneMethod.{arguments_of, classes, locals_of, only_method, own_cells, result_of, sample, words_of}
 
 -- ---- the classes
 

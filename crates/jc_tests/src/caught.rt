@@ -1,6 +1,6 @@
 ghost use Rattle.std.specs.Prelude.{◌<◌, ◌∷◌, []};
 ghost use Rattle.jc_base.specs.Linked.{IsHandler};
-ghost use Rattle.flow_tests.specs.OneMethod.{classes};
+ghost use Rattle.jc_tests.specs.OneMethod.{classes};
 
 use jc_base::*;
 

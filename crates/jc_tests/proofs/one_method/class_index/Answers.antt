@@ -1,5 +1,5 @@
-use Rattle.flow_tests.proofs.OneMethod.{few_classes, all_linked}
-use Rattle.flow_tests.proofs.one_method.class_index.Goals as goal
+use Rattle.jc_tests.proofs.OneMethod.{few_classes, all_linked}
+use Rattle.jc_tests.proofs.one_method.class_index.Goals as goal
 
 pub of-requires-clause-few : goal.of-requires-clause-few
 of-requires-clause-few c = rw c.requires.table few_classes

@@ -1,8 +1,8 @@
 ghost use Rattle.std.specs.Prelude.{◌≡◌, ◌+◌, ◌<◌, length, IsSomeAnd, slice_get};
 
 use card_verify::verify_method;
-use flow_tests::{Range, Shape, world};
 use jc_base::{Ty, World};
+use jc_tests::{Range, Shape, world};
 use std::alloc::{AllocError, Global};
 use xf_allot::{Sharing, share_registers};
 

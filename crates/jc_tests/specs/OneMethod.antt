@@ -9,8 +9,8 @@ use Rattle.jc_base.specs.declared.record.ClassRec.{ClassRec}
 use Rattle.jc_base.specs.declared.record.MethodRec.{MethodRec}
 use Rattle.jc_base.specs.Class.{ClassTable}
 use Rattle.jc_base.specs.World.{Linked}
-use Rattle.flow_tests.specs.declared.shape.Shape.{Shape}
-use Rattle.flow_tests.specs.declared.shape.Shape.TheVariants as shapes
+use Rattle.jc_tests.specs.declared.shape.Shape.{Shape}
+use Rattle.jc_tests.specs.declared.shape.Shape.TheVariants as shapes
 
 -- ---- what a method takes and gives, and the room that it has
 

@@ -1,7 +1,7 @@
 use Rattle.std.proofs.Common.{◌≤◌, length, subst, sym, arith}
 use Rattle.jc_base.specs.World.{IsWorld}
-use Rattle.flow_tests.proofs.OneMethod.{is_world, is_sample, one_only, class_known}
-use Rattle.flow_tests.proofs.one_method.world.Goals as goal
+use Rattle.jc_tests.proofs.OneMethod.{is_world, is_sample, one_only, class_known}
+use Rattle.jc_tests.proofs.one_method.world.Goals as goal
 
 pub of-requires-clause-world : goal.of-requires-clause-world
 of-requires-clause-world c =
