@@ -20,13 +20,22 @@ module _ (p : ℕ → Bool) (len n : ℕ) where
   step h = let e : len - n ≡ suc (len - (n + 1)) = omega arith in ap (λ k. filter p (range_with_len n k)) e
 
   pub Finds-skip : (found : Option ℕ) → n < len → p n ≡ false → Finds p len found n → Finds p len found (n + 1)
-  Finds-skip found h e f = grind (arith, step, cond, filter)
+  Finds-skip found h e f =
+      ap (λ xs. only (option_to_list found ++ xs))
+      (sym (step h ∙ ap (λ b. cond b (n ∷ filter p (range_with_len (n + 1) (len - (n + 1)))) (filter p (range_with_len (n + 1) (len - (n + 1))))) e))
+      ∙ f
 
   pub Finds-take : n < len → p n ≡ true → Finds p len None n → Finds p len (Some n) (n + 1)
-  Finds-take h e f = grind (arith, step, cond, filter)
+  Finds-take h e f =
+      ap only
+      (sym (step h ∙ ap (λ b. cond b (n ∷ filter p (range_with_len (n + 1) (len - (n + 1)))) (filter p (range_with_len (n + 1) (len - (n + 1))))) e))
+      ∙ f
 
   pub Finds-two : (m : ℕ) → n < len → p n ≡ true → Finds p len (Some m) n → None ≡ only (filter p (range_with_len 0 len))
-  Finds-two m h e f = grind (arith, step, cond, filter)
+  Finds-two m h e f =
+      ap (λ xs. only (m ∷ xs))
+      (sym (step h ∙ ap (λ b. cond b (n ∷ filter p (range_with_len (n + 1) (len - (n + 1)))) (filter p (range_with_len (n + 1) (len - (n + 1))))) e))
+      ∙ f
 
   pub Finds-end : (found : Option ℕ) → len ≤ n → Finds p len found n → found ≡ only (filter p (range_with_len 0 len))
   Finds-end found h f =
@@ -68,13 +77,18 @@ other_class c token m ne = rw (ne_eqb m.class c ne) refl
 module _ (methods : List MethodRec) (c token : ℕ) (b : MethodBounds) (are : AreBounds methods c b) where
   outside_by : (n : ℕ) (o : Option MethodRec) → slice_get methods n ≡ o → IfSome o (λ m. m.class ≡ c → (b.first ≤ n) × (n < b.end))
       → ((b.first ≤ n) × (n < b.end) → ⊥) → passes_test (is_described c token) o ≡ false
-  outside_by n x e h out = grind (arith, other_class)
+  outside_by n None e h out = refl
+  outside_by n (Some m) e h out = other_class c token m (λ is. out (h is))
 
   outside : (n : ℕ) → ((b.first ≤ n) × (n < b.end) → ⊥) → passes_test (is_described c token) (slice_get methods n) ≡ false
   outside n out = outside_by n (slice_get methods n) refl (are.between n) out
 
   pub described_from : Finds (λ n. passes_test (is_described c token) (slice_get methods n)) (length methods) None b.first
-  described_from = grind (arith, length, begun, slice_get, outside)
+  described_from =
+      let rise : b.first ≤ b.end = are.rise in
+      let inside : b.end ≤ length methods = are.inside in
+      begun (λ n. passes_test (is_described c token) (slice_get methods n)) (length methods) b.first (omega arith)
+      (λ n lt. outside n (λ two. let low : b.first ≤ n = two.0 in absurd (omega (arith, lt))))
 
   pub described_to : (found : Option ℕ) (n : ℕ) → b.end ≤ n → n ≤ length methods
       → Finds (λ n. passes_test (is_described c token) (slice_get methods n)) (length methods) found n

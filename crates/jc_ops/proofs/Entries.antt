@@ -1,5 +1,4 @@
 -- What is resolved rests on the pool entry that is named.
-use Rattle.std.proofs.Common.{arith}
 use Rattle.std.proofs.Common.{◌≡◌, ℕ, ◌==◌, ◌||◌, if◌then◌else◌, Bool, true, false, Option, Some, None, IfSome, IfErr, Result, Ok, Err}
 use Rattle.std.proofs.Common.{slice_get, refl, sym, ◌∙◌, ap, subst}
 use Rattle.jc_base.specs.declared.ty.Ty.{Ty}
@@ -30,6 +29,9 @@ use Rattle.jc_ops.specs.Resolve.{returned, result_type, result_returned, new_obj
 use Rattle.std.proofs.lemmas.Bool.{false≢true}
 use Rattle.jc_ops.specs.Sound.{RefusesAbstract}
 use Rattle.jc_ops.specs.Entry.{entry_of, entry_named, RestsOnEntry, FaultNamesEntry}
+use Rattle.jc_base.specs.declared.record.Member.TheVariants.{Field, Static, Virtual, Super, StaticCall}
+use Rattle.jc_base.specs.Dispatch.{entry_at}
+use Rattle.jc_ops.specs.Resolve.{same_kind}
 
 -- ---- the same entry gives the same operation
 
@@ -57,7 +59,8 @@ module _ (w : Linked) (m n : MethodRec) (place : ℕ) (i : Insn) (r : Result Ope
   row-rests (rows.Call invocations.Interface) e h = h ∙ ap (λ o. on ops.Call (interface_callee w (short_of i.y) (byte_of i.x) (byte_of i.z) o)) e
   row-rests rows.New e h = h ∙ ap (new_object w place (short_of i.x)) e
   row-rests rows.NewReferences e h = h ∙ ap (λ o. on ops.NewArray (class_type ArrRef (short_of i.x) o)) e
-  row-rests (rows.TypeTest test) e h = grind (arith, tested-rests)
+  row-rests (rows.TypeTest test) e h =
+      h ∙ ap (on (ops.TypeTest test)) (tested-rests (byte_of i.x) (short_of i.y) (member_at w m.package) (member_at w n.package) e)
   row-rests (rows.Return sort) e h = h ∙ ap (λ result. on ops.Return (result_returned w.classes sort result)) same_result
   row-rests (rows.Plain op) e h = h
   row-rests rows.PushShort e h = h
@@ -79,33 +82,43 @@ abbrev Faults : {X : Type 0} → ℕ → Result X RuleFault → Type 0
 Faults pool r = IfErr r (λ fault. fault ≡ BadMember pool)
 
 taken-faults : {X : Type 0} (b : Bool) (pool : ℕ) (x : X) → Faults pool (taken_if b pool x)
-taken-faults x pool x2 = grind (arith)
+taken-faults true pool x = tt
+taken-faults false pool x = refl
 
 static-faults : (pool : ℕ) (k : Kind) (o : Option Member) → Faults pool (static_field pool k o)
-static-faults pool k x = grind (arith, taken-faults)
+static-faults pool k (Some (Static slot kind ty)) = taken-faults (same_kind k kind) pool (record { slot = slot; kind = kind; ty = ty })
+static-faults pool k _ = refl
 
 field-faults : (t : ClassTable) (pool : ℕ) (k : Kind) (o : Option Member) → Faults pool (instance_field t pool k o)
-field-faults t pool k x = grind (arith, taken-faults)
+field-faults t pool k (Some (Field c cell kind ty)) = taken-faults _ pool (record { class = c; cell = cell; kind = kind; ty = ty })
+field-faults t pool k _ = refl
 
 callee-faults : (test : MethodRec → Bool) (pool n : ℕ) (o : Option MethodRec) (receiver : MethodRec → Option Want) (choice : Choice)
     → Faults pool (callee_if test pool n o receiver choice)
-callee-faults test pool n x receiver choice = grind (arith, taken-faults)
+callee-faults test pool n None receiver choice = refl
+callee-faults test pool n (Some m) receiver choice = taken-faults (test m) pool (record { method = n; receiver = receiver m; choice = choice })
 
 module _ (w : Linked) where
   entry-faults : (pool c token : ℕ) (o : Option ℕ) → Faults pool (entry_callee w pool c token o)
-  entry-faults pool c token x = grind (arith, callee-faults, slice_get)
+  entry-faults pool c token None = refl
+  entry-faults pool c token (Some n) = callee-faults _ pool n (slice_get w.methods n) _ _
 
   virtual-faults : (pool : ℕ) (o : Option Member) → Faults pool (virtual_callee w pool o)
-  virtual-faults pool x = grind (arith, entry-faults)
+  virtual-faults pool (Some (Virtual c token)) = entry-faults pool c token (entry_at w.classes c token)
+  virtual-faults pool _ = refl
 
   special-faults : (pool : ℕ) (o : Option Member) → Faults pool (special_callee w pool o)
-  special-faults pool x = grind (arith, callee-faults, slice_get)
+  special-faults pool (Some (Super c n)) = callee-faults _ pool n (slice_get w.methods n) _ _
+  special-faults pool (Some (StaticCall n)) = callee-faults _ pool n (slice_get w.methods n) _ _
+  special-faults pool _ = refl
 
   static_call-faults : (pool : ℕ) (o : Option Member) → Faults pool (static_callee w pool o)
-  static_call-faults pool x = grind (arith, callee-faults, slice_get)
+  static_call-faults pool (Some (StaticCall n)) = callee-faults _ pool n (slice_get w.methods n) _ _
+  static_call-faults pool _ = refl
 
   described-faults : (pool nargs c token : ℕ) (o : Option ℕ) → Faults pool (described_callee w pool nargs c token o)
-  described-faults pool nargs c token x = grind (arith, callee-faults, slice_get)
+  described-faults pool nargs c token None = refl
+  described-faults pool nargs c token (Some n) = callee-faults _ pool n (slice_get w.methods n) _ _
 
   interface-faults : (pool nargs token : ℕ) (o : Option Member) → Faults pool (interface_callee w pool nargs token o)
   interface-faults pool nargs token (Some (ClassOf c)) = at (is_interface w.classes c)
@@ -116,7 +129,8 @@ module _ (w : Linked) where
   interface-faults pool nargs token _ = refl
 
 class-faults : (make : ℕ → Ty) (pool : ℕ) (o : Option Member) → Faults pool (class_type make pool o)
-class-faults make pool x = grind (arith)
+class-faults make pool (Some (ClassOf c)) = tt
+class-faults make pool _ = refl
 
 -- ---- what a fault tells
 
@@ -128,7 +142,8 @@ Tells w named _ = Unit {0}
 
 module _ (w : Linked) (decides : ConcreteDecides w.classes w.methods) where
   named-by : {X : Type 0} (op : X → Operation) (pool : ℕ) (r : Result X RuleFault) → Faults pool r → IfErr (on op r) (Tells w (Some pool))
-  named-by op pool x f = grind (arith)
+  named-by op pool (Ok x) f = tt
+  named-by op pool (Err fault) f = subst (Tells w (Some pool)) (sym f) refl
 
   tested-tells : (test : Ty → Operation) (atype pool : ℕ) (o : Option Member)
       → IfErr (on test (tested_type atype pool o)) (Tells w (if atype == 0 || atype == 14 then Some pool else None))
@@ -156,16 +171,34 @@ module _ (w : Linked) (decides : ConcreteDecides w.classes w.methods) where
   new-tells place pool _ = refl
 
   row-tells : (m : MethodRec) (place : ℕ) (i : Insn) (row : Row) → IfErr (resolved w m place i row) (Tells w (entry_of i row))
-  row-tells m place i (rows.StaticRead k) = grind (arith, named-by, static-faults)
-  row-tells m place i (rows.StaticWrite k) = grind (arith, named-by, static-faults)
-  row-tells m place i (rows.FieldRead k holder) = grind (arith, named-by, field-faults)
-  row-tells m place i (rows.FieldWrite k holder) = grind (arith, named-by, field-faults)
-  row-tells m place i (rows.Call invocations.Virtual) = grind (arith, named-by, virtual-faults)
-  row-tells m place i (rows.Call invocations.Special) = grind (arith, named-by, special-faults)
-  row-tells m place i (rows.Call invocations.Static) = grind (arith, named-by, static_call-faults)
-  row-tells m place i (rows.Call invocations.Interface) = grind (arith, named-by, interface-faults)
+  row-tells m place i (rows.StaticRead k) =
+      named-by ops.StaticRead (short_of i.x) (static_field (short_of i.x) k (member_at w m.package (short_of i.x)))
+      (static-faults (short_of i.x) k (member_at w m.package (short_of i.x)))
+  row-tells m place i (rows.StaticWrite k) =
+      named-by ops.StaticWrite (short_of i.x) (static_field (short_of i.x) k (member_at w m.package (short_of i.x)))
+      (static-faults (short_of i.x) k (member_at w m.package (short_of i.x)))
+  row-tells m place i (rows.FieldRead k holder) =
+      named-by (λ f. ops.FieldRead f holder) (short_of i.x) (instance_field w.classes (short_of i.x) k (member_at w m.package (short_of i.x)))
+      (field-faults w.classes (short_of i.x) k (member_at w m.package (short_of i.x)))
+  row-tells m place i (rows.FieldWrite k holder) =
+      named-by (λ f. ops.FieldWrite f holder) (short_of i.x) (instance_field w.classes (short_of i.x) k (member_at w m.package (short_of i.x)))
+      (field-faults w.classes (short_of i.x) k (member_at w m.package (short_of i.x)))
+  row-tells m place i (rows.Call invocations.Virtual) =
+      named-by ops.Call (short_of i.x) (virtual_callee w (short_of i.x) (member_at w m.package (short_of i.x)))
+      (virtual-faults w (short_of i.x) (member_at w m.package (short_of i.x)))
+  row-tells m place i (rows.Call invocations.Special) =
+      named-by ops.Call (short_of i.x) (special_callee w (short_of i.x) (member_at w m.package (short_of i.x)))
+      (special-faults w (short_of i.x) (member_at w m.package (short_of i.x)))
+  row-tells m place i (rows.Call invocations.Static) =
+      named-by ops.Call (short_of i.x) (static_callee w (short_of i.x) (member_at w m.package (short_of i.x)))
+      (static_call-faults w (short_of i.x) (member_at w m.package (short_of i.x)))
+  row-tells m place i (rows.Call invocations.Interface) =
+      named-by ops.Call (short_of i.y) (interface_callee w (short_of i.y) (byte_of i.x) (byte_of i.z) (member_at w m.package (short_of i.y)))
+      (interface-faults w (short_of i.y) (byte_of i.x) (byte_of i.z) (member_at w m.package (short_of i.y)))
   row-tells m place i rows.New = new-tells place (short_of i.x) (member_at w m.package (short_of i.x))
-  row-tells m place i rows.NewReferences = grind (arith, named-by, class-faults)
+  row-tells m place i rows.NewReferences =
+      named-by ops.NewArray (short_of i.x) (class_type ArrRef (short_of i.x) (member_at w m.package (short_of i.x)))
+      (class-faults ArrRef (short_of i.x) (member_at w m.package (short_of i.x)))
   row-tells m place i (rows.TypeTest test) = tested-tells (ops.TypeTest test) (byte_of i.x) (short_of i.y) (member_at w m.package (short_of i.y))
   row-tells m place i (rows.Return sort) = return-tells w.classes sort m.sig.result
   row-tells m place i (rows.Plain op) = tt

@@ -20,6 +20,8 @@ use Rattle.jc_ops.specs.declared.row.Row.TheVariants as rows
 use Rattle.jc_ops.specs.Row.{table, row_at, unused, by_sort, by_width, by_kind, first_four, by_register, literals, binaries, orders_all, branching}
 use Rattle.jc_ops.specs.Resolve.{on, callee, new_object, resolved}
 use Rattle.jc_ops.specs.Next.{falls_from, jumps_from, OperationsGoAlike}
+use Rattle.jc_base.specs.World.{member_at}
+use Rattle.jc_ops.specs.Resolve.{byte_of, short_of, static_field, instance_field, class_type, tested_type, result_returned}
 
 -- as the row of an opcode has it
 row_falls : Row → Bool
@@ -65,7 +67,8 @@ row-jumps n lt = mapped-alike row_jumps jumps table (range_with_len 0 256) n unu
 -- a fact of each operation that is made, of the one that is
 on-made : {X : Type 0} (P : Operation → Type 0) (make : X → Operation) (r : Result X RuleFault) (op : Operation) → ((x : X) → P (make x))
     → ◌≡◌ {A = Result Operation RuleFault} (Ok op) (on make r) → P op
-on-made x make x2 op all e = grind (arith)
+on-made P make (Ok x) op all e = let is_op : make x ≡ op = cc in subst P is_op (all x)
+on-made P make (Err fault) op all e = absurd (cc)
 
 ok-made : (P : Operation → Type 0) (made op : Operation) → P made → ◌≡◌ {A = Result Operation RuleFault} (Ok op) (Ok made) → P op
 ok-made P made op h e = let is_op : made ≡ op = cc in subst P is_op h
@@ -92,15 +95,33 @@ module _ (w : Linked) (m : MethodRec) (place : ℕ) (i : Insn) (op : Operation) 
   goes rows.CopyUnder h = ok-made (λ x. (falls_from x ≡ true) × (jumps_from x ≡ false)) _ op (refl, refl) h
   goes rows.Exchange h = ok-made (λ x. (falls_from x ≡ true) × (jumps_from x ≡ false)) _ op (refl, refl) h
   goes rows.NewNumbers h = ok-made (λ x. (falls_from x ≡ true) × (jumps_from x ≡ false)) _ op (refl, refl) h
-  goes rows.New h = grind (arith, new-made)
-  goes (rows.StaticRead k) h = grind (arith, on-made)
-  goes (rows.StaticWrite k) h = grind (arith, on-made)
-  goes (rows.FieldRead k holder) h = grind (arith, on-made)
-  goes (rows.FieldWrite k holder) h = grind (arith, on-made)
+  goes rows.New h =
+      new-made (λ x. (falls_from x ≡ true) × (jumps_from x ≡ false)) w place (short_of i.x) (member_at w m.package (short_of i.x)) op
+      (λ c. (refl, refl)) h
+  goes (rows.StaticRead k) h =
+      on-made (λ x. (falls_from x ≡ true) × (jumps_from x ≡ false)) ops.StaticRead
+      (static_field (short_of i.x) k (member_at w m.package (short_of i.x))) op (λ x. (refl, refl)) h
+  goes (rows.StaticWrite k) h =
+      on-made (λ x. (falls_from x ≡ true) × (jumps_from x ≡ false)) ops.StaticWrite
+      (static_field (short_of i.x) k (member_at w m.package (short_of i.x))) op (λ x. (refl, refl)) h
+  goes (rows.FieldRead k holder) h =
+      on-made (λ x. (falls_from x ≡ true) × (jumps_from x ≡ false)) (λ f. ops.FieldRead f holder)
+      (instance_field w.classes (short_of i.x) k (member_at w m.package (short_of i.x))) op (λ x. (refl, refl)) h
+  goes (rows.FieldWrite k holder) h =
+      on-made (λ x. (falls_from x ≡ true) × (jumps_from x ≡ false)) (λ f. ops.FieldWrite f holder)
+      (instance_field w.classes (short_of i.x) k (member_at w m.package (short_of i.x))) op (λ x. (refl, refl)) h
   goes (rows.Call by) h = on-made (λ x. (falls_from x ≡ true) × (jumps_from x ≡ false)) ops.Call (callee w m.package i by) op (λ x. (refl, refl)) h
-  goes rows.NewReferences h = grind (arith, on-made)
-  goes (rows.TypeTest test) h = grind (arith, on-made)
-  goes (rows.Return sort) h = grind (arith, on-made)
+  goes rows.NewReferences h =
+      on-made (λ x. (falls_from x ≡ true) × (jumps_from x ≡ false)) ops.NewArray (class_type _ (short_of i.x) (member_at w m.package (short_of i.x)))
+      op (λ x. (refl, refl)) h
+  goes (rows.TypeTest test) h =
+      on-made (λ x. (falls_from x ≡ true) × (jumps_from x ≡ false)) (ops.TypeTest test)
+      (tested_type (byte_of i.x) (short_of i.y) (member_at w m.package (short_of i.y))) op (λ x. (refl, refl)) h
+  goes (rows.Return sort) h =
+      on-made (λ x. (falls_from x ≡ false) × (jumps_from x ≡ false)) ops.Return (result_returned w.classes sort m.sig.result) op (λ x. (refl, refl))
+      h
 
 pub operations-go-alike : (w : Linked) → OperationsGoAlike w
-operations-go-alike w m place i op lt h = grind (arith, goes w m place i op (row_at i.op) h, row-falls i.op lt, row-jumps i.op lt)
+operations-go-alike w m place i op lt h =
+    let g = goes w m place i op (row_at i.op) h in
+    record { falls_alike = g.0 ∙ row-falls i.op lt; jumps_alike = g.1 ∙ row-jumps i.op lt }

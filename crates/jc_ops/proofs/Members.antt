@@ -16,20 +16,27 @@ use Rattle.jc_base.specs.Dispatch.{of_record, public_of, visible_of, entry_at, c
 use Rattle.jc_base.specs.Linked.{IsInherited, IsMethod, IsMember, IsLinkedClass, IsStatic}
 use Rattle.jc_base.specs.World.{Linked, IsWorld}
 use Rattle.jc_ops.specs.Sound.{TakesReceiver, IsKnownMember}
+use Rattle.std.proofs.Common.{◌-◌, true}
+use Rattle.jc_base.specs.Linked.{receiver_words}
 
 -- the arguments of a method that is not static leave room for its receiver
 pub argument_room : (infos : List (List ℕ)) (pools : List (List Member)) (t : ClassTable) (m : MethodRec) → IsMethod infos pools t m
     → m.is_static ≡ false → length m.sig.args + 1 ≤ 255
-argument_room infos pools t m is dynamic = grind (arith, length)
+argument_room infos pools t m is dynamic =
+    let words : m.nargs ≡ length m.sig.args + 1 = subst (λ b. m.nargs ≡ length m.sig.args + receiver_words b) dynamic is.words in
+    let room : m.nargs + m.max_locals ≤ 255 = is.registers in
+    omega arith
 
 module _ (w : Linked) (is : IsWorld w) where
   -- a method that a class inherits takes a receiver
   inherited_at : (c : ℕ) (o : Option MethodRec) → ((m : MethodRec) → o ≡ Some m → IsMethod w.infos w.pools w.classes m)
       → IsSomeAnd o (IsInherited w.classes c) → IsSomeAnd o (λ m. length m.sig.args + 1 ≤ 255)
-  inherited_at c x all h = grind (arith, argument_room)
+  inherited_at c None all h = h
+  inherited_at c (Some m) all h = argument_room w.infos w.pools w.classes m (all m refl) h.dynamic
 
   in_list : (n : ℕ) (o : Option MethodRec) (P : MethodRec → Type 0) → slice_get w.methods n ≡ o → IsSomeAnd o P → n < length w.methods
-  in_list n x x2 e h = grind (arith, slice_get_within)
+  in_list n None P e h = absurd h
+  in_list n (Some m) P e h = slice_get_within w.methods n m e
 
   pub inherited-receives : (c n : ℕ) → IsSomeAnd (slice_get w.methods n) (IsInherited w.classes c) → TakesReceiver w.methods n
   inherited-receives c n h = record {
@@ -41,7 +48,8 @@ module _ (w : Linked) (is : IsWorld w) where
   lists_at : (c : ℕ) (o : Option ClassRec) → IfSome o (IsLinkedClass (length w.infos) w.classes w.methods c) →
       All (λ n. IsSomeAnd (slice_get w.methods n) (IsInherited w.classes c)) (of_record [] (λ r. r.public) o)
       × All (λ n. IsSomeAnd (slice_get w.methods n) (IsInherited w.classes c)) (of_record [] (λ r. r.visible) o)
-  lists_at c x h = grind (arith)
+  lists_at c None h = ((λ k d lt. absurd (omega arith)), (λ k d lt. absurd (omega arith)))
+  lists_at c (Some r) h = (h.public.entries, h.visible.entries)
 
   pub public-inherits : (c : ℕ) → All (λ n. IsSomeAnd (slice_get w.methods n) (IsInherited w.classes c)) (public_of w.classes c)
   unfolding public_of
@@ -59,18 +67,25 @@ module _ (w : Linked) (is : IsWorld w) where
   -- an entry of a class's lists is a method that it inherits
   pub entry-inherits : (c token : ℕ) → IfSome (entry_at w.classes c token) (λ n. IsSomeAnd (slice_get w.methods n) (IsInherited w.classes c))
   unfolding entry_at
-  entry-inherits c token = grind (arith, nat_lt, cond, slice_get, list-inherits, public-inherits, visible-inherits)
+  entry-inherits c token =
+      elim (nat_lt token 128) as (λ b. IfSome (cond b (slice_get (public_of w.classes c) token) (slice_get (visible_of w.classes c) (token - 128)))
+      (λ n. IsSomeAnd (slice_get w.methods n) (IsInherited w.classes c))) [
+        | true ↦ list-inherits c (public_of w.classes c) (public-inherits c) token (slice_get (public_of w.classes c) token) refl
+        | false ↦ list-inherits c (visible_of w.classes c) (visible-inherits c) (token - 128) (slice_get (visible_of w.classes c) (token - 128)) refl
+      ]
 
   receives_at : (c : ℕ) (o : Option ℕ) → IfSome o (λ n. IsSomeAnd (slice_get w.methods n) (IsInherited w.classes c))
       → IfSome o (TakesReceiver w.methods)
-  receives_at c x h = grind (arith, inherited-receives)
+  receives_at c None h = tt
+  receives_at c (Some n) h = inherited-receives c n h
 
   pub entry-receives : (c token : ℕ) → IfSome (entry_at w.classes c token) (TakesReceiver w.methods)
   entry-receives c token = receives_at c (entry_at w.classes c token) (entry-inherits c token)
 
   own_at : (c : ℕ) (o : Option ClassRec) → IfSome o (IsLinkedClass (length w.infos) w.classes w.methods c)
       → All (IsDeclared w.classes) (of_record [] (λ r. r.own) o)
-  own_at c x h = grind (arith)
+  own_at c None h = λ k d lt. absurd (omega arith)
+  own_at c (Some r) h = h.own
 
   own-declared : (c : ℕ) → All (IsDeclared w.classes) (own_cells w.classes c)
   unfolding own_cells

@@ -37,6 +37,18 @@ use Rattle.jc_ops.specs.Resolve.{own_receiver, special_callee, static_callee, de
 use Rattle.jc_ops.specs.Resolve.{callee, class_type, array_of, tested_type, returns, result_returned, new_object, resolved, Resolves}
 use Rattle.jc_ops.specs.Sound.{IsKnownWant, IsStaticOf, IsFieldOf, IsReceiverOf, IsCalleeOf, IsNamedType, IsResult, IsSound, OperationsAreSound}
 use Rattle.jc_ops.proofs.Members.{argument_room, entry-inherits, super-inherits, static-known, cells-declared}
+use Rattle.std.proofs.Common.{Err}
+use Rattle.std.proofs.Common.{◌∙◌}
+use Rattle.std.specs.List.{range_with_len}
+use Rattle.jc_base.specs.declared.record.Member.TheVariants.{ClassOf, Static, Virtual}
+use Rattle.jc_base.specs.Cell.{IsOfKind}
+use Rattle.jc_base.specs.Dispatch.{is_concrete}
+use Rattle.jc_base.specs.Linked.{IsStatic}
+use Rattle.jc_ops.specs.declared.fault.RuleFault.TheVariants.{BadMember, NotConcrete, Mismatch}
+use Rattle.jc_ops.specs.declared.operation.Sort.TheVariants as sorts
+use Rattle.jc_ops.specs.declared.row.Invocation.TheVariants as invocations
+use Rattle.jc_ops.specs.Resolve.{is_described, passes_test}
+use Rattle.jc_ops.specs.Resolve.{returned, result_type}
 
 -- ---- rows whose opcode says all
 
@@ -83,14 +95,17 @@ row-fine n = fine-at table n table-fine
 -- ---- tests
 
 taken-sound : {X : Type 0} (P : X → Type 0) (b : Bool) (pool : ℕ) (x : X) → (b ≡ true → P x) → IfOk (taken_if b pool x) P
-taken-sound x x2 pool x22 h = grind (arith)
+taken-sound P true pool x h = h refl
+taken-sound P false pool x h = tt
 
 on-sound : {X : Type 0} (P : Operation → Type 0) (op : X → Operation) (r : Result X RuleFault) → IfOk r (λ x. P (op x)) → IfOk (on op r) P
-on-sound x op x2 h = grind (arith)
+on-sound P op (Ok x) h = h
+on-sound P op (Err fault) h = tt
 
 if-sound : {X : Type 0} (P : X → Type 0) (b : Bool) (r s : Result X RuleFault) → (b ≡ true → IfOk r P) → (b ≡ false → IfOk s P)
     → IfOk (if b then r else s) P
-if-sound x x2 r s h k = grind (arith)
+if-sound P true r s h k = h refl
+if-sound P false r s h k = k refl
 
 -- ---- the only one of a search
 
@@ -113,7 +128,12 @@ only-passes p xs n h = at (filter p xs) refl h
 described-is : (methods : List MethodRec) (c token n : ℕ) (m : MethodRec) → only (described methods c token) ≡ Some n
     → slice_get methods n ≡ Some m → (m.class ≡ c) × (m.token ≡ token)
 unfolding described
-described-is methods c token n m h e = grind (arith, slice_get, only-passes, length, and_parts, eqb-true)
+described-is methods c token n m h e =
+    let p : passes_test (is_described c token) (slice_get methods n) ≡ true = only-passes (λ n. passes_test (is_described c token) (slice_get methods n))
+    (range_with_len 0 (length methods)) n h in
+    let q : is_described c token m ≡ true = subst (λ o. passes_test (is_described c token) o ≡ true) e p in
+    let r = and_parts (m.class == c) (m.token == token) q in
+    (eqb-true m.class c r.0, eqb-true m.token token r.1)
 
 module _ (w : Linked) (is : IsWorld w) (decides : ConcreteDecides w.classes w.methods) where
   method-is : (n : ℕ) (m : MethodRec) → slice_get w.methods n ≡ Some m → IsMethod w.infos w.pools w.classes m
@@ -123,7 +143,14 @@ module _ (w : Linked) (is : IsWorld w) (decides : ConcreteDecides w.classes w.me
 
   static-sound : (pool : ℕ) (k : Kind) (o : Option Member) → IfSome o (IsMember w.classes w.methods w.statics)
       → IfOk (static_field pool k o) (IsStaticOf w)
-  static-sound pool k x h = grind (arith, length, static-known, taken-sound)
+  static-sound pool k (Some (Static slot kind ty)) (i, f, lt, at, slot_of) =
+      let static : IsStatic (length w.infos) w.classes w.arrays f = static-known w is f i lt at in
+      taken-sound (IsStaticOf w) (same_kind k kind) pool (record { slot = slot; kind = kind; ty = ty }) (λ b. record {
+        there = (i, f, lt, at, slot_of);
+        kind = subst (λ x. IsOfKind x ty) slot_of.kind (subst (IsOfKind f.kind) slot_of.ty static.kind);
+        ty = subst (IsDeclared w.classes) slot_of.ty static.ty;
+      })
+  static-sound pool k _ h = tt
 
   field-sound : (pool : ℕ) (k : Kind) (o : Option Member) → IfSome o (IsMember w.classes w.methods w.statics)
       → IfOk (instance_field w.classes pool k o) (IsFieldOf w)
@@ -140,7 +167,9 @@ module _ (w : Linked) (is : IsWorld w) (decides : ConcreteDecides w.classes w.me
   callee-by : (test : MethodRec → Bool) (pool n : ℕ) (o : Option MethodRec) (receiver : MethodRec → Option Want) (choice : Choice)
       → ((m : MethodRec) → o ≡ Some m → test m ≡ true → IsCalleeOf w (record { method = n; receiver = receiver m; choice = choice }))
       → IfOk (callee_if test pool n o receiver choice) (IsCalleeOf w)
-  callee-by test pool n x receiver choice h = grind (arith, taken-sound)
+  callee-by test pool n None receiver choice h = tt
+  callee-by test pool n (Some m) receiver choice h =
+      taken-sound (IsCalleeOf w) (test m) pool (record { method = n; receiver = receiver m; choice = choice }) (λ b. h m refl b)
 
   of_some : (P : MethodRec → Type 0) (o : Option MethodRec) (m : MethodRec) → o ≡ Some m → IsSomeAnd o P → P m
   of_some P o m e h = subst (λ x. IsSomeAnd x P) e h
@@ -173,7 +202,8 @@ module _ (w : Linked) (is : IsWorld w) (decides : ConcreteDecides w.classes w.me
       has_body a b false alike h = refl
 
   virtual-sound : (pool : ℕ) (o : Option Member) → IfSome o (IsMember w.classes w.methods w.statics) → IfOk (virtual_callee w pool o) (IsCalleeOf w)
-  virtual-sound pool x h = grind (arith, entry-sound)
+  virtual-sound pool (Some (Virtual c token)) h = entry-sound pool c token (entry_at w.classes c token) refl h.0
+  virtual-sound pool _ h = tt
 
   super-sound : (pool c n : ℕ) (o : Option ℕ) → parent_of w.classes c ≡ o → IsClass w.classes c
       → IsSomeAnd o (λ p. Contains (public_of w.classes p ++ visible_of w.classes p) n)
@@ -203,7 +233,8 @@ module _ (w : Linked) (is : IsWorld w) (decides : ConcreteDecides w.classes w.me
   own-receives m false e h = (e, h, same)
 
   own-known : (m : MethodRec) (b : Bool) → IsClass w.classes m.class → IsKnownWant w.classes (if b then Receiver m.class else Value (Class m.class))
-  own-known m x h = grind (arith)
+  own-known m true h = h
+  own-known m false h = h
 
   own-sound : (pool n : ℕ) → IfOk (special_callee w pool (Some (StaticCall n))) (IsCalleeOf w)
   own-sound pool n =
@@ -221,7 +252,9 @@ module _ (w : Linked) (is : IsWorld w) (decides : ConcreteDecides w.classes w.me
       })
 
   special-sound : (pool : ℕ) (o : Option Member) → IfSome o (IsMember w.classes w.methods w.statics) → IfOk (special_callee w pool o) (IsCalleeOf w)
-  special-sound pool x h = grind (arith, super-sound, own-sound)
+  special-sound pool (Some (Super c n)) h = super-sound pool c n (parent_of w.classes c) refl h.0 h.1
+  special-sound pool (Some (StaticCall n)) h = own-sound pool n
+  special-sound pool _ h = tt
 
   static_call-sound : (pool : ℕ) (o : Option Member) → IfOk (static_callee w pool o) (IsCalleeOf w)
   static_call-sound pool (Some (StaticCall n)) =
@@ -245,10 +278,25 @@ module _ (w : Linked) (is : IsWorld w) (decides : ConcreteDecides w.classes w.me
 
   described-sound : (pool nargs c token : ℕ) (o : Option ℕ) → nargs ≤ 255 → is_interface w.classes c ≡ true
       → only (described w.methods c token) ≡ o → IfOk (described_callee w pool nargs c token o) (IsCalleeOf w)
-  described-sound pool nargs c token x few interface e = grind (arith, callee-by, length, slice_get, described-is, eqb-true)
+  described-sound pool nargs c token None few interface e = tt
+  described-sound pool nargs c token (Some n) few interface e =
+      callee-by (λ m. nargs == length m.sig.args + 1) pool n (slice_get w.methods n) (λ m. Some (Value (Class (object w.classes))))
+      (choices.Interface c token nargs) (λ m q b.
+      let names = described-is w.methods c token n m e q in
+      let words : nargs ≡ length m.sig.args + 1 = eqb-true nargs (length m.sig.args + 1) b in
+      record {
+        rec = m;
+        is_method = q;
+        chosen = record { interface = interface; described_is = e; class = names.0; token_is = names.1; words_are = words; receiver_is = refl };
+        known = is.roles.objects;
+        room = omega (arith, words, few);
+      })
 
   interface-sound : (pool nargs token : ℕ) (o : Option Member) → nargs ≤ 255 → IfOk (interface_callee w pool nargs token o) (IsCalleeOf w)
-  interface-sound pool nargs token x few = grind (arith, if-sound, described-sound)
+  interface-sound pool nargs token (Some (ClassOf c)) few =
+      if-sound (IsCalleeOf w) (is_interface w.classes c) (described_callee w pool nargs c token (only (described w.methods c token))) (Err (BadMember pool))
+      (λ interface. described-sound pool nargs c token (only (described w.methods c token)) few interface refl) (λ q. tt)
+  interface-sound pool nargs token _ few = tt
 
   -- the entry of a pool
   all_at : (pools : List (List Member)) (home : ℕ) → All (All (IsMember w.classes w.methods w.statics)) pools
@@ -265,41 +313,76 @@ module _ (w : Linked) (is : IsWorld w) (decides : ConcreteDecides w.classes w.me
       at (Some m) e = All-slice_get (IsMember w.classes w.methods w.statics) (list_at w.pools home) pool m (all_at w.pools home is.members) e
 
   callee-sound : (home : ℕ) (i : Insn) (by : Invocation) → IfOk (callee w home i by) (IsCalleeOf w)
-  callee-sound home i x = grind (arith, virtual-sound, member-at, special-sound, static_call-sound, interface-sound)
+  callee-sound home i invocations.Virtual = virtual-sound (short_of i.x) (member_at w home (short_of i.x)) (member-at home (short_of i.x))
+  callee-sound home i invocations.Special = special-sound (short_of i.x) (member_at w home (short_of i.x)) (member-at home (short_of i.x))
+  callee-sound home i invocations.Static = static_call-sound (short_of i.x) (member_at w home (short_of i.x))
+  callee-sound home i invocations.Interface = interface-sound (short_of i.y) (byte_of i.x) (byte_of i.z) (member_at w home (short_of i.y)) (omega arith)
 
   -- ---- types
 
   class-sound : (P : Ty → Type 0) (make : ℕ → Ty) (pool : ℕ) (o : Option Member) → ((c : ℕ) → c < length w.classes.records → P (make c))
       → IfSome o (IsMember w.classes w.methods w.statics) → IfOk (class_type make pool o) P
-  class-sound x make pool x2 g h = grind (arith)
+  class-sound P make pool (Some (ClassOf c)) g h = g c h
+  class-sound P make pool _ g h = tt
 
   array_if : (P : Ty → Type 0) (b : Bool) (x y : Ty) → P x → P y → P (if b then x else y)
-  array_if x x2 x22 y h k = grind (arith)
+  array_if P true x y h k = h
+  array_if P false x y h k = k
 
   array-of : (P : Ty → Type 0) → P ArrBool → P ArrByte → P ArrShort → P ArrInt → (atype : ℕ) → P (array_of atype)
-  array-of P of_bool of_byte of_short of_int atype = grind (arith, array_if)
+  array-of P of_bool of_byte of_short of_int atype =
+      array_if P (atype == 10) ArrBool (if atype == 11 then ArrByte else if atype == 12 then ArrShort else ArrInt) of_bool
+      (array_if P (atype == 11) ArrByte (if atype == 12 then ArrShort else ArrInt) of_byte (array_if P (atype == 12) ArrShort ArrInt of_short of_int))
 
   tested-sound : (atype pool : ℕ) (o : Option Member) → IfSome o (IsMember w.classes w.methods w.statics)
       → IfOk (tested_type atype pool o) (IsNamedType w.classes)
-  tested-sound atype pool o h = grind (arith, if-sound, class-sound, array-of)
+  tested-sound atype pool o h =
+      if-sound (IsNamedType w.classes) (atype == 0) (class_type Class pool o) (if atype == 14 then class_type ArrRef pool o else Ok (array_of atype))
+      (λ q. class-sound (IsNamedType w.classes) Class pool o (λ c lt. lt) h)
+      (λ q. if-sound (IsNamedType w.classes) (atype == 14) (class_type ArrRef pool o) (Ok (array_of atype))
+      (λ r. class-sound (IsNamedType w.classes) ArrRef pool o (λ c lt. lt) h) (λ r. array-of (IsNamedType w.classes) tt tt tt tt atype))
 
   low-unreturned : (sort : Option Sort) → returns sort (Some IntLow) ≡ false
-  low-unreturned x = grind (arith)
+  low-unreturned None = refl
+  low-unreturned (Some sorts.Reference) = refl
+  low-unreturned (Some sorts.Short) = refl
+  low-unreturned (Some sorts.Int) = refl
 
   result-is : (sort : Option Sort) (result : Option Ty) → IfSome result (IsDeclared w.classes) → returns sort result ≡ true
       → IfSome result (IsResult w.classes)
-  result-is sort x h q = grind (arith, low-unreturned)
+  result-is sort None h q = tt
+  result-is sort (Some ty) h q = record {
+    declared = h;
+    no_low = λ e. let never : false ≡ true = sym (low-unreturned sort) ∙ subst (λ x. returns sort (Some x) ≡ true) e q in absurd (cc);
+  }
 
   return-sound : (sort : Option Sort) (result : Option Ty) → IfSome result (IsDeclared w.classes)
       → IfOk (result_returned w.classes sort result) (λ r. (r ≡ result) × IfSome r (IsResult w.classes))
-  return-sound sort result h = grind (arith, if-sound, result-is)
+  return-sound sort result h =
+      if-sound (λ r. (r ≡ result) × IfSome r (IsResult w.classes)) (returns sort result) (Ok result)
+      (Err (Mismatch (returned w.classes sort) (result_type result)))
+      (λ q. (refl, result-is sort result h q)) (λ q. tt)
 
   -- ---- operations
 
   module _ (m : MethodRec) (place : ℕ) where
     plain-sound : (op : Operation) → needs_nothing op ≡ true → IsSound w m place op
     unfolding needs_nothing
-    plain-sound x h = grind (arith)
+    plain-sound (ops.Constant c) h = tt
+    plain-sound (ops.Load s x) h = tt
+    plain-sound (ops.Store s x) h = tt
+    plain-sound (ops.Move moves.Pop) h = tt
+    plain-sound (ops.Move moves.PopTwo) h = tt
+    plain-sound (ops.Move moves.Duplicate) h = tt
+    plain-sound (ops.Move moves.DuplicateTwo) h = tt
+    plain-sound (ops.Arithmetic a) h = tt
+    plain-sound (ops.ArrayRead k) h = tt
+    plain-sound (ops.ArrayWrite k) h = tt
+    plain-sound ops.ArrayLength h = tt
+    plain-sound (ops.Branch b) h = tt
+    plain-sound (ops.Switch width) h = tt
+    plain-sound ops.Throw h = tt
+    plain-sound _ h = absurd (cc)
 
     nibbles : (x : ℕ) → x < 256 → x / 16 + x % 16 ≤ 255
     nibbles x h = omega arith
@@ -308,7 +391,10 @@ module _ (w : Linked) (is : IsWorld w) (decides : ConcreteDecides w.classes w.me
     byte-small i = omega arith
 
     new-sound : (pool : ℕ) (o : Option Member) → IfOk (new_object w place pool o) (IsSound w m place)
-    new-sound pool x = grind (arith, if-sound)
+    new-sound pool (Some (ClassOf c)) =
+        if-sound (IsSound w m place) (is_concrete w.classes w.methods c) (Ok (ops.New place c)) (Err (NotConcrete c))
+        (λ concrete. (refl, (decides c).0 concrete)) (λ abstract. tt)
+    new-sound pool _ = tt
 
     from_equal : {r s : Result Operation RuleFault} → r ≡ s → IfOk s (IsSound w m place) → IfOk r (IsSound w m place)
     from_equal e h = subst (λ x. IfOk x (IsSound w m place)) (sym e) h
@@ -344,8 +430,11 @@ module _ (w : Linked) (is : IsWorld w) (decides : ConcreteDecides w.classes w.me
         from_equal e (on-sound (IsSound w m place) ops.NewArray (class_type ArrRef (short_of i.x) (member_at w m.package (short_of i.x)))
         (class-sound (λ ty. IsArray ty × IsNamedType w.classes ty) ArrRef (short_of i.x) (member_at w m.package (short_of i.x))
         (λ c lt. (of_references, lt)) (member-at m.package (short_of i.x))))
-    row-sound i (rows.TypeTest test) r fine q e = grind (arith, from_equal, on-sound, tested-sound, member-at)
-    row-sound i (rows.Return s) r fine q e = grind (arith, from_equal, on-sound, return-sound)
+    row-sound i (rows.TypeTest test) r fine q e =
+        from_equal e (on-sound (IsSound w m place) (ops.TypeTest test) (tested_type (byte_of i.x) (short_of i.y) (member_at w m.package (short_of i.y)))
+        (tested-sound (byte_of i.x) (short_of i.y) (member_at w m.package (short_of i.y)) (member-at m.package (short_of i.y))))
+    row-sound i (rows.Return s) r fine q e =
+        from_equal e (on-sound (IsSound w m place) ops.Return (result_returned w.classes s m.sig.result) (return-sound s m.sig.result q))
 
   -- what an instruction of a method is resolved to is sound
   pub resolved-sound : (m : MethodRec) (place : ℕ) (i : Insn) (r : Result Operation RuleFault) → IfSome m.sig.result (IsDeclared w.classes)
