@@ -4,3 +4,4 @@ mod Refusing
 mod ZeroRefused
 mod CopyRefused
 mod ReloadRefused
+pub mod SoFar

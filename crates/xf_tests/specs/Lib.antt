@@ -1,3 +1,4 @@
 pub mod Beside
-pub mod Refused
+pub mod Elements
 pub mod Fitting
+pub mod Refused

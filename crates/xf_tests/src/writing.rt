@@ -1,5 +1,5 @@
 //! Packages that are written with other code, and what came of it.
-use crate::fitting::may_be_written;
+use crate::writable::may_be_written;
 use cap_package::{OwnedParts, package};
 use cap_tests::{Change, File, changed};
 use cap_write::{WriteEnd, write_package};

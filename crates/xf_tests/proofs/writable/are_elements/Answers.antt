@@ -2,8 +2,8 @@ use Rattle.std.proofs.Common.{◌≡◌, []}
 use Rattle.offset_set.specs.Bits.{holds}
 use Rattle.cap_desc.specs.ClassRecords.{described_left}
 use Rattle.cap_desc.specs.Descriptors.{descriptor_seen}
-use Rattle.pack_tests.proofs.SoFar.{none_left, so_end}
-use Rattle.pack_tests.proofs.fitting.are_elements.Goals as goal
+use Rattle.xf_tests.proofs.SoFar.{none_left, so_end}
+use Rattle.xf_tests.proofs.writable.are_elements.Goals as goal
 
 pub returns-in-None-split_first : goal.returns-in-None-split_first
 returns-in-None-split_first c =

@@ -1,7 +1,7 @@
 use Rattle.cap_desc.specs.MemberLists.{methods_left}
-use Rattle.pack_tests.specs.Elements.{listed}
-use Rattle.pack_tests.proofs.SoFar.{IsSoFar}
-use Rattle.pack_tests.proofs.fitting.after_elements.Given as goal
+use Rattle.xf_tests.specs.Elements.{listed}
+use Rattle.xf_tests.proofs.SoFar.{IsSoFar}
+use Rattle.xf_tests.proofs.writable.after_elements.Given as goal
 
 abbrev pub invariant-methods : goal.invariant-methods
 invariant-methods l =

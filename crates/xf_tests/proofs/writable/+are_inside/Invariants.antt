@@ -1,5 +1,5 @@
 use Rattle.std.proofs.Common.{length}
-use Rattle.pack_tests.proofs.fitting.+are_inside.Given as goal
+use Rattle.xf_tests.proofs.writable.+are_inside.Given as goal
 
 abbrev pub decreases-are_inside : goal.decreases-are_inside
 decreases-are_inside l = length l.handlers.now

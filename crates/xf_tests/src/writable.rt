@@ -10,7 +10,7 @@ ghost use Rattle.cap_package.specs.HeaderChecks.{header_in, is_abstract};
 ghost use Rattle.cap_laying.specs.HandlerTable.{AreInside};
 ghost use Rattle.law_package.specs.Laying.{IsCodeFor};
 ghost use Rattle.cap_write.specs.Condition.{AreElements, IsElement, MayBeLaid, handler_sum, methods_for};
-ghost use Rattle.pack_tests.specs.Elements.{Continues, listed, one_listed};
+ghost use Rattle.xf_tests.specs.Elements.{Continues, listed, one_listed};
 
 use cap_desc::{DescMethods, DescPart, MethodInfo};
 use cap_method::{MethodHeader, MethodPart};
