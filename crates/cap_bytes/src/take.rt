@@ -206,10 +206,7 @@ impl<'a> Iterator for Table<'a> {
 
     #[tactic(auto, using(crate::proofs::Loops::yielding))]
     fn next(&mut self) -> Option<u16> {
-        let left = self.left.checked_sub(1)?;
-        let mut items = self.items;
-        let number = items.u2().ok()?;
-        *self = Table { items, left };
-        Some(number)
+        self.left = self.left.checked_sub(1)?;
+        self.items.u2().ok()
     }
 }
