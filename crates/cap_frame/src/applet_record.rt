@@ -62,10 +62,7 @@ impl<'a> Iterator for AppletInfos<'a> {
 
     #[tactic(auto, using(cap_bytes::proofs::Loops::yielding))]
     fn next(&mut self) -> Option<AppletInfo<'a>> {
-        let left = self.left.checked_sub(1)?;
-        let mut items = self.items;
-        let applet = applet_info(&mut items).ok()?;
-        *self = AppletInfos { items, left };
-        Some(applet)
+        self.left = self.left.checked_sub(1)?;
+        applet_info(&mut self.items).ok()
     }
 }

@@ -135,10 +135,7 @@ impl<'a> Iterator for CustomEntries<'a> {
 
     #[tactic(auto, using(cap_bytes::proofs::Loops::yielding))]
     fn next(&mut self) -> Option<CustomEntry<'a>> {
-        let left = self.left.checked_sub(1)?;
-        let mut items = self.items;
-        let custom = custom_info(&mut items).ok()?;
-        *self = CustomEntries { items, left };
-        Some(custom)
+        self.left = self.left.checked_sub(1)?;
+        custom_info(&mut self.items).ok()
     }
 }

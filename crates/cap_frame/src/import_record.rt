@@ -66,10 +66,7 @@ impl<'a> Iterator for PackageInfos<'a> {
 
     #[tactic(auto, using(cap_bytes::proofs::Loops::yielding))]
     fn next(&mut self) -> Option<PackageInfo<'a>> {
-        let left = self.left.checked_sub(1)?;
-        let mut items = self.items;
-        let package = package_info(&mut items).ok()?;
-        *self = PackageInfos { items, left };
-        Some(package)
+        self.left = self.left.checked_sub(1)?;
+        package_info(&mut self.items).ok()
     }
 }

@@ -1,7 +1,7 @@
 ghost use Rattle.std.specs.Prelude.{◌≡◌, ◌≤◌, length, IfOk, IfErr};
 ghost use Rattle.cap_bytes.specs.Exact.{IsExact};
 ghost use Rattle.cap_bytes.specs.Spelling.{info_of, Stands, Breaks};
-ghost use Rattle.cap_bytes.specs.Taking.{Takes, same, bytes};
+ghost use Rattle.cap_bytes.specs.Taking.{Takes, Reads, same, bytes};
 ghost use Rattle.cap_frame.specs.Header.{header_items};
 ghost use Rattle.cap_frame.specs.HeaderFormat.{magic, version, name_info, header_info};
 ghost use Rattle.cap_frame.specs.Directory.{custom_seen, customs_left, image_sizes_seen, directory_items};
@@ -24,12 +24,22 @@ use cap_bytes::{Cursor, FormFault, FormKind, Format, View};
 const HEADER: u8 = 1;
 
 /// Reads the info of a Header component.
-#[tactic(auto, using(crate::proofs::Standing::header))]
+#[tactic(auto, using(cap_bytes::proofs::Laws::whole))]
 pub fn header(info: View<'_>) -> Result<Header<'_>, FormFault>
     requires { length info.bytes.now ≤ 65535 }
     ensures found { IfOk result (λ x. Stands header_info info.entry.bytes.now (header_items x)) }
     ensures fault { IfErr result (λ e. Breaks (info_of 1) header_info info.entry.bytes.now 0 e) }
     ensures exact { IsExact (info_of 1) header_info info.entry.bytes.now }
+    ensures info { IfOk result (λ x. x.info ≡ info.entry) }
+{
+    read_header(info)
+}
+
+/// The items of the Header component.
+#[tactic(auto, unfolding(cap_bytes::specs::Reading::reading))]
+fn read_header(info: View<'_>) -> Result<Header<'_>, FormFault>
+    requires { length info.bytes.now ≤ 65535 }
+    ensures value { Reads header_items (info_of 1) header_info info.entry.bytes.now result }
     ensures info { IfOk result (λ x. x.info ≡ info.entry) }
 {
     let mut items = Cursor::of(info, HEADER);
@@ -96,12 +106,22 @@ fn name<'a>(items: &mut Cursor<'a>, format: Format) -> Result<&'a [u8], FormFaul
 const DIRECTORY: u8 = 2;
 
 /// Reads the info of a Directory component in the format that the Header names.
-#[tactic(auto, using(crate::proofs::Standing::directory, cap_bytes::proofs::Loops::yielding))]
+#[tactic(auto, using(cap_bytes::proofs::Laws::whole))]
 pub fn directory(info: View<'_>, format: Format) -> Result<Directory<'_>, FormFault>
     requires { length info.bytes.now ≤ 65535 }
     ensures found { IfOk result (λ x. Stands (directory_info format) info.entry.bytes.now (directory_items x)) }
     ensures fault { IfErr result (λ e. Breaks (info_of 2) (directory_info format) info.entry.bytes.now 0 e) }
     ensures exact { IsExact (info_of 2) (directory_info format) info.entry.bytes.now }
+    ensures info { IfOk result (λ x. x.info ≡ info.entry) }
+{
+    read_directory(info, format)
+}
+
+/// The items of the Directory component.
+#[tactic(auto, using(cap_bytes::proofs::Loops::yielding), unfolding(cap_bytes::specs::Reading::reading))]
+fn read_directory(info: View<'_>, format: Format) -> Result<Directory<'_>, FormFault>
+    requires { length info.bytes.now ≤ 65535 }
+    ensures value { Reads directory_items (info_of 2) (directory_info format) info.entry.bytes.now result }
     ensures info { IfOk result (λ x. x.info ≡ info.entry) }
 {
     let mut items = Cursor::of(info, DIRECTORY);
@@ -194,12 +214,22 @@ fn after_tag<'a>(items: &mut Cursor<'a>, tag: u8) -> Result<CustomEntry<'a>, For
 const IMPORT: u8 = 4;
 
 /// Reads the info of an Import component.
-#[tactic(auto, using(crate::proofs::Standing::imports, cap_bytes::proofs::Loops::passing, cap_bytes::proofs::Loops::yielding))]
+#[tactic(auto, using(cap_bytes::proofs::Laws::whole))]
 pub fn imports(info: View<'_>) -> Result<Imports<'_>, FormFault>
     requires { length info.bytes.now ≤ 65535 }
     ensures found { IfOk result (λ x. Stands imports_info info.entry.bytes.now (packages x)) }
     ensures fault { IfErr result (λ e. Breaks (info_of 4) imports_info info.entry.bytes.now 0 e) }
     ensures exact { IsExact (info_of 4) imports_info info.entry.bytes.now }
+    ensures info { IfOk result (λ x. x.info ≡ info.entry) }
+{
+    read_imports(info)
+}
+
+/// The items of the Import component.
+#[tactic(auto, using(cap_bytes::proofs::Loops::passing, cap_bytes::proofs::Loops::yielding), unfolding(cap_bytes::specs::Reading::reading))]
+fn read_imports(info: View<'_>) -> Result<Imports<'_>, FormFault>
+    requires { length info.bytes.now ≤ 65535 }
+    ensures value { Reads packages (info_of 4) imports_info info.entry.bytes.now result }
     ensures info { IfOk result (λ x. x.info ≡ info.entry) }
 {
     let mut items = Cursor::of(info, IMPORT);
@@ -216,12 +246,22 @@ pub fn imports(info: View<'_>) -> Result<Imports<'_>, FormFault>
 const APPLET: u8 = 3;
 
 /// Reads the info of an Applet component.
-#[tactic(auto, using(crate::proofs::Standing::applets, cap_bytes::proofs::Loops::passing, cap_bytes::proofs::Loops::yielding))]
+#[tactic(auto, using(cap_bytes::proofs::Laws::whole))]
 pub fn applets(info: View<'_>) -> Result<Applets<'_>, FormFault>
     requires { length info.bytes.now ≤ 65535 }
     ensures found { IfOk result (λ x. Stands applets_info info.entry.bytes.now (applets_of x)) }
     ensures fault { IfErr result (λ e. Breaks (info_of 3) applets_info info.entry.bytes.now 0 e) }
     ensures exact { IsExact (info_of 3) applets_info info.entry.bytes.now }
+    ensures info { IfOk result (λ x. x.info ≡ info.entry) }
+{
+    read_applets(info)
+}
+
+/// The items of the Applet component.
+#[tactic(auto, using(cap_bytes::proofs::Loops::passing, cap_bytes::proofs::Loops::yielding), unfolding(cap_bytes::specs::Reading::reading))]
+fn read_applets(info: View<'_>) -> Result<Applets<'_>, FormFault>
+    requires { length info.bytes.now ≤ 65535 }
+    ensures value { Reads applets_of (info_of 3) applets_info info.entry.bytes.now result }
     ensures info { IfOk result (λ x. x.info ≡ info.entry) }
 {
     let mut items = Cursor::of(info, APPLET);
