@@ -1,3 +1,2 @@
 pub mod EntryWidth
 pub mod OwnMethods
-mod Standing

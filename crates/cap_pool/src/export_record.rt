@@ -97,10 +97,7 @@ impl<'a> Iterator for ExportedClasses<'a> {
     #[tactic(auto, using(cap_bytes::proofs::Loops::yielding))]
     #[inline(always)]
     fn next(&mut self) -> Option<ExportedClass<'a>> {
-        let left = self.left.checked_sub(1)?;
-        let mut items = self.items;
-        let class = class(&mut items).ok()?;
-        *self = ExportedClasses { items, left };
-        Some(class)
+        self.left = self.left.checked_sub(1)?;
+        class(&mut self.items).ok()
     }
 }

@@ -164,10 +164,7 @@ impl Iterator for PoolEntries<'_> {
     #[tactic(auto, using(cap_bytes::proofs::Loops::yielding))]
     #[inline(always)]
     fn next(&mut self) -> Option<PoolEntry> {
-        let left = self.left.checked_sub(1)?;
-        let mut items = self.items;
-        let entry = entry(&mut items).ok()?;
-        *self = PoolEntries { items, left };
-        Some(entry)
+        self.left = self.left.checked_sub(1)?;
+        entry(&mut self.items).ok()
     }
 }

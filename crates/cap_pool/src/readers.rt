@@ -1,6 +1,7 @@
 ghost use Rattle.std.specs.Prelude.{◌≡◌, ◌≤◌, length, IfOk, IfErr};
 ghost use Rattle.cap_bytes.specs.Exact.{IsExact};
 ghost use Rattle.cap_bytes.specs.Spelling.{info_of, Stands, Breaks};
+ghost use Rattle.cap_bytes.specs.Taking.{Reads};
 ghost use Rattle.cap_pool.specs.Pool.{entries};
 ghost use Rattle.cap_pool.specs.PoolFormat.{pool_info};
 ghost use Rattle.cap_pool.specs.Export.{export_seen};
@@ -18,12 +19,22 @@ use cap_bytes::{Cursor, FormFault, View};
 const CONSTANT_POOL: u8 = 5;
 
 /// Reads the info of a ConstantPool component.
-#[tactic(auto, using(crate::proofs::Standing::pool, cap_bytes::proofs::Loops::passing, cap_bytes::proofs::Loops::yielding))]
+#[tactic(auto, using(cap_bytes::proofs::Laws::whole))]
 pub fn pool(info: View<'_>) -> Result<Pool<'_>, FormFault>
     requires { length info.bytes.now ≤ 65535 }
     ensures found { IfOk result (λ x. Stands pool_info info.entry.bytes.now (entries x)) }
     ensures fault { IfErr result (λ e. Breaks (info_of 5) pool_info info.entry.bytes.now 0 e) }
     ensures exact { IsExact (info_of 5) pool_info info.entry.bytes.now }
+    ensures info { IfOk result (λ x. x.info ≡ info.entry) }
+{
+    read_pool(info)
+}
+
+/// The items of the ConstantPool component.
+#[tactic(auto, using(cap_bytes::proofs::Loops::passing, cap_bytes::proofs::Loops::yielding), unfolding(cap_bytes::specs::Reading::reading))]
+fn read_pool(info: View<'_>) -> Result<Pool<'_>, FormFault>
+    requires { length info.bytes.now ≤ 65535 }
+    ensures value { Reads entries (info_of 5) pool_info info.entry.bytes.now result }
     ensures info { IfOk result (λ x. x.info ≡ info.entry) }
 {
     let mut items = Cursor::of(info, CONSTANT_POOL);
@@ -40,12 +51,22 @@ pub fn pool(info: View<'_>) -> Result<Pool<'_>, FormFault>
 const EXPORT: u8 = 10;
 
 /// Reads the info of an Export component.
-#[tactic(auto, using(crate::proofs::Standing::export, cap_bytes::proofs::Loops::passing, cap_bytes::proofs::Loops::yielding))]
+#[tactic(auto, using(cap_bytes::proofs::Laws::whole))]
 pub fn export(info: View<'_>) -> Result<Export<'_>, FormFault>
     requires { length info.bytes.now ≤ 65535 }
     ensures found { IfOk result (λ x. Stands export_info info.entry.bytes.now (export_seen x)) }
     ensures fault { IfErr result (λ e. Breaks (info_of 10) export_info info.entry.bytes.now 0 e) }
     ensures exact { IsExact (info_of 10) export_info info.entry.bytes.now }
+    ensures info { IfOk result (λ x. x.info ≡ info.entry) }
+{
+    read_export(info)
+}
+
+/// The items of the Export component.
+#[tactic(auto, using(cap_bytes::proofs::Loops::passing, cap_bytes::proofs::Loops::yielding), unfolding(cap_bytes::specs::Reading::reading))]
+fn read_export(info: View<'_>) -> Result<Export<'_>, FormFault>
+    requires { length info.bytes.now ≤ 65535 }
+    ensures value { Reads export_seen (info_of 10) export_info info.entry.bytes.now result }
     ensures info { IfOk result (λ x. x.info ≡ info.entry) }
 {
     let mut items = Cursor::of(info, EXPORT);
@@ -62,12 +83,22 @@ pub fn export(info: View<'_>) -> Result<Export<'_>, FormFault>
 const REFERENCE_LOCATION: u8 = 9;
 
 /// Reads the info of a ReferenceLocation component: its shape alone, not where the distances lead.
-#[tactic(auto, using(crate::proofs::Standing::locations))]
+#[tactic(auto, using(cap_bytes::proofs::Laws::whole))]
 pub fn locations(info: View<'_>) -> Result<Locations<'_>, FormFault>
     requires { length info.bytes.now ≤ 65535 }
     ensures found { IfOk result (λ x. Stands locations_info info.entry.bytes.now (location_items x)) }
     ensures fault { IfErr result (λ e. Breaks (info_of 9) locations_info info.entry.bytes.now 0 e) }
     ensures exact { IsExact (info_of 9) locations_info info.entry.bytes.now }
+    ensures info { IfOk result (λ x. x.info ≡ info.entry) }
+{
+    read_locations(info)
+}
+
+/// The items of the ReferenceLocation component.
+#[tactic(auto, unfolding(cap_bytes::specs::Reading::reading))]
+fn read_locations(info: View<'_>) -> Result<Locations<'_>, FormFault>
+    requires { length info.bytes.now ≤ 65535 }
+    ensures value { Reads location_items (info_of 9) locations_info info.entry.bytes.now result }
     ensures info { IfOk result (λ x. x.info ≡ info.entry) }
 {
     let mut items = Cursor::of(info, REFERENCE_LOCATION);
