@@ -3,7 +3,7 @@ ghost use Rattle.std.specs.Iterator.{YieldsFirstBy, item_count};
 ghost use Rattle.cap_bytes.specs.Grammar.{until_end, repeat, table};
 ghost use Rattle.cap_bytes.specs.Exact.{IsExact};
 ghost use Rattle.cap_bytes.specs.Spelling.{info_of, Stands, Breaks};
-ghost use Rattle.cap_bytes.specs.Taking.{Takes, bytes};
+ghost use Rattle.cap_bytes.specs.Taking.{Takes, Reads, bytes};
 ghost use Rattle.cap_class.specs.ClassFormat.{record_info, is_after, signature_pool, classes_info, interface_info, instance_info};
 ghost use Rattle.cap_class.specs.ClassFormat.{tables_info, beyond_first, is_interface, class_flags};
 ghost use Rattle.cap_bytes.specs.Table.{numbers};
@@ -60,11 +60,8 @@ impl<'a> Iterator for ClassInfos<'a> {
     #[tactic(auto, using(cap_bytes::proofs::Loops::yielding))]
     #[inline(always)]
     fn next(&mut self) -> Option<ClassInfo<'a>> {
-        let left = self.left.checked_sub(1)?;
-        let mut items = self.items;
-        let class = record(&mut items, false).ok()?;
-        *self = ClassInfos { items, left };
-        Some(class)
+        self.left = self.left.checked_sub(1)?;
+        record(&mut self.items, false).ok()
     }
 }
 
@@ -83,12 +80,22 @@ fn signature_pool<'a>(items: &mut Cursor<'a>, format: Format) -> Result<&'a [u8]
 
 /// The Class component that the info is in the format that the Header names, or the first item that
 /// breaks it.
-#[tactic(auto, using(crate::proofs::Standing::classes))]
+#[tactic(auto, using(cap_bytes::proofs::Laws::whole))]
 pub fn classes(info: View<'_>, format: Format) -> Result<ClassPart<'_>, FormFault>
     requires { length info.bytes.now ≤ 65535 }
     ensures found { IfOk result (λ x. Stands (classes_info format) info.entry.bytes.now (records x)) }
     ensures fault { IfErr result (λ e. Breaks (info_of 6) (classes_info format) info.entry.bytes.now 0 e) }
     ensures exact { IsExact (info_of 6) (classes_info format) info.entry.bytes.now }
+    ensures info { IfOk result (λ x. x.info ≡ info.entry) }
+{
+    read_classes(info, format)
+}
+
+/// The items of the Class component.
+#[tactic(auto, unfolding(cap_bytes::specs::Reading::reading))]
+fn read_classes(info: View<'_>, format: Format) -> Result<ClassPart<'_>, FormFault>
+    requires { length info.bytes.now ≤ 65535 }
+    ensures value { Reads records (info_of 6) (classes_info format) info.entry.bytes.now result }
     ensures info { IfOk result (λ x. x.info ≡ info.entry) }
 {
     let mut items = Cursor::of(info, CLASS);
@@ -431,14 +438,7 @@ impl<'a> Iterator for Interfaces<'a> {
     #[tactic(auto, using(cap_bytes::proofs::Loops::yielding))]
     #[inline(always)]
     fn next(&mut self) -> Option<Implemented<'a>> {
-        let left = self.left.checked_sub(1)?;
-        let mut items = self.items;
-        let interface = interface(&mut items, self.extended).ok()?;
-        *self = Interfaces {
-            items,
-            left,
-            extended: self.extended,
-        };
-        Some(interface)
+        self.left = self.left.checked_sub(1)?;
+        interface(&mut self.items, self.extended).ok()
     }
 }
