@@ -1,2 +1,1 @@
 mod Headers
-mod Standing

@@ -3,7 +3,7 @@ ghost use Rattle.std.specs.Int.RustNames.{bit_and};
 ghost use Rattle.std.specs.Iterator.{YieldsFirst, item_count};
 ghost use Rattle.cap_bytes.specs.Exact.{IsExact};
 ghost use Rattle.cap_bytes.specs.Spelling.{info_of, Stands, Breaks};
-ghost use Rattle.cap_bytes.specs.Taking.{Takes, PassesOver, same};
+ghost use Rattle.cap_bytes.specs.Taking.{Takes, PassesOver, Reads, same};
 ghost use Rattle.cap_bytes.specs.Grammar.{repeat};
 ghost use Rattle.cap_method.specs.MethodFormat.{Header, handler_info, methods_info, method_header};
 ghost use Rattle.cap_method.specs.MethodPart.{handlers, handlers_left, header_seen, HeaderAt};
@@ -142,12 +142,22 @@ fn pass_handlers(items: &mut Cursor<'_>, count: u8) -> Result<(), FormFault>
 }
 
 /// The Method component that the info is, or the first item that breaks its format.
-#[tactic(auto, using(crate::proofs::Standing::methods, cap_bytes::proofs::Loops::yielding))]
+#[tactic(auto, using(cap_bytes::proofs::Laws::whole))]
 pub fn methods(info: View<'_>) -> Result<MethodPart<'_>, FormFault>
     requires { length info.bytes.now ≤ 65535 }
     ensures found { IfOk result (λ x. Stands methods_info info.entry.bytes.now (handlers x)) }
     ensures fault { IfErr result (λ e. Breaks (info_of 7) methods_info info.entry.bytes.now 0 e) }
     ensures exact { IsExact (info_of 7) methods_info info.entry.bytes.now }
+    ensures info { IfOk result (λ x. x.info ≡ info.entry) }
+{
+    read_methods(info)
+}
+
+/// The items of the Method component.
+#[tactic(auto, using(cap_bytes::proofs::Loops::yielding), unfolding(cap_bytes::specs::Reading::reading))]
+fn read_methods(info: View<'_>) -> Result<MethodPart<'_>, FormFault>
+    requires { length info.bytes.now ≤ 65535 }
+    ensures value { Reads handlers (info_of 7) methods_info info.entry.bytes.now result }
     ensures info { IfOk result (λ x. x.info ≡ info.entry) }
 {
     let mut items = Cursor::of(info, METHOD);
@@ -167,11 +177,8 @@ impl<'a> Iterator for HandlerEntries<'a> {
 
     #[tactic(auto, using(cap_bytes::proofs::Loops::yielding))]
     fn next(&mut self) -> Option<HandlerInfo> {
-        let left = self.left.checked_sub(1)?;
-        let mut items = self.items;
-        let handler = handler(&mut items).ok()?;
-        *self = HandlerEntries { items, left };
-        Some(handler)
+        self.left = self.left.checked_sub(1)?;
+        handler(&mut self.items).ok()
     }
 }
 

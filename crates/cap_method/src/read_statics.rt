@@ -124,11 +124,8 @@ impl<'a> Iterator for ArrayInits<'a> {
 
     #[tactic(auto, using(cap_bytes::proofs::Loops::yielding))]
     fn next(&mut self) -> Option<ArrayInit<'a>> {
-        let left = self.left.checked_sub(1)?;
-        let mut items = self.items;
-        let array = array_init(&mut items).ok()?;
-        *self = ArrayInits { items, left };
-        Some(array)
+        self.left = self.left.checked_sub(1)?;
+        array_init(&mut self.items).ok()
     }
 }
 
