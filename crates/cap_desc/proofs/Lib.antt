@@ -5,4 +5,3 @@ pub mod Counting
 pub mod TypesCounted
 pub mod OneType
 pub mod TypesThere
-mod Standing

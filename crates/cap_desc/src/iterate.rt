@@ -20,11 +20,8 @@ impl Iterator for DescFields<'_> {
     #[tactic(auto, using(cap_bytes::proofs::Loops::yielding))]
     #[inline(always)]
     fn next(&mut self) -> Option<FieldInfo> {
-        let left = self.left.checked_sub(1)?;
-        let mut items = self.items;
-        let field = reading::field_descriptor_info(&mut items).ok()?;
-        *self = DescFields { items, left };
-        Some(field)
+        self.left = self.left.checked_sub(1)?;
+        reading::field_descriptor_info(&mut self.items).ok()
     }
 }
 
@@ -38,11 +35,8 @@ impl Iterator for DescMethods<'_> {
     #[tactic(auto, using(cap_bytes::proofs::Loops::yielding))]
     #[inline(always)]
     fn next(&mut self) -> Option<MethodInfo> {
-        let left = self.left.checked_sub(1)?;
-        let mut items = self.items;
-        let method = reading::method_descriptor_info(&mut items).ok()?;
-        *self = DescMethods { items, left };
-        Some(method)
+        self.left = self.left.checked_sub(1)?;
+        reading::method_descriptor_info(&mut self.items).ok()
     }
 }
 
@@ -56,11 +50,8 @@ impl<'a> Iterator for DescClasses<'a> {
     #[tactic(auto, using(cap_bytes::proofs::Loops::yielding))]
     #[inline(always)]
     fn next(&mut self) -> Option<DescClass<'a>> {
-        let left = self.left.checked_sub(1)?;
-        let mut items = self.items;
-        let class = reading::class_descriptor_info(&mut items).ok()?;
-        *self = DescClasses { items, left };
-        Some(class)
+        self.left = self.left.checked_sub(1)?;
+        reading::class_descriptor_info(&mut self.items).ok()
     }
 }
 

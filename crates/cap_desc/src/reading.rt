@@ -2,7 +2,7 @@ ghost use Rattle.std.specs.Prelude.{◌≡◌, ◌≤◌, length, IfOk, IfErr};
 ghost use Rattle.cap_bytes.specs.Grammar.{repeat};
 ghost use Rattle.cap_bytes.specs.Exact.{IsExact};
 ghost use Rattle.cap_bytes.specs.Spelling.{info_of, Stands, Breaks};
-ghost use Rattle.cap_bytes.specs.Taking.{Takes};
+ghost use Rattle.cap_bytes.specs.Taking.{Takes, Reads};
 ghost use Rattle.cap_desc.specs.DescriptorFormat.{class_descriptor_info, descriptor_info, field_descriptor_info, method_descriptor_info};
 ghost use Rattle.cap_desc.specs.ClassRecords.{described_left, described_class_seen};
 ghost use Rattle.cap_desc.specs.Descriptors.{descriptor_seen};
@@ -31,12 +31,22 @@ fn classes<'a>(items: &mut Cursor<'a>, left: u8) -> Result<DescClasses<'a>, Form
 
 /// The Descriptor component that the info is, or the first item that breaks its format. The type
 /// descriptors after the pool's types are not read.
-#[tactic(auto, using(crate::proofs::Standing::descriptor))]
+#[tactic(auto, using(cap_bytes::proofs::Laws::whole))]
 pub fn descriptor(info: View<'_>) -> Result<DescPart<'_>, FormFault>
     requires { length info.bytes.now ≤ 65535 }
     ensures found { IfOk result (λ x. Stands descriptor_info info.entry.bytes.now (descriptor_seen x)) }
     ensures fault { IfErr result (λ e. Breaks (info_of 11) descriptor_info info.entry.bytes.now 0 e) }
     ensures exact { IsExact (info_of 11) descriptor_info info.entry.bytes.now }
+    ensures info { IfOk result (λ x. x.info ≡ info.entry) }
+{
+    read_descriptor(info)
+}
+
+/// The items of the Descriptor component.
+#[tactic(auto, unfolding(cap_bytes::specs::Reading::reading))]
+fn read_descriptor(info: View<'_>) -> Result<DescPart<'_>, FormFault>
+    requires { length info.bytes.now ≤ 65535 }
+    ensures value { Reads descriptor_seen (info_of 11) descriptor_info info.entry.bytes.now result }
     ensures info { IfOk result (λ x. x.info ≡ info.entry) }
 {
     let mut items = Cursor::of(info, DESCRIPTOR);
