@@ -1,6 +1,6 @@
 -- A word that writes an entry is split at its full stop.
 use Rattle.std.proofs.Common.{◌≡◌, ◌≢◌, ℕ, ◌<◌, ◌^◌, Option, List, [], ◌∷◌, ◌++◌, length, zero, suc, Bor, ap, sym, refl, subst}
-use Rattle.std.proofs.Common.{arith, drop, get_or}
+use Rattle.std.proofs.Common.{arith, drop}
 use Rattle.std.specs.Prelude.{decimal, get_or, MatchOption}
 use Rattle.std.specs.Char.{digit_value}
 use Rattle.std.specs.Str.Parse.{AllDigits}

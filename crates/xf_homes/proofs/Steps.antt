@@ -1,6 +1,6 @@
 -- Steps along the events of a walk.
 use Rattle.std.proofs.Common.{◌∙◌, ◌≡◌, ℕ, zero, suc, ◌+◌, ◌-◌, ◌<◌, ◌≤◌, Bool, true, false, List, [], ◌∷◌, length, drop, flat_map}
-use Rattle.std.proofs.Common.{◌∙◌, Option, MatchBool, refl, sym, ap, arith, drop-cons}
+use Rattle.std.proofs.Common.{Option, MatchBool, refl, sym, ap, arith, drop-cons}
 use Rattle.std.specs.Prelude.{fold, get_or}
 use Rattle.std.proofs.lemmas.List.Sums.{fold-append}
 use Rattle.std.proofs.lemmas.List.Concat.{flat_map-cons}
